@@ -1,0 +1,3 @@
+-- What the proofs of `window` share.
+pub mod Laws
+pub mod Names

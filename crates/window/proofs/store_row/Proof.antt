@@ -1,0 +1,65 @@
+use mathlib.Core.Path.{refl}
+use native.Mathlib.Omega.{arith}
+use lib.ListN.{length-set}
+use borrow.Author.Needs.{needs}
+use Rattle.window.specs.Row.{setRow}
+use Rattle.window.proofs.store_row.Statement.{statement}
+use Rattle.window.proofs.store_row.Tie as tie
+
+cast-w : tie.Need-cast-w
+cast-w c = search needs
+
+slice-write-w : tie.Need-slice-write-w
+slice-write-w c = search needs
+
+cast-w-2 : tie.Need-cast-w-2
+cast-w-2 c = search needs
+
+add-w : tie.Need-add-w
+add-w c = search needs
+
+slice-write-w-2 : tie.Need-slice-write-w-2
+slice-write-w-2 c = simp length-set (omega arith)
+
+cast-w-3 : tie.Need-cast-w-3
+cast-w-3 c = search needs
+
+add-w-2 : tie.Need-add-w-2
+add-w-2 c = search needs
+
+slice-write-w-3 : tie.Need-slice-write-w-3
+slice-write-w-3 c = simp length-set (omega arith)
+
+cast-w-4 : tie.Need-cast-w-4
+cast-w-4 c = search needs
+
+add-w-3 : tie.Need-add-w-3
+add-w-3 c = search needs
+
+slice-write-w-4 : tie.Need-slice-write-w-4
+slice-write-w-4 c = simp length-set (omega arith)
+
+same-length : tie.Need-same-length
+same-length c = search needs
+
+returns : tie.Need-returns
+unfolding setRow
+returns c = refl
+
+pub store-row-spec : {M : Type 1} → statement M
+store-row-spec =
+    tie.close
+    (tie.spec
+    cast-w
+    slice-write-w
+    cast-w-2
+    add-w
+    slice-write-w-2
+    cast-w-3
+    add-w-2
+    slice-write-w-3
+    cast-w-4
+    add-w-3
+    slice-write-w-4
+    same-length
+    returns)

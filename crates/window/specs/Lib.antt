@@ -1,0 +1,9 @@
+-- The definitions that the contracts of `window` cite, and their laws.
+pub mod Memory
+pub mod Bytes
+pub mod Row
+pub mod Access
+pub mod Loop
+pub mod Within
+pub mod Mirror
+pub mod Name

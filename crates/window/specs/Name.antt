@@ -1,0 +1,152 @@
+-- Document 01: "A name is the bytes before a zero, at most 512. Address 0 reads as the empty name. Names compare as raw bytes."
+use Prim.Native.Nat.{ℕ, zero, suc, _+_, _^_, _%_, _≤_, _<_}
+use mathlib.Core.Path.{_≡_, refl, sym, ap, _∙_}
+use mathlib.Core.List.{List, [], _∷_, _++_}
+use mathlib.Core.Bool.{Bool, true, false, not, _&&_}
+use native.Mathlib.Omega.{arith}
+use native.Mathlib.Decide.{ℕ-discrete}
+use lib.ListN.{length, drop}
+use lib.Dec.{eqb, ltb, leb}
+use borrow.Author.Tests.{eq-eqb, ne-eqb, le-leb, le-ltb, ltb-true, ltb-false}
+use Rattle.window.specs.Memory.{if_then_else_, _⊕_, byteAt}
+use Rattle.window.specs.Access.{Prog, ret, _>>=_, get8, run, run-bind, Reads, reads-bind}
+use Rattle.window.specs.declared.name.NameOrder.{NameOrder}
+use Rattle.window.specs.declared.name.NameOrder.the-variants.{Before, Same, After}
+
+-- the bytes from p on before a zero, at most n; the zero, or the n-th byte, is the last one read
+unfoldable pub nameFrom : ℕ → ℕ → Prog (List ℕ)
+nameFrom zero p = ret []
+nameFrom (suc n) p = do
+  b ← get8 p
+  if eqb b 0 then ret [] else (do
+    rest ← nameFrom n (p ⊕ 1)
+    ret (b ∷ rest))
+
+unfoldable pub nameAt : ℕ → Prog (List ℕ)
+nameAt p = if eqb p 0 then ret [] else nameFrom 512 p
+
+pub name-none : (at p : ℕ) (w : List ℕ) → p ≡ 0 → run at (nameAt p) w .0 ≡ []
+unfolding nameAt run
+name-none at p w e = rw (eq-eqb p 0 e, run)
+
+pub name-some : (p : ℕ) → (p ≡ 0 → ⊥) → nameAt p ≡ nameFrom 512 p
+unfolding nameAt
+name-some p n = rw (ne-eqb p 0 n)
+
+module _ (at : ℕ) (n p : ℕ) (w : List ℕ) where
+  pub name-stop : byteAt at w p ≡ 0 → run at (nameFrom (suc n) p) w .0 ≡ []
+  unfolding nameFrom run _>>=_
+  name-stop e = rw (eq-eqb (byteAt at w p) 0 e, run)
+
+  pub name-on : (byteAt at w p ≡ 0 → ⊥) → run at (nameFrom (suc n) p) w .0 ≡ byteAt at w p ∷ run at (nameFrom n (p ⊕ 1)) w .0
+  unfolding nameFrom run _>>=_
+  name-on e =
+      rw (ne-eqb (byteAt at w p) 0 e, run)
+      (ap (λ (r : List ℕ × List ℕ). r .0) (run-bind at (nameFrom n (p ⊕ 1)) (λ rest. ret (byteAt at w p ∷ rest)) w))
+
+-- what a name is as a list: at most 512 bytes, none of them 0
+unfoldable pub noZero : List ℕ → Bool
+noZero [] = true
+noZero (b ∷ l) = not (eqb b 0) && noZero l
+
+unfoldable pub isName : List ℕ → Bool
+isName l = leb (length l) 512 && noZero l
+
+-- what is read is one: by induction on the bytes left to read
+name-ind
+    : (at : ℕ) (P : ℕ → List ℕ → Type 0) → ((n : ℕ) → P n []) → ((n b : ℕ) (l : List ℕ) → (b ≡ 0 → ⊥) → P n l → P (suc n) (b ∷ l))
+    → (n p : ℕ) (w : List ℕ) → P n (run at (nameFrom n p) w .0)
+unfolding nameFrom run
+name-ind at P none more zero p w = none zero
+name-ind at P none more (suc n) p w = go (ℕ-discrete (byteAt at w p) 0) (name-ind at P none more n (p ⊕ 1) w)
+  where
+    go : Dec (byteAt at w p ≡ 0) → P n (run at (nameFrom n (p ⊕ 1)) w .0) → P (suc n) (run at (nameFrom (suc n) p) w .0)
+    go (yes e) h = rw (name-stop at n p w e) (none (suc n))
+    go (no e) h = rw (name-on at n p w e) (more n (byteAt at w p) (run at (nameFrom n (p ⊕ 1)) w .0) e h)
+
+pub name-short : (at n p : ℕ) (w : List ℕ) → length (run at (nameFrom n p) w .0) ≤ n
+name-short at n p w = name-ind at (λ m l. length l ≤ m) (λ m. omega arith) (λ m b l e h. omega arith) n p w
+
+pub name-noZero : (at n p : ℕ) (w : List ℕ) → noZero (run at (nameFrom n p) w .0) ≡ true
+unfolding noZero
+name-noZero at n p w =
+    name-ind at (λ m l. noZero l ≡ true) (λ m. refl) (λ m b l e h. rw (ne-eqb b 0 e, h)) n p w
+
+pub nameAt-isName : (at p : ℕ) (w : List ℕ) → isName (run at (nameAt p) w .0) ≡ true
+unfolding isName noZero
+nameAt-isName at p w = go (ℕ-discrete p 0)
+  where
+    go : Dec (p ≡ 0) → (leb (length (run at (nameAt p) w .0)) 512 && noZero (run at (nameAt p) w .0)) ≡ true
+    go (yes e) = rw (name-none at p w e)
+    go (no e) = rw (name-some p e, name-noZero at 512 p w, le-leb _ 512 (name-short at 512 p w))
+
+-- a name only reads
+pub nameFrom-reads : (n p : ℕ) → Reads (nameFrom n p)
+unfolding nameFrom Reads _>>=_
+nameFrom-reads zero p = tt
+nameFrom-reads (suc n) p = λ b. go b (eqb b 0) (nameFrom-reads n (p ⊕ 1))
+  where
+    go : (b : ℕ) (t : Bool) → Reads (nameFrom n (p ⊕ 1)) → Reads (if t then ret [] else (nameFrom n (p ⊕ 1) >>= λ rest. ret (b ∷ rest)))
+    go b true h = tt
+    go b false h = reads-bind (nameFrom n (p ⊕ 1)) (λ rest. ret (b ∷ rest)) h (λ rest. tt)
+
+pub nameAt-reads : (p : ℕ) → Reads (nameAt p)
+unfolding nameAt Reads
+nameAt-reads p = go (eqb p 0)
+  where
+    go : (t : Bool) → Reads (if t then ret [] else nameFrom 512 p)
+    go true = tt
+    go false = nameFrom-reads 512 p
+
+-- a name in a lent buffer: its length, and the buffer with the name at its start
+unfoldable pub laidOver : List ℕ → List ℕ → ℕ × List ℕ
+laidOver name buffer = (length name, name ++ drop (length name) buffer)
+
+-- raw bytes, a shorter name before its extensions
+unfoldable pub orderOf : List ℕ → List ℕ → NameOrder
+orderOf [] [] = Same
+orderOf [] (b ∷ t) = Before
+orderOf (a ∷ s) [] = After
+orderOf (a ∷ s) (b ∷ t) = if ltb a b then Before else (if ltb b a then After else orderOf s t)
+
+-- it is an order: the same only for the same name, and turned round by an exchange
+pub order-self : (a : List ℕ) → orderOf a a ≡ Same
+unfolding orderOf
+order-self [] = refl
+order-self (a ∷ s) = rw (le-ltb a a (omega arith)) (order-self s)
+
+pub order-same : (a b : List ℕ) → orderOf a b ≡ Same → a ≡ b
+unfolding orderOf
+order-same [] [] e = refl
+order-same [] (b ∷ t) e = cc
+order-same (a ∷ s) [] e = cc
+order-same (a ∷ s) (b ∷ t) e = go (ltb a b) (ltb b a) refl refl e (order-same s t)
+  where
+    go
+        : (x y : Bool) → ltb a b ≡ x → ltb b a ≡ y → (if x then Before else (if y then After else orderOf s t)) ≡ Same
+        → (orderOf s t ≡ Same → s ≡ t) → _≡_ {A = List ℕ} (a ∷ s) (b ∷ t)
+    go true y p q f ih = cc
+    go false true p q f ih = cc
+    go false false p q f ih =
+        let e : a ≡ b = omega (arith, ltb-false a b p, ltb-false b a q) in
+        rw (e, ih f)
+
+abbrev pub turned : NameOrder → NameOrder
+turned Before = After
+turned Same = Same
+turned After = Before
+
+pub order-turned : (a b : List ℕ) → orderOf b a ≡ turned (orderOf a b)
+unfolding orderOf
+order-turned [] [] = refl
+order-turned [] (b ∷ t) = refl
+order-turned (a ∷ s) [] = refl
+order-turned (a ∷ s) (b ∷ t) = go (ltb a b) (ltb b a) refl refl (order-turned s t)
+  where
+    go
+        : (x y : Bool) → ltb a b ≡ x → ltb b a ≡ y → orderOf t s ≡ turned (orderOf s t)
+        → (if y then Before else (if x then After else orderOf t s)) ≡ turned (if x then Before else (if y then After else orderOf s t))
+    go true true p q ih = absurd (omega (arith, ltb-true a b p, ltb-true b a q))
+    go true false p q ih = refl
+    go false true p q ih = refl
+    go false false p q ih = ih
