@@ -10,7 +10,7 @@ use lib.Dec.{leb, lit<}
 use borrow.Author.Tests.{leb-true, leb-false}
 use Rattle.window.specs.Memory.{if_then_else_, place, byteAt, wordAt, putByte, putBytes, putWord, putUpward, putPrivileged}
 use Rattle.window.specs.Bytes.{join, Whole, place-mod, byteAt-mod, putByte-mod, putByte-value, inside-mod, inside-yes, inside-no, putPrivileged-inside}
-use Rattle.window.specs.Row.{row, setRow}
+use Rattle.window.specs.Word.{wordIn, setWordIn}
 
 -- a byte inside and outside, as the code tests it
 
@@ -51,12 +51,12 @@ module _ (at : ℕ) (w : List ℕ) (x i : ℕ) (e : i ≡ place at x) (h : i + 4
   low : place at x + 4 ≤ 2 ^ 32
   low = rw (← e) h
 
-  pub row-word : row w i ≡ wordAt at w x
-  unfolding row wordAt byteAt
+  pub row-word : wordIn w i ≡ wordAt at w x
+  unfolding wordIn wordAt byteAt
   row-word = rw (place-row at x 1 low (lit< tt), place-row at x 2 low (lit< tt), place-row at x 3 low (lit< tt), ← e)
 
-  pub row-put : (v : ℕ) → setRow w i v ≡ putWord at w x v
-  unfolding setRow putWord putBytes putByte
+  pub row-put : (v : ℕ) → setWordIn w i v ≡ putWord at w x v
+  unfolding setWordIn putWord putBytes putByte
   row-put v =
       let q₂ : x + 1 + 1 ≡ x + 2 = omega arith in
       let q₃ : x + 2 + 1 ≡ x + 3 = omega arith in
@@ -65,7 +65,7 @@ module _ (at : ℕ) (w : List ℕ) (x i : ℕ) (e : i ≡ place at x) (h : i + 4
   row-whole : i + 4 ≤ length w → Whole at w x
   row-whole g k l = rw (place-row at x k low l, ← e) (omega arith)
 
-  pub row-privileged : (v : ℕ) → i + 4 ≤ length w → setRow w i v ≡ putPrivileged at w x v
+  pub row-privileged : (v : ℕ) → i + 4 ≤ length w → setWordIn w i v ≡ putPrivileged at w x v
   row-privileged v g = row-put v ∙ sym (putPrivileged-inside at w x v (row-whole g))
 
 -- a word byte by byte

@@ -1,7 +1,7 @@
 -- The definitions that the contracts of `window` cite, and their laws.
 pub mod Memory
 pub mod Bytes
-pub mod Row
+pub mod Word
 pub mod Access
 pub mod Loop
 pub mod Within

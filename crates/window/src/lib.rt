@@ -8,7 +8,7 @@ ghost use Prim.Native.Nat.{_+_, _≤_, _<_};
 ghost use lib.ListN.{length};
 ghost use lib.Dec.{leb};
 ghost use Rattle.window.specs.Memory.{place, byteAt, wordAt, putByte, putWord, putPrivileged, goodWindow};
-ghost use Rattle.window.specs.Row.{row, setRow};
+ghost use Rattle.window.specs.Word.{wordIn, setWordIn};
 
 // Whether a host may lend such a window: pages of 4,096 bytes, at least one, none past 2^32 (number 3's rule).
 pub fn good_window(at: u32, w: &[u8]) -> bool
@@ -58,7 +58,7 @@ pub fn read32(at: u32, w: &[u8], x: u32) -> u32
 {
     let i = place_of(at, x);
     if whole(i, w.len()) {
-        return load_row(w, i);
+        return load32(w, i);
     }
     read32_split(at, w, x)
 }
@@ -69,7 +69,7 @@ pub fn write32(at: u32, w: &mut [u8], x: u32, v: u32)
 {
     let i = place_of(at, x);
     if whole(i, w.len()) {
-        store_row(w, i, v);
+        store32(w, i, v);
         return;
     }
     write32_split(at, w, x, v);
@@ -81,7 +81,7 @@ pub fn write32_privileged(at: u32, w: &mut [u8], x: u32, v: u32)
 {
     let i = place_of(at, x);
     if whole(i, w.len()) {
-        store_row(w, i, v);
+        store32(w, i, v);
         return;
     }
     write32_upward(at, w, x, v);
@@ -104,17 +104,17 @@ fn wide(b: u8) -> u32
 }
 
 // The word of the four bytes from place i on.
-fn load_row(w: &[u8], i: usize) -> u32
+pub fn load32(w: &[u8], i: usize) -> u32
     requires { ⌜ i + 4 ≤ length (now w) ⌝ }
-    ensures { λ r. ⌜ r ≡ row (now (w .entry)) i ⌝ }
+    ensures { λ r. ⌜ r ≡ wordIn (now (w .entry)) i ⌝ }
 {
     wide(w[i]) + 256 * (wide(w[i + 1]) + 256 * (wide(w[i + 2]) + 256 * wide(w[i + 3])))
 }
 
 // Stores the word v in the four bytes from place i on.
-fn store_row(w: &mut [u8], i: usize, v: u32)
+pub fn store32(w: &mut [u8], i: usize, v: u32)
     requires { ⌜ i + 4 ≤ length (now w) ⌝ }
-    ensures { λ _. ⌜ now (w .exit) ≡ setRow (now (w .entry)) i v ⌝ }
+    ensures { λ _. ⌜ now (w .exit) ≡ setWordIn (now (w .entry)) i v ⌝ }
 {
     w[i] = (v % 256) as u8;
     w[i + 1] = (v / 256 % 256) as u8;

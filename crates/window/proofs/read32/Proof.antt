@@ -10,12 +10,12 @@ place-of-requires c κs = search needs
 whole-requires : tie.Need-whole-requires
 whole-requires c κs = search needs
 
-load-row-requires : tie.Need-load-row-requires
-load-row-requires c κs = whole-row _ _ (c .before .whole .ensures) (c .if1 .taken) .1
+load32-requires : tie.Need-load32-requires
+load32-requires c κs = whole-row _ _ (c .before .whole .ensures) (c .if1 .taken) .1
 
 returns : tie.Need-returns
 returns c =
-    c .load-row .ensures
+    c .load32 .ensures
     ∙ row-word _ _ _ _ (c .before .before .before .place-of .ensures)
     (whole-row _ _ (c .before .before .whole .ensures) (c .before .if1 .taken) .0)
 
@@ -31,7 +31,7 @@ read32-spec =
     (tie.spec
     place-of-requires
     whole-requires
-    load-row-requires
+    load32-requires
     returns
     read32-split-requires
     returns-2)

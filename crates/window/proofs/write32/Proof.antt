@@ -10,14 +10,14 @@ place-of-requires c κs = search needs
 whole-requires : tie.Need-whole-requires
 whole-requires c κs = search needs
 
-store-row-requires : tie.Need-store-row-requires
-store-row-requires c κs = whole-row _ _ (c .before .before .whole .ensures) (c .before .if1 .taken) .1
+store32-requires : tie.Need-store32-requires
+store32-requires c κs = whole-row _ _ (c .before .before .whole .ensures) (c .before .if1 .taken) .1
 
 same-length : tie.Need-same-length
 same-length c = search needs
 
 returns : tie.Need-returns
-returns c = c .before .before .store-row .ensures ∙ row-put _ _ _ _ (c .before .before .before .before .before .before .place-of .ensures) (whole-row _ _ (c .before .before .before .before .before .whole .ensures) (c .before .before .before .before .if1 .taken) .0) _
+returns c = c .before .before .store32 .ensures ∙ row-put _ _ _ _ (c .before .before .before .before .before .before .place-of .ensures) (whole-row _ _ (c .before .before .before .before .before .whole .ensures) (c .before .before .before .before .if1 .taken) .0) _
 
 write32-split-requires : tie.Need-write32-split-requires
 write32-split-requires c κs = search needs
@@ -34,7 +34,7 @@ write32-spec =
     (tie.spec
     place-of-requires
     whole-requires
-    store-row-requires
+    store32-requires
     same-length
     returns
     write32-split-requires

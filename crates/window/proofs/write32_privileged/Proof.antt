@@ -10,15 +10,15 @@ place-of-requires c κs = search needs
 whole-requires : tie.Need-whole-requires
 whole-requires c κs = search needs
 
-store-row-requires : tie.Need-store-row-requires
-store-row-requires c κs = whole-row _ _ (c .before .before .whole .ensures) (c .before .if1 .taken) .1
+store32-requires : tie.Need-store32-requires
+store32-requires c κs = whole-row _ _ (c .before .before .whole .ensures) (c .before .if1 .taken) .1
 
 same-length : tie.Need-same-length
 same-length c = search needs
 
 returns : tie.Need-returns
 returns c = let t = whole-row _ _ (c .before .before .before .before .before .whole .ensures) (c .before .before .before .before .if1 .taken) in
-    c .before .before .store-row .ensures ∙ row-privileged _ _ _ _ (c .before .before .before .before .before .before .place-of .ensures) (t .0) _ (t .1)
+    c .before .before .store32 .ensures ∙ row-privileged _ _ _ _ (c .before .before .before .before .before .before .place-of .ensures) (t .0) _ (t .1)
 
 write32-upward-requires : tie.Need-write32-upward-requires
 write32-upward-requires c κs = search needs
@@ -35,7 +35,7 @@ write32-privileged-spec =
     (tie.spec
     place-of-requires
     whole-requires
-    store-row-requires
+    store32-requires
     same-length
     returns
     write32-upward-requires

@@ -1,8 +1,8 @@
 use native.Mathlib.Omega.{arith}
 use borrow.Author.Needs.{needs}
-use Rattle.window.specs.Row.{row}
-use Rattle.window.proofs.load_row.Statement.{statement}
-use Rattle.window.proofs.load_row.Tie as tie
+use Rattle.window.specs.Word.{wordIn}
+use Rattle.window.proofs.load32.Statement.{statement}
+use Rattle.window.proofs.load32.Tie as tie
 
 shared-slice-read-wide : tie.Need-shared-slice-read-wide
 shared-slice-read-wide c = search needs
@@ -56,7 +56,7 @@ add-result-3 : tie.Need-add-result-3
 add-result-3 c = omega arith
 
 returns : tie.Need-returns
-unfolding row
+unfolding wordIn
 returns c =
     rw (
       c .before .before .before .before .before .before .wide .ensures .0,
@@ -65,8 +65,8 @@ returns c =
       c .wide4 .ensures .0,
     )
 
-pub load-row-spec : {M : Type 1} → statement M
-load-row-spec =
+pub load32-spec : {M : Type 1} → statement M
+load32-spec =
     tie.close
     (tie.spec
     shared-slice-read-wide

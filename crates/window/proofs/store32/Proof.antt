@@ -2,9 +2,9 @@ use mathlib.Core.Path.{refl}
 use native.Mathlib.Omega.{arith}
 use lib.ListN.{length-set}
 use borrow.Author.Needs.{needs}
-use Rattle.window.specs.Row.{setRow}
-use Rattle.window.proofs.store_row.Statement.{statement}
-use Rattle.window.proofs.store_row.Tie as tie
+use Rattle.window.specs.Word.{setWordIn}
+use Rattle.window.proofs.store32.Statement.{statement}
+use Rattle.window.proofs.store32.Tie as tie
 
 cast-w : tie.Need-cast-w
 cast-w c = search needs
@@ -43,11 +43,11 @@ same-length : tie.Need-same-length
 same-length c = search needs
 
 returns : tie.Need-returns
-unfolding setRow
+unfolding setWordIn
 returns c = refl
 
-pub store-row-spec : {M : Type 1} → statement M
-store-row-spec =
+pub store32-spec : {M : Type 1} → statement M
+store32-spec =
     tie.close
     (tie.spec
     cast-w

@@ -1,0 +1,2 @@
+-- What the proofs of `layout` share.
+pub mod Laws

@@ -1,0 +1,44 @@
+-- By what the relocation writes: `relocation-nothing` and `relocation-word`.
+use mathlib.Core.Path.{sym}
+use borrow.Author.Needs.{needs}
+use Rattle.layout.specs.Relocation.{relocation-word, relocation-nothing}
+use Rattle.layout.proofs.relocation.apply_relocation.Statement.{statement}
+use Rattle.layout.proofs.relocation.apply_relocation.Tie as tie
+
+relocated-word-requires : tie.Need-relocated-word-requires
+relocated-word-requires c κs = search needs
+
+enum-known-word : tie.Need-enum-known-word
+enum-known-word c = search needs
+
+enum-told : tie.Need-enum-told
+enum-told c = search needs
+
+returns : tie.Need-returns
+returns c =
+    let a = c .before .before .before .before .args in
+    sym (relocation-nothing (a .at) (a .target) (a .kind) (a .addend) (a .symbol) (a .target-final) (a .w .now) (cc))
+
+write32-privileged-requires : tie.Need-write32-privileged-requires
+write32-privileged-requires c κs = search needs
+
+same-length : tie.Need-same-length
+same-length c = search needs
+
+returns-2 : tie.Need-returns-2
+returns-2 c =
+    let k = c .before .before .before .before .before in
+    let a = k .before .before .before .before .args in
+    cc (relocation-word (a .at) (a .target) (a .kind) (a .addend) (a .symbol) (a .target-final) (a .w .now) {v = k .word .given .0 .0} (cc))
+
+pub apply-relocation-spec : {M : Type 1} → statement M
+apply-relocation-spec =
+    tie.close
+    (tie.spec
+    relocated-word-requires
+    enum-known-word
+    enum-told
+    returns
+    write32-privileged-requires
+    same-length
+    returns-2)

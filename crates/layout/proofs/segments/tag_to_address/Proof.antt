@@ -1,0 +1,55 @@
+-- By cases: no such segment, an offset at or past its size, an offset inside.
+use mathlib.Core.Path.{sym}
+use borrow.Author.Needs.{needs}
+use Rattle.layout.specs.Segments.{tag-missing, tag-past, tag-at}
+use Rattle.layout.proofs.segments.tag_to_address.Statement.{statement}
+use Rattle.layout.proofs.segments.tag_to_address.Tie as tie
+
+segment-requires : tie.Need-segment-requires
+segment-requires c κs = search needs
+
+segment-requires-2 : tie.Need-segment-requires-2
+segment-requires-2 c κs = search needs
+
+enum-known-entry : tie.Need-enum-known-entry
+enum-known-entry c = search needs
+
+enum-told : tie.Need-enum-told
+enum-told c = search needs
+
+returns : tie.Need-returns
+returns c =
+    let a = c .before .before .before .before .before .args in
+    sym (tag-missing (a .at) (a .base) (a .tag .0) (a .w .now) (cc))
+
+offset-requires : tie.Need-offset-requires
+offset-requires c κs = search needs
+
+returns-2 : tie.Need-returns-2
+returns-2 c =
+    let k = c .before .before .before .before in
+    let a = k .before .before .before .before .before .args in
+    sym (tag-past (a .at) (a .base) (a .tag .0) (a .w .now) {s = k .entry .given .0 .0} (cc) (search needs))
+
+wrapping-add-u32-requires : tie.Need-wrapping-add-u32-requires
+wrapping-add-u32-requires c κs = search needs
+
+returns-3 : tie.Need-returns-3
+returns-3 c =
+    let k = c .before .before .before .before .before in
+    let a = k .before .before .before .before .before .args in
+    cc (tag-at (a .at) (a .base) (a .tag .0) (a .w .now) {s = k .entry .given .0 .0} (cc) (search needs))
+
+pub tag-to-address-spec : {M : Type 1} → statement M
+tag-to-address-spec =
+    tie.close
+    (tie.spec
+    segment-requires
+    segment-requires-2
+    enum-known-entry
+    enum-told
+    returns
+    offset-requires
+    returns-2
+    wrapping-add-u32-requires
+    returns-3)

@@ -1,0 +1,7 @@
+-- The definitions that the contracts of `layout` cite, and their laws.
+pub mod Header
+pub mod Format
+pub mod Tables
+pub mod Segments
+pub mod Relocation
+pub mod Cases

@@ -1,0 +1,67 @@
+// Segments of a module, and the addresses that tags give.
+ghost use mathlib.Core.Path.{_≡_};
+ghost use Rattle.window.specs.Access.{run};
+ghost use Rattle.layout.specs.Segments.{segment, setSegment, tagToAddress};
+use super::fields::entry_address;
+use super::fields::field;
+use super::format::SEGMENT_ENTRY_SIZE;
+use super::format::Segment;
+use super::format::SegmentTag;
+use super::format::SegmentType;
+use super::header::SEGMENT_NUM;
+use super::header::SEGMENT_TABLE_OFFSET;
+
+pub enum FoundSegment {
+    Found(Segment),
+    Missing,
+}
+
+pub enum Address {
+    At(u32),
+    Nowhere,
+}
+
+// Looks a segment up: count, table offset and entry are read anew.
+pub fn segment(at: u32, w: &[u8], base: u32, index: u32) -> FoundSegment
+    ensures { λ r. ⌜ r ≡ run at (segment base index) (now (w .entry)) .0 ⌝ }
+{
+    if index >= field(at, w, base, SEGMENT_NUM) {
+        return FoundSegment::Missing;
+    }
+    let table = field(at, w, base, SEGMENT_TABLE_OFFSET);
+    let entry = entry_address(table, index, SEGMENT_ENTRY_SIZE);
+    let offset = window::read32(at, w, entry);
+    let size = window::read32(at, w, std::num::wrapping_add_u32(entry, 4));
+    let kind = window::read32(at, w, std::num::wrapping_add_u32(entry, 8));
+    FoundSegment::Found(Segment {
+        offset,
+        size,
+        kind: SegmentType::from_raw(kind),
+    })
+}
+
+// Writes a segment back: the table offset is read anew.
+pub fn set_segment(at: u32, w: &mut [u8], base: u32, index: u32, value: Segment)
+    ensures { λ _. ⌜ now (w .exit) ≡ run at (setSegment base index value) (now (w .entry)) .1 ⌝ }
+{
+    let table = field(at, w, base, SEGMENT_TABLE_OFFSET);
+    let entry = entry_address(table, index, SEGMENT_ENTRY_SIZE);
+    window::write32(at, w, entry, value.offset);
+    window::write32(at, w, std::num::wrapping_add_u32(entry, 4), value.size);
+    let kind = value.kind;
+    window::write32(at, w, std::num::wrapping_add_u32(entry, 8), kind.raw());
+}
+
+// Resolves a segment tag to an address inside the module.
+pub fn tag_to_address(at: u32, w: &[u8], base: u32, tag: SegmentTag) -> Address
+    ensures { λ r. ⌜ r ≡ run at (tagToAddress base (tag .0)) (now (w .entry)) .0 ⌝ }
+{
+    let FoundSegment::Found(entry) = segment(at, w, base, tag.segment()) else {
+        return Address::Nowhere;
+    };
+    let offset = tag.offset();
+    if offset >= entry.size {
+        return Address::Nowhere;
+    }
+    Address::At(std::num::wrapping_add_u32(entry.offset, offset))
+}
