@@ -1,0 +1,5 @@
+-- What the proofs of `register` share.
+pub mod Laws
+pub mod ExportLoops
+pub mod CheckLoops
+pub mod HeaderLaws

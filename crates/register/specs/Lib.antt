@@ -1,0 +1,13 @@
+-- The register: its abstract value, its encoding, and when bytes are one.
+pub mod Tests
+pub mod Words
+pub mod Lists
+pub mod Module
+pub mod Order
+pub mod Encode
+pub mod Decode
+pub mod Check
+pub mod CheckSound
+pub mod CheckComplete
+pub mod Slots
+pub mod CheckIs

@@ -1,0 +1,44 @@
+// The records buffer as little-endian words, and parts of the name bytes.
+ghost use mathlib.Core.Path.{_≡_};
+ghost use lib.ListN.{getD, drop};
+ghost use Rattle.register.specs.Words.{wordsIn, part, allZero};
+
+// Word number i of the records; 0 past their whole words.
+pub fn word(records: &[u8], i: usize) -> u32
+    ensures { λ r. ⌜ r ≡ getD (wordsIn (now (records .entry))) i 0 ⌝ }
+{
+    if i < records.len() / 4 {
+        return window::load32(records, 4 * i);
+    }
+    0
+}
+
+// The part of the bytes from `offset` on, `count` long, as far as there are bytes.
+pub fn name_part(names: &[u8], offset: u32, count: u32) -> &[u8]
+    ensures { λ r. ⌜ now r ≡ part (now (names .entry)) offset count ⌝ }
+{
+    let from = offset as usize;
+    let n = names.len();
+    if n < from {
+        return &names[n..];
+    }
+    let end = from + (count as usize);
+    if n < end {
+        return &names[from..];
+    }
+    &names[from..end]
+}
+
+// Whether all bytes from place `from` on are 0.
+pub fn zero_from(bytes: &[u8], from: usize) -> bool
+    ensures { λ r. ⌜ r ≡ allZero (drop from (now (bytes .entry))) ⌝ }
+{
+    let mut i = from;
+    while i < bytes.len() {
+        if bytes[i] != 0 {
+            return false;
+        }
+        i += 1;
+    }
+    true
+}
