@@ -10,7 +10,7 @@ use lib.Dec.{eqb, leb}
 use borrow.Author.Tests.{eqb-true, leb-true, eq-eqb, ne-eqb, le-leb, lt-leb}
 use Rattle.window.specs.Memory.{if_then_else_}
 use Rattle.window.specs.Name.{noZero}
-use Rattle.register.specs.Tests.{both}
+use Rattle.window.specs.Tests.{both}
 use Rattle.register.specs.Words.{part, wordsIn, words-drop, length-words, part-words}
 use Rattle.register.specs.Module.{distinct}
 use Rattle.register.specs.Decode.{moduleSize, exportsIn}

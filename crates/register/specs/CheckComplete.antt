@@ -10,7 +10,7 @@ use lib.Dec.{eqb, leb}
 use borrow.Author.Tests.{eq-eqb, le-leb}
 use Rattle.window.specs.Memory.{if_then_else_}
 use Rattle.window.specs.Name.{noZero, isName}
-use Rattle.register.specs.Tests.{both, also}
+use Rattle.window.specs.Tests.{both, also}
 use Rattle.register.specs.Words.{part}
 use Rattle.register.specs.Lists.{part-middle}
 use Rattle.register.specs.Module.{Export, Module, named-ok, distinct, properModule, properModules}

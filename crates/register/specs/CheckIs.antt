@@ -11,10 +11,12 @@ use lib.Seq.{getD-take, take-all, drop-set-lt, length-take-le}
 use lib.Dec.{eqb, leb}
 use borrow.Author.Tests.{eqb-true, leb-true, eq-eqb, ne-eqb, le-leb}
 use Rattle.window.specs.Memory.{if_then_else_}
-use Rattle.register.specs.Tests.{both, also, iff-same}
+use Rattle.window.specs.Tests.{both, also, iff-same}
 use Rattle.register.specs.Words.{part, same, allZero, holds, wordsIn, length-words, part-words}
 use Rattle.register.specs.Lists.{same-true, same-refl, length-part}
-use Rattle.register.specs.Module.{Module, Crs, unknown, known, Register, properModules, properNames, proper}
+use Rattle.register.specs.declared.words.Crs.{Crs}
+use Rattle.register.specs.declared.words.Crs.the-variants.{Unknown, Known}
+use Rattle.register.specs.Module.{Module, Register, properModules, properNames, proper}
 use Rattle.register.specs.Encode.{recordWords, recordNames, crsKnown, crsBase, encodeWords, slots}
 use Rattle.register.specs.Decode.{readModules, readCrs, readSlots, settled, body, readRegister, encodes, registerOf, isRegister, decode}
 use Rattle.register.specs.Check.{modulesOk, slotsOk, countsOk, sizesOk, contentsOk, checked, passes}
@@ -55,28 +57,28 @@ body-is records h m = body-bytes records (getD (settled (wordsIn records)) 3 0) 
 
 -- the CRS words
 
-crs-known : (a b : ℕ) → (eqb a 1 || (eqb a 0 && eqb b 0)) ≡ true → (crsKnown (readCrs a b) ≡ a) × (crsBase (readCrs a b) ≡ b)
+crs-words : (a b : ℕ) → (eqb a 1 || (eqb a 0 && eqb b 0)) ≡ true → (crsKnown (readCrs a b) ≡ a) × (crsBase (readCrs a b) ≡ b)
 unfolding crsKnown crsBase readCrs
-crs-known a b = go (eqb a 1) refl
+crs-words a b = go (eqb a 1) refl
   where
     go
         : (t : Bool) → eqb a 1 ≡ t → (t || (eqb a 0 && eqb b 0)) ≡ true
-        → (crsKnown (if t then known b else unknown) ≡ a) × (crsBase (if t then known b else unknown) ≡ b)
+        → (crsKnown (if t then Known b else Unknown) ≡ a) × (crsBase (if t then Known b else Unknown) ≡ b)
     go true p e = (sym (eqb-true a 1 p), refl)
     go false p e = let f = both (eqb a 0) (eqb b 0) e in (sym (eqb-true a 0 (f .0)), sym (eqb-true b 0 (f .1)))
 
 crs-passes : (c : Crs) → (eqb (crsKnown c) 1 || (eqb (crsKnown c) 0 && eqb (crsBase c) 0)) ≡ true
 unfolding crsKnown crsBase
-crs-passes unknown = refl
-crs-passes (known base) = refl
+crs-passes Unknown = refl
+crs-passes (Known base) = refl
 
 crs-back : (c : Crs) → readCrs (crsKnown c) (crsBase c) ≡ c
 unfolding crsKnown crsBase readCrs
-crs-back unknown = refl
-crs-back (known base) = refl
+crs-back Unknown = refl
+crs-back (Known base) = refl
 
 -- a list that begins with e
-begins-long : (e l : List ℕ) → take (length e) l ≡ e → length e ≤ length l
+pub begins-long : (e l : List ℕ) → take (length e) l ≡ e → length e ≤ length l
 begins-long e l h = elim (decLe (length e) (length l)) [ yes y ↦ y | no n ↦ short n ]
   where
     short : (length e ≤ length l → ⊥) → length e ≤ length l
@@ -163,7 +165,7 @@ module _ (records names missing : List ℕ) (small : (i : ℕ) → getD missing 
       let lb : length (part ws 8 (u / 4 - 8)) ≡ u / 4 - 8 = length-part ws 8 (u / 4 - 8) (omega (arith, z .inside)) in
       let lr : length (recordWords 0 ms) ≡ u / 4 - 8 = ap length (sym (r .words)) ∙ lb in
       let ln : length (recordNames ms) ≡ getD ws 4 0 = ap length (sym (r .bytes)) ∙ length-take-le (getD ws 4 0) names (z .named-inside) in
-      let c = crs-known (getD ws 1 0) (getD ws 2 0) (h .crs) in
+      let c = crs-words (getD ws 1 0) (getD ws 2 0) (h .crs) in
       let n : 8 + length (recordWords 0 ms) ≡ u / 4 = omega (arith, z .least) in
       let f : 4 * (8 + length (recordWords 0 ms)) ≡ u = omega (arith, z .aligned) in
       let g : length (encodeWords reg) ≡ 8 + length (recordWords 0 ms) = omega arith in

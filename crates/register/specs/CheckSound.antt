@@ -11,7 +11,7 @@ use lib.Dec.{eqb, leb}
 use borrow.Author.Tests.{eqb-true, leb-true, le-leb}
 use Rattle.window.specs.Memory.{if_then_else_}
 use Rattle.window.specs.Name.{noZero, isName}
-use Rattle.register.specs.Tests.{both, also}
+use Rattle.window.specs.Tests.{both, also}
 use Rattle.register.specs.Words.{part}
 use Rattle.register.specs.Lists.{take-next, length-part, part-none, part-all, part-add}
 use Rattle.register.specs.Module.{Export, Module, named-ok, distinct, properModule, properModules}

@@ -9,7 +9,9 @@ use lib.Seq.{getD-set-other}
 use lib.Dec.{eqb, leb}
 use Rattle.window.specs.Memory.{if_then_else_}
 use Rattle.register.specs.Words.{part, same, allZero, holds, wordsIn}
-use Rattle.register.specs.Module.{Export, Module, Crs, unknown, known, Register, proper}
+use Rattle.register.specs.declared.words.Crs.{Crs}
+use Rattle.register.specs.declared.words.Crs.the-variants.{Unknown, Known}
+use Rattle.register.specs.Module.{Export, Module, Register, proper}
 use Rattle.register.specs.Encode.{encodeWords, recordNames, slots}
 
 -- named exports: triples of words, with their names among the name bytes
@@ -46,7 +48,7 @@ readModules zero ws names = []
 readModules (suc n) ws names = readModule ws names ∷ readModules n (drop (moduleSize ws) ws) names
 
 unfoldable pub readCrs : ℕ → ℕ → Crs
-readCrs is base = if eqb is 1 then known base else unknown
+readCrs is base = if eqb is 1 then Known base else Unknown
 
 -- a slot's 16-bit length, lowest byte first, and its name
 unfoldable pub slotLength : List ℕ → ℕ

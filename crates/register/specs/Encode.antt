@@ -3,7 +3,9 @@ use Prim.Native.Nat.{ℕ, zero, suc, _+_, _-_, _*_, _/_, _%_}
 use mathlib.Core.List.{List, [], _∷_, _++_}
 use mathlib.Core.Bool.{Bool, true, false, toNat}
 use lib.ListN.{length, replicate}
-use Rattle.register.specs.Module.{Export, Module, Crs, unknown, known, Register}
+use Rattle.register.specs.declared.words.Crs.{Crs}
+use Rattle.register.specs.declared.words.Crs.the-variants.{Unknown, Known}
+use Rattle.register.specs.Module.{Export, Module, Register}
 
 -- "named exports (name offset, length, address)"; q is the offset of the first one's name
 unfoldable pub exportWords : ℕ → List Export → List ℕ
@@ -45,13 +47,13 @@ recordNames [] = []
 recordNames (m ∷ ms) = moduleNames m ++ recordNames ms
 
 unfoldable pub crsKnown : Crs → ℕ
-crsKnown unknown = 0
-crsKnown (known base) = 1
+crsKnown Unknown = 0
+crsKnown (Known base) = 1
 
 -- "CRS base (0 if unknown)"
 unfoldable pub crsBase : Crs → ℕ
-crsBase unknown = 0
-crsBase (known base) = base
+crsBase Unknown = 0
+crsBase (Known base) = base
 
 -- "Header words 0 to 7: modules, CRS known, CRS base, record bytes used (header included), name bytes used, missing count, 0, 0"
 unfoldable pub encodeWords : Register → List ℕ

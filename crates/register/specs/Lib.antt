@@ -1,5 +1,4 @@
 -- The register: its abstract value, its encoding, and when bytes are one.
-pub mod Tests
 pub mod Words
 pub mod Lists
 pub mod Module
@@ -11,3 +10,4 @@ pub mod CheckSound
 pub mod CheckComplete
 pub mod Slots
 pub mod CheckIs
+pub mod Buffers

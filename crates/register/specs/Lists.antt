@@ -9,7 +9,7 @@ use lib.ListN.{length, take, drop, getD, length-append, length-drop, take-append
 use lib.Seq.{take-length, drop-cons, take-add, drop-drop, length-take-le, drop-append-seam, take-append-seam, take-append-le, drop-append-le}
 use lib.Dec.{eqb}
 use borrow.Author.Tests.{eqb-true, eq-eqb}
-use Rattle.register.specs.Tests.{both, also}
+use Rattle.window.specs.Tests.{both, also}
 use Rattle.register.specs.Words.{part, same, allZero}
 
 pub same-true : (a b : List ℕ) → same a b ≡ true → a ≡ b

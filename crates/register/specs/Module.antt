@@ -7,6 +7,7 @@ use lib.Dec.{leb}
 use Rattle.window.specs.Memory.{if_then_else_}
 use Rattle.window.specs.Name.{isName}
 use Rattle.register.specs.Words.{same}
+use Rattle.register.specs.declared.words.Crs.{Crs}
 use Rattle.register.specs.declared.exports.Found.{Found}
 use Rattle.register.specs.declared.exports.Found.the-variants.{At, Nothing}
 
@@ -22,10 +23,6 @@ pub record Module : Type 0 where
   pub segments : List ℕ
   pub named : List Export
   pub indexed : List ℕ
-
-pub data Crs : Type 0 where
-  unknown : Crs
-  known : ℕ → Crs
 
 pub record Register : Type 0 where
   pub modules : List Module

@@ -1,17 +1,16 @@
 -- Names in ascending order are distinct: neighbours are compared first, and only otherwise all pairs.
 use Prim.Native.Nat.{ℕ, zero, suc, _+_, _<_, _≤_}
 use mathlib.Core.Path.{_≡_, refl, sym, ap, _∙_}
-use mathlib.Core.Logic.{_⊎_, inl, inr, ⊎-elim}
 use mathlib.Core.List.{List, [], _∷_}
 use mathlib.Core.Bool.{Bool, true, false, _&&_}
 use native.Mathlib.Omega.{arith}
 use lib.Dec.{ltb, eqb}
 use borrow.Author.Tests.{lt-ltb, le-ltb, ltb-true, ltb-false, eq-eqb, ne-eqb}
 use Rattle.window.specs.Memory.{if_then_else_}
-use Rattle.window.specs.Name.{orderOf, order-self, order-same}
+use Rattle.window.specs.Name.{orderOf, before-trans}
 use Rattle.window.specs.declared.name.NameOrder.{NameOrder}
 use Rattle.window.specs.declared.name.NameOrder.the-variants.{Before, Same, After}
-use Rattle.register.specs.Tests.{both}
+use Rattle.window.specs.Tests.{both}
 use Rattle.register.specs.Words.{same}
 use Rattle.register.specs.Lists.{same-true, same-refl}
 use Rattle.register.specs.declared.exports.Found.the-variants.{Nothing}
@@ -47,41 +46,6 @@ same-order (a ∷ s) (b ∷ t) = go (ltb a b) (ltb b a) refl refl (same-order s 
 pub before-differs : (a b : List ℕ) → orderOf a b ≡ Before → same a b ≡ false
 unfolding isSame
 before-differs a b e = same-order a b ∙ rw e
-
--- what `Before` says of two names with a first byte
-before-cases
-    : (a b : ℕ) (s t : List ℕ) → orderOf (a ∷ s) (b ∷ t) ≡ Before → (a < b) ⊎ ((a ≡ b) × (orderOf s t ≡ Before))
-unfolding orderOf
-before-cases a b s t = go (ltb a b) (ltb b a) refl refl
-  where
-    go
-        : (x y : Bool) → ltb a b ≡ x → ltb b a ≡ y → (if x then Before else (if y then After else orderOf s t)) ≡ Before
-        → (a < b) ⊎ ((a ≡ b) × (orderOf s t ≡ Before))
-    go true y p q e = inl (ltb-true a b p)
-    go false true p q e = let z : _≡_ {A = ℕ} 0 1 = cc in absurd (omega arith)
-    go false false p q e = let l = ltb-false a b p in let m = ltb-false b a q in inr (omega arith, e)
-
-before-first : (a b : ℕ) (s t : List ℕ) → a < b → orderOf (a ∷ s) (b ∷ t) ≡ Before
-unfolding orderOf
-before-first a b s t h = rw (lt-ltb a b h)
-
-before-rest : (a b : ℕ) (s t : List ℕ) → a ≡ b → orderOf s t ≡ Before → orderOf (a ∷ s) (b ∷ t) ≡ Before
-unfolding orderOf
-before-rest a b s t e h = rw (le-ltb a b (omega arith), le-ltb b a (omega arith)) h
-
-pub before-trans : (a b c : List ℕ) → orderOf a b ≡ Before → orderOf b c ≡ Before → orderOf a c ≡ Before
-unfolding orderOf
-before-trans [] [] c p q = let z : _≡_ {A = ℕ} 0 1 = cc in absurd (omega arith)
-before-trans [] (b ∷ t) [] p q = let z : _≡_ {A = ℕ} 0 1 = cc in absurd (omega arith)
-before-trans [] (b ∷ t) (c ∷ u) p q = refl
-before-trans (a ∷ s) [] c p q = let z : _≡_ {A = ℕ} 0 1 = cc in absurd (omega arith)
-before-trans (a ∷ s) (b ∷ t) [] p q = let z : _≡_ {A = ℕ} 0 1 = cc in absurd (omega arith)
-before-trans (a ∷ s) (b ∷ t) (c ∷ u) p q =
-    ⊎-elim (λ h. ⊎-elim (λ g. before-first a c s u (omega arith)) (λ g. before-first a c s u (omega arith)) (before-cases b c t u q))
-    (λ h. ⊎-elim (λ g. before-first a c s u (omega arith))
-    (λ g. before-rest a c s u (omega arith) (before-trans s t u (h .1) (g .1)))
-    (before-cases b c t u q))
-    (before-cases a b s t p)
 
 unfoldable pub ascending : List Export → Bool
 ascending [] = true

@@ -9,7 +9,7 @@ use lib.Seq.{drop-cons, drop-at, take-at, drop-drop, take-add, length-take-le, g
 use lib.Dec.{eqb, leb, lit<}
 use borrow.Author.Tests.{eqb-true, leb-true, le-leb, eq-eqb}
 use Rattle.window.specs.Name.{noZero, isName}
-use Rattle.register.specs.Tests.{both, also}
+use Rattle.window.specs.Tests.{both, also}
 use Rattle.register.specs.Words.{part, allZero}
 use Rattle.register.specs.Lists.{take-next, length-part, part-middle}
 use Rattle.register.specs.Module.{properNames}

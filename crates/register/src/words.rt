@@ -2,6 +2,13 @@
 ghost use mathlib.Core.Path.{_≡_};
 ghost use lib.ListN.{getD, drop};
 ghost use Rattle.register.specs.Words.{wordsIn, part, allZero};
+ghost use Rattle.register.specs.Decode.{readCrs};
+
+// The static module's base, where it is known.
+pub enum Crs {
+    Unknown,
+    Known(u32),
+}
 
 // Word number i of the records; 0 past their whole words.
 pub fn word(records: &[u8], i: usize) -> u32
@@ -41,4 +48,14 @@ pub fn zero_from(bytes: &[u8], from: usize) -> bool
         i += 1;
     }
     true
+}
+
+// The CRS, as the header has it.
+pub fn read_crs(records: &[u8]) -> Crs
+    ensures { λ r. ⌜ r ≡ readCrs (getD (wordsIn (now (records .entry))) 1 0) (getD (wordsIn (now (records .entry))) 2 0) ⌝ }
+{
+    if word(records, 1) == 1 {
+        return Crs::Known(word(records, 2));
+    }
+    Crs::Unknown
 }

@@ -1,15 +1,16 @@
 -- From the code's tests and stores to the definitions of `Memory`.
-use Prim.Native.Nat.{ℕ, zero, suc, _+_, _-_, _*_, _/_, _%_, _^_, _≤_, _<_}
-use mathlib.Core.Path.{_≡_, refl, sym, ap, _∙_}
+use Prim.Native.Nat.{ℕ, suc, _+_, _-_, _/_, _%_, _^_, _≤_, _<_}
+use mathlib.Core.Path.{_≡_, sym, _∙_}
 use mathlib.Core.List.{List}
-use mathlib.Core.Bool.{Bool, true, false, _&&_}
+use mathlib.Core.Bool.{Bool, true, _&&_}
 use native.Mathlib.Omega.{arith}
-use lib.ListN.{length, getD, set, List·getD-eq-default}
-use lib.Seq.{set-out}
+use lib.ListN.{length, getD, set}
 use lib.Dec.{leb, lit<}
-use borrow.Author.Tests.{leb-true, leb-false}
-use Rattle.window.specs.Memory.{if_then_else_, place, byteAt, wordAt, putByte, putBytes, putWord, putUpward, putPrivileged}
-use Rattle.window.specs.Bytes.{join, Whole, place-mod, byteAt-mod, putByte-mod, putByte-value, inside-mod, inside-yes, inside-no, putPrivileged-inside}
+use borrow.Author.Tests.{leb-true}
+use Rattle.window.specs.Tests.{both}
+use Rattle.window.specs.Memory.{place, byteAt, wordAt, putByte, putBytes, putWord, putUpward, putPrivileged}
+use Rattle.window.specs.Bytes.{join, Whole, place-on, inside-yes, byteAt-mod, byteAt-outside, putByte-mod, putByte-value}
+use Rattle.window.specs.Bytes.{putByte-outside, putUpward-mod, putUpward-outside, putPrivileged-inside}
 use Rattle.window.specs.Word.{wordIn, setWordIn}
 
 -- a byte inside and outside, as the code tests it
@@ -19,22 +20,16 @@ unfolding byteAt
 byte-in at w x i e = cc
 
 pub byte-out : (at : ℕ) (w : List ℕ) (x i : ℕ) → i ≡ place at x → length w ≤ i → 0 ≡ byteAt at w x
-unfolding byteAt
-byte-out at w x i e h = cc (List·getD-eq-default w 0 h)
+byte-out at w x i e h = sym (byteAt-outside at w x (rw (← e) h))
 
 pub put-in : (at : ℕ) (w : List ℕ) (x i v : ℕ) → i ≡ place at x → v < 256 → set w i v ≡ putByte at w x v
 unfolding putByte
 put-in at w x i v e h = let m : v % 256 ≡ v = omega arith in cc
 
 pub put-out : (at : ℕ) (w : List ℕ) (x i v : ℕ) → i ≡ place at x → length w ≤ i → w ≡ putByte at w x v
-unfolding putByte
-put-out at w x i v e h = cc (set-out w i (v % 256) h)
+put-out at w x i v e h = sym (putByte-outside at w x v (rw (← e) h))
 
 -- a word whose four bytes stand in a row
-
-both : (a b : Bool) → (a && b) ≡ true → (a ≡ true) × (b ≡ true)
-both true b e = (refl, e)
-both false b e = let z : _≡_ {A = Bool} false true = e in (z, cc)
 
 -- the range test that `whole` makes
 pub whole-row : (i n : ℕ) {r : Bool} → r ≡ (leb i 0xffff_fffc && leb (i + 4) n) → r ≡ true → (i + 4 ≤ 2 ^ 32) × (i + 4 ≤ n)
@@ -43,27 +38,23 @@ whole-row i n e t =
     let l : i ≤ 0xffff_fffc = leb-true i 0xffff_fffc (b .0) in
     (omega arith, leb-true (i + 4) n (b .1))
 
-place-row : (at x k : ℕ) → place at x + 4 ≤ 2 ^ 32 → k < 4 → place at (x + k) ≡ place at x + k
-unfolding place
-place-row at x k h l = omega arith
-
 module _ (at : ℕ) (w : List ℕ) (x i : ℕ) (e : i ≡ place at x) (h : i + 4 ≤ 2 ^ 32) where
-  low : place at x + 4 ≤ 2 ^ 32
-  low = rw (← e) h
+  row : (k : ℕ) → k < 4 → place at (x + k) ≡ i + k
+  row k l = rw e (place-on at x k (omega arith))
 
   pub row-word : wordIn w i ≡ wordAt at w x
   unfolding wordIn wordAt byteAt
-  row-word = rw (place-row at x 1 low (lit< tt), place-row at x 2 low (lit< tt), place-row at x 3 low (lit< tt), ← e)
+  row-word = rw (row 1 (lit< tt), row 2 (lit< tt), row 3 (lit< tt), ← e)
 
   pub row-put : (v : ℕ) → setWordIn w i v ≡ putWord at w x v
   unfolding setWordIn putWord putBytes putByte
   row-put v =
       let q₂ : x + 1 + 1 ≡ x + 2 = omega arith in
       let q₃ : x + 2 + 1 ≡ x + 3 = omega arith in
-      rw (q₂, q₃, place-row at x 1 low (lit< tt), place-row at x 2 low (lit< tt), place-row at x 3 low (lit< tt), e)
+      rw (q₂, q₃, row 1 (lit< tt), row 2 (lit< tt), row 3 (lit< tt), ← e)
 
   row-whole : i + 4 ≤ length w → Whole at w x
-  row-whole g k l = rw (place-row at x k low l, ← e) (omega arith)
+  row-whole g k l = rw (row k l) (omega arith)
 
   pub row-privileged : (v : ℕ) → i + 4 ≤ length w → setWordIn w i v ≡ putPrivileged at w x v
   row-privileged v g = row-put v ∙ sym (putPrivileged-inside at w x v (row-whole g))
@@ -89,16 +80,6 @@ putWord-steps at w x v e₁ e₂ e₃ p₁ p₂ p₃ p₄ =
 
 -- the stores of a privileged write, n in all, k made
 
-putUpward-mod : (n at : ℕ) (w : List ℕ) (x v : ℕ) → putUpward n at w (x % 2 ^ 32) v ≡ putUpward n at w x v
-unfolding putUpward
-putUpward-mod zero at w x v = refl
-putUpward-mod (suc n) at w x v =
-    let e : (x % 2 ^ 32 + 1) % 2 ^ 32 ≡ (x + 1) % 2 ^ 32 = omega arith in
-    let r : putUpward n at (putByte at w x v) (x % 2 ^ 32 + 1) (v / 256) ≡ putUpward n at (putByte at w x v) (x + 1) (v / 256) =
-    sym (putUpward-mod n at (putByte at w x v) (x % 2 ^ 32 + 1) (v / 256))
-    ∙ rw e (putUpward-mod n at (putByte at w x v) (x + 1) (v / 256)) in
-    simp (inside-mod at w x, putByte-mod, r)
-
 module _ (n k at : ℕ) (w : List ℕ) (x v : ℕ) where
   pub upward-turn
       : {i y : ℕ} → k < n → i ≡ place at x → i < length w → y ≡ (x + 1) % 2 ^ 32
@@ -109,11 +90,8 @@ module _ (n k at : ℕ) (w : List ℕ) (x v : ℕ) where
       let b : v % 256 < 256 = omega arith in
       rw (s, ey, put-in at w x i (v % 256) e b, putByte-value, putUpward-mod) (simp (inside-yes at w x (rw (← e) h)))
 
-  pub upward-stop : {i : ℕ} → k < n → i ≡ place at x → length w ≤ i → w ≡ putUpward (n - k) at w x v
-  unfolding putUpward
-  upward-stop l e h =
-      let s : n - k ≡ suc (n - (k + 1)) = omega arith in
-      rw s (simp (inside-no at w x (rw (← e) h)))
+  pub upward-stop : {i : ℕ} → i ≡ place at x → length w ≤ i → w ≡ putUpward (n - k) at w x v
+  upward-stop e h = sym (putUpward-outside (n - k) at w x v (rw (← e) h))
 
   pub upward-done : n ≤ k → w ≡ putUpward (n - k) at w x v
   unfolding putUpward

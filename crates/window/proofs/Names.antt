@@ -1,6 +1,6 @@
 -- From the code's loops over names to the definitions of `Name`.
-use Prim.Native.Nat.{ℕ, zero, suc, _+_, _-_, _%_, _^_, _≤_, _<_}
-use mathlib.Core.Path.{_≡_, refl, sym, ap, _∙_}
+use Prim.Native.Nat.{ℕ, suc, _+_, _-_, _%_, _^_, _≤_, _<_}
+use mathlib.Core.Path.{_≡_, sym, ap, _∙_}
 use mathlib.Core.List.{List, [], _∷_, _++_, append-assoc, append-nil}
 use native.Mathlib.Omega.{arith}
 use native.Mathlib.Numerals.{add-one}
@@ -10,7 +10,6 @@ use borrow.Author.Tests.{lt-ltb, le-ltb}
 use Rattle.window.specs.Memory.{byteAt}
 use Rattle.window.specs.Access.{run}
 use Rattle.window.specs.Name.{nameFrom, name-stop, name-on, laidOver, orderOf}
-use Rattle.window.specs.declared.name.NameOrder.{NameOrder}
 use Rattle.window.specs.declared.name.NameOrder.the-variants.{Before, Same, After}
 
 -- a name of at most m bytes, k of them read
@@ -33,8 +32,8 @@ module _ (m k at : ℕ) (w : List ℕ) (p : ℕ) where
 -- the buffer with n bytes of the name in it
 
 pub laid
-    : (n : ℕ) (buffer old : List ℕ) {name left : List ℕ} → n ≤ length buffer → take n buffer ++ left ≡ name → left ≡ [] → drop n buffer ≡ drop n old
-    → _≡_ {A = ℕ × List ℕ} (n, buffer) (laidOver name old)
+    : (n : ℕ) (buffer old : List ℕ) {name left : List ℕ} → n ≤ length buffer → take n buffer ++ left ≡ name → left ≡ []
+    → drop n buffer ≡ drop n old → _≡_ {A = ℕ × List ℕ} (n, buffer) (laidOver name old)
 unfolding laidOver
 laid n buffer old l e z d =
     let t : take n buffer ≡ _ = sym (append-nil (take n buffer)) ∙ rw z at e in

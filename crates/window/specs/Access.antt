@@ -5,7 +5,7 @@ use mathlib.Core.List.{List}
 use Prim.Native.Nat.{ℕ}
 use lib.ListN.{length}
 use Rattle.window.specs.Memory.{byteAt, wordAt, putByte, putWord, putPrivileged}
-use Rattle.window.specs.Bytes.{length-putByte, length-putWord, length-putPrivileged}
+use Rattle.window.specs.Bytes.{length-putByte, putBytes-keeps, putUpward-keeps}
 
 infixl 10 _>>=_
 infixl 10 _>>_
@@ -64,14 +64,21 @@ module _ (at : ℕ) where
   run-bind (write32 p v k) f w = run-bind k f (putWord at w p v)
   run-bind (writePrivileged p v k) f w = run-bind k f (putPrivileged at w p v)
 
+  -- what every byte write keeps, every run keeps: as the length
+  pub run-keeps
+      : {A : Type 0} (P : List ℕ → Type 0) → ((u : List ℕ) (y z : ℕ) → P u → P (putByte at u y z)) → (m : Prog A) (w : List ℕ)
+      → P w → P (run m w .1)
+  unfolding run putWord putPrivileged
+  run-keeps P kept (ret a) w h = h
+  run-keeps P kept (read8 p k) w h = run-keeps P kept (k (byteAt at w p)) w h
+  run-keeps P kept (read32 p k) w h = run-keeps P kept (k (wordAt at w p)) w h
+  run-keeps P kept (write8 p v k) w h = run-keeps P kept k (putByte at w p v) (kept w p v h)
+  run-keeps P kept (write32 p v k) w h = run-keeps P kept k (putWord at w p v) (putBytes-keeps P at kept 4 w p v h)
+  run-keeps P kept (writePrivileged p v k) w h =
+      run-keeps P kept k (putPrivileged at w p v) (putUpward-keeps P at kept 4 w p v h)
+
   pub length-run : {A : Type 0} (m : Prog A) (w : List ℕ) → length (run m w .1) ≡ length w
-  unfolding run
-  length-run (ret a) w = refl
-  length-run (read8 p k) w = length-run (k (byteAt at w p)) w
-  length-run (read32 p k) w = length-run (k (wordAt at w p)) w
-  length-run (write8 p v k) w = length-run k (putByte at w p v) ∙ length-putByte at w p v
-  length-run (write32 p v k) w = length-run k (putWord at w p v) ∙ length-putWord at w p v
-  length-run (writePrivileged p v k) w = length-run k (putPrivileged at w p v) ∙ length-putPrivileged at w p v
+  length-run m w = run-keeps (λ u. length u ≡ length w) (λ u y z e. length-putByte at u y z ∙ e) m w refl
 
 -- a program that writes nothing, whatever it reads
 unfoldable pub Reads : {A : Type 0} → Prog A → Type 0

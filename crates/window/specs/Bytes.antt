@@ -1,14 +1,14 @@
 -- What stands at an address after each kind of write: "byte k of the value at x + k, else as before".
 -- `place x y` is how far y lies above x, so "y is none of the n bytes from x on" is `n ≤ place x y`.
-use Prim.Native.Nat.{ℕ, zero, suc, _+_, _-_, _*_, _/_, _%_, _^_, _≤_, _<_}
+use Prim.Native.Nat.{ℕ, zero, suc, _+_, _*_, _/_, _%_, _^_, _≤_, _<_}
 use mathlib.Core.Path.{_≡_, refl, sym, ap, _∙_}
 use mathlib.Core.Logic.{_≢_}
 use mathlib.Core.List.{List}
 use mathlib.Core.Bool.{Bool, true, false, _&&_}
 use native.Mathlib.Omega.{arith}
-use lib.ListN.{length, getD, set, length-set, List·getD-eq-default}
-use lib.Seq.{getD-set-same, getD-set-other}
-use lib.Dec.{ltb, lit<}
+use lib.ListN.{length, length-set, List·getD-eq-default}
+use lib.Seq.{getD-set-same, getD-set-other, set-out}
+use lib.Dec.{lit<}
 use borrow.Author.Tests.{lt-ltb, le-ltb, ltb-true, ltb-false}
 use Rattle.window.specs.Memory.{if_then_else_, place, inside, byteAt, wordAt, putByte, putBytes, putWord, putUpward, putPrivileged}
 
@@ -18,13 +18,23 @@ pub place-mod : (at x : ℕ) → place at (x % 2 ^ 32) ≡ place at x
 unfolding place
 place-mod at x = omega arith
 
+-- what takes an address modulo 2 ^ 32 takes a sum of addresses so
+pub sum-mod
+    : {A : Type 0} (f : ℕ → A) → ((y : ℕ) → f (y % 2 ^ 32) ≡ f y) → (x k : ℕ) → f (x % 2 ^ 32 + k) ≡ f (x + k)
+sum-mod f h x k =
+    let e : (x % 2 ^ 32 + k) % 2 ^ 32 ≡ (x + k) % 2 ^ 32 = omega arith in
+    sym (h (x % 2 ^ 32 + k)) ∙ ap f e ∙ h (x + k)
+
 pub place-add : (at x k : ℕ) → place at (x % 2 ^ 32 + k) ≡ place at (x + k)
-unfolding place
-place-add at x k = omega arith
+place-add at x k = sum-mod (place at) (place-mod at) x k
 
 pub place-small : (at x : ℕ) → place at x < 2 ^ 32
 unfolding place
 place-small at x = omega arith
+
+pub place-on : (at x k : ℕ) → place at x + k < 2 ^ 32 → place at (x + k) ≡ place at x + k
+unfolding place
+place-on at x k h = omega arith
 
 pub place-next : (x y n : ℕ) → suc n ≤ place x y → n ≤ place (x + 1) y
 unfolding place
@@ -46,9 +56,21 @@ pub place-within : (x y k : ℕ) → 4 ≤ place x y → 4 ≤ place y x → k <
 unfolding place
 place-within x y k h g l = omega arith
 
+-- x is none of the four bytes of the word at y
+pub place-none : (at x y k : ℕ) → 4 ≤ place y x → k < 4 → place at (y + k) ≢ place at x
+unfolding place
+place-none at x y k h l e = omega arith
+
+pub inside-mod : (at : ℕ) (w : List ℕ) (x : ℕ) → inside at w (x % 2 ^ 32) ≡ inside at w x
+unfolding inside
+inside-mod at w x = rw place-mod
+
 pub byteAt-mod : (at : ℕ) (w : List ℕ) (x : ℕ) → byteAt at w (x % 2 ^ 32) ≡ byteAt at w x
 unfolding byteAt
 byteAt-mod at w x = rw place-mod
+
+pub byteAt-add : (at : ℕ) (w : List ℕ) (x k : ℕ) → byteAt at w (x % 2 ^ 32 + k) ≡ byteAt at w (x + k)
+byteAt-add at w x k = sum-mod (byteAt at w) (byteAt-mod at w) x k
 
 pub wordAt-mod : (at : ℕ) (w : List ℕ) (x : ℕ) → wordAt at w (x % 2 ^ 32) ≡ wordAt at w x
 unfolding wordAt byteAt
@@ -61,6 +83,31 @@ putByte-mod at w x v = rw place-mod
 pub putByte-value : (at : ℕ) (w : List ℕ) (x v : ℕ) → putByte at w x (v % 256) ≡ putByte at w x v
 unfolding putByte
 putByte-value at w x v = let m : v % 256 % 256 ≡ v % 256 = omega arith in rw m
+
+pub putBytes-mod : (n at : ℕ) (w : List ℕ) (x v : ℕ) → putBytes n at w (x % 2 ^ 32) v ≡ putBytes n at w x v
+unfolding putBytes
+putBytes-mod zero at w x v = refl
+putBytes-mod (suc n) at w x v =
+    rw putByte-mod
+    (sum-mod (λ y. putBytes n at (putByte at w x v) y (v / 256)) (λ y. putBytes-mod n at (putByte at w x v) y (v / 256)) x 1)
+
+pub putWord-mod : (at : ℕ) (w : List ℕ) (x v : ℕ) → putWord at w (x % 2 ^ 32) v ≡ putWord at w x v
+unfolding putWord
+putWord-mod at w x v = putBytes-mod 4 at w x v
+
+pub putUpward-mod : (n at : ℕ) (w : List ℕ) (x v : ℕ) → putUpward n at w (x % 2 ^ 32) v ≡ putUpward n at w x v
+unfolding putUpward
+putUpward-mod zero at w x v = refl
+putUpward-mod (suc n) at w x v =
+    simp (
+      inside-mod at w x,
+      putByte-mod,
+      sum-mod (λ y. putUpward n at (putByte at w x v) y (v / 256)) (λ y. putUpward-mod n at (putByte at w x v) y (v / 256)) x 1,
+    )
+
+pub putPrivileged-mod : (at : ℕ) (w : List ℕ) (x v : ℕ) → putPrivileged at w (x % 2 ^ 32) v ≡ putPrivileged at w x v
+unfolding putPrivileged
+putPrivileged-mod at w x v = putUpward-mod 4 at w x v
 
 -- inside and outside
 
@@ -80,39 +127,65 @@ pub is-outside : (at : ℕ) (w : List ℕ) (x : ℕ) → inside at w x ≡ false
 unfolding inside
 is-outside at w x e = ltb-false (place at x) (length w) e
 
-pub inside-mod : (at : ℕ) (w : List ℕ) (x : ℕ) → inside at w (x % 2 ^ 32) ≡ inside at w x
-unfolding inside
-inside-mod at w x = rw place-mod
-
 pub byteAt-outside : (at : ℕ) (w : List ℕ) (x : ℕ) → length w ≤ place at x → byteAt at w x ≡ 0
 unfolding byteAt
 byteAt-outside at w x h = List·getD-eq-default w 0 h
 
--- a write keeps the length
+-- a write that begins outside: the byte is dropped, and a privileged write does nothing at all
+
+pub putByte-outside : (at : ℕ) (w : List ℕ) (x v : ℕ) → length w ≤ place at x → putByte at w x v ≡ w
+unfolding putByte
+putByte-outside at w x v h = set-out w (place at x) (v % 256) h
+
+pub putBytes-outside
+    : (n at : ℕ) (w : List ℕ) (x v : ℕ) → length w ≤ place at x → putBytes (suc n) at w x v ≡ putBytes n at w (x + 1) (v / 256)
+unfolding putBytes
+putBytes-outside n at w x v h = rw (putByte-outside at w x v h)
+
+pub putUpward-outside : (n at : ℕ) (w : List ℕ) (x v : ℕ) → length w ≤ place at x → putUpward n at w x v ≡ w
+unfolding putUpward
+putUpward-outside zero at w x v h = refl
+putUpward-outside (suc n) at w x v h = simp (inside-no at w x h)
+
+pub putPrivileged-outside : (at : ℕ) (w : List ℕ) (x v : ℕ) → length w ≤ place at x → putPrivileged at w x v ≡ w
+unfolding putPrivileged
+putPrivileged-outside at w x v h = putUpward-outside 4 at w x v h
+
+-- what every byte write keeps, every write keeps
+
+choose : (P : List ℕ → Type 0) (b : Bool) (u w : List ℕ) → P u → P w → P (if b then u else w)
+choose P true u w g h = g
+choose P false u w g h = h
+
+module _ (P : List ℕ → Type 0) (at : ℕ) (kept : (u : List ℕ) (y z : ℕ) → P u → P (putByte at u y z)) where
+  pub putBytes-keeps : (n : ℕ) (w : List ℕ) (x v : ℕ) → P w → P (putBytes n at w x v)
+  unfolding putBytes
+  putBytes-keeps zero w x v h = h
+  putBytes-keeps (suc n) w x v h = putBytes-keeps n (putByte at w x v) (x + 1) (v / 256) (kept w x v h)
+
+  pub putUpward-keeps : (n : ℕ) (w : List ℕ) (x v : ℕ) → P w → P (putUpward n at w x v)
+  unfolding putUpward
+  putUpward-keeps zero w x v h = h
+  putUpward-keeps (suc n) w x v h =
+      choose P (inside at w x) (putUpward n at (putByte at w x v) (x + 1) (v / 256)) w
+      (putUpward-keeps n (putByte at w x v) (x + 1) (v / 256) (kept w x v h))
+      h
+
+-- the length is such
 
 pub length-putByte : (at : ℕ) (w : List ℕ) (x v : ℕ) → length (putByte at w x v) ≡ length w
 unfolding putByte
 length-putByte at w x v = length-set w (place at x) (v % 256)
 
 pub length-putBytes : (n at : ℕ) (w : List ℕ) (x v : ℕ) → length (putBytes n at w x v) ≡ length w
-unfolding putBytes
-length-putBytes zero at w x v = refl
-length-putBytes (suc n) at w x v = length-putBytes n at (putByte at w x v) (x + 1) (v / 256) ∙ length-putByte at w x v
+length-putBytes n at w x v = putBytes-keeps (λ u. length u ≡ length w) at (λ u y z e. length-putByte at u y z ∙ e) n w x v refl
 
 pub length-putWord : (at : ℕ) (w : List ℕ) (x v : ℕ) → length (putWord at w x v) ≡ length w
 unfolding putWord
 length-putWord at w x v = length-putBytes 4 at w x v
 
-choose-length : (b : Bool) (u v : List ℕ) → length u ≡ length v → length (if b then u else v) ≡ length v
-choose-length true u v e = e
-choose-length false u v e = refl
-
 pub length-putUpward : (n at : ℕ) (w : List ℕ) (x v : ℕ) → length (putUpward n at w x v) ≡ length w
-unfolding putUpward
-length-putUpward zero at w x v = refl
-length-putUpward (suc n) at w x v =
-    choose-length (inside at w x) (putUpward n at (putByte at w x v) (x + 1) (v / 256)) w
-    (length-putUpward n at (putByte at w x v) (x + 1) (v / 256) ∙ length-putByte at w x v)
+length-putUpward n at w x v = putUpward-keeps (λ u. length u ≡ length w) at (λ u y z e. length-putByte at u y z ∙ e) n w x v refl
 
 pub length-putPrivileged : (at : ℕ) (w : List ℕ) (x v : ℕ) → length (putPrivileged at w x v) ≡ length w
 unfolding putPrivileged
@@ -150,6 +223,32 @@ join b₀ b₁ b₂ b₃ = b₀ + 256 * (b₁ + 256 * (b₂ + 256 * b₃))
 pub join-bytes : (v : ℕ) → join (byteOf 0 v) (byteOf 1 v) (byteOf 2 v) (byteOf 3 v) ≡ v % 2 ^ 32
 unfolding byteOf
 join-bytes v = omega arith
+
+-- a word by its bytes
+pub join-at
+    : (M f : ℕ → ℕ) (x : ℕ) → ((k : ℕ) → k < 4 → M (x + k) ≡ f k)
+    → join (M x) (M (x + 1)) (M (x + 2)) (M (x + 3)) ≡ join (f 0) (f 1) (f 2) (f 3)
+join-at M f x h =
+    let z : x + 0 ≡ x = omega arith in
+    let b₀ : M x ≡ f 0 = rw z at (h 0 (lit< tt)) in
+    rw (b₀, h 1 (lit< tt), h 2 (lit< tt), h 3 (lit< tt))
+
+pub wordAt-bytes
+    : (at : ℕ) (w : List ℕ) (x : ℕ) (f : ℕ → ℕ) → ((k : ℕ) → k < 4 → byteAt at w (x + k) ≡ f k)
+    → wordAt at w x ≡ join (f 0) (f 1) (f 2) (f 3)
+unfolding wordAt
+wordAt-bytes at w x f h = join-at (byteAt at w) f x h
+
+pub wordAt-kept
+    : (at : ℕ) (u w : List ℕ) (x : ℕ) → ((k : ℕ) → k < 4 → byteAt at u (x + k) ≡ byteAt at w (x + k)) → wordAt at u x ≡ wordAt at w x
+wordAt-kept at u w x h =
+    wordAt-bytes at u x (λ k. byteAt at w (x + k)) h ∙ sym (wordAt-bytes at w x (λ k. byteAt at w (x + k)) (λ k l. refl))
+
+-- a byte written that is none of the word's four
+pub wordAt-apart-byte
+    : (at : ℕ) (w : List ℕ) (x v y : ℕ) → 4 ≤ place y x → wordAt at (putByte at w x v) y ≡ wordAt at w y
+wordAt-apart-byte at w x v y h =
+    wordAt-kept at (putByte at w x v) w y (λ k l. byteAt-other at w x v (y + k) (place-none at x y k h l))
 
 -- the n bytes of an ordinary write: those outside are dropped, each by itself
 
@@ -192,17 +291,9 @@ putBytes-at n k at w x v l m = go (inside at w (x + k)) refl
 pub wordAt-putWord
     : (at : ℕ) (w : List ℕ) (x v : ℕ)
     → wordAt at (putWord at w x v) x ≡ join (stored at w x v 0) (stored at w x v 1) (stored at w x v 2) (stored at w x v 3)
-unfolding wordAt putWord
+unfolding putWord
 wordAt-putWord at w x v =
-    let z : x + 0 ≡ x = omega arith in
-    let b₀ : byteAt at (putBytes 4 at w x v) x ≡ stored at w x v 0 =
-    ap (byteAt at (putBytes 4 at w x v)) (sym z) ∙ putBytes-at 4 0 at w x v (lit< tt) (lit< tt) in
-    rw (
-      b₀,
-      putBytes-at 4 1 at w x v (lit< tt) (lit< tt),
-      putBytes-at 4 2 at w x v (lit< tt) (lit< tt),
-      putBytes-at 4 3 at w x v (lit< tt) (lit< tt),
-    )
+    wordAt-bytes at (putBytes 4 at w x v) x (stored at w x v) (λ k l. putBytes-at 4 k at w x v l (lit< tt))
 
 -- all four addresses of the word at x are inside
 abbrev pub Whole : ℕ → List ℕ → ℕ → Type 0
@@ -222,14 +313,9 @@ wordAt-same at w x v h =
 -- a word that shares no address with the one written
 pub wordAt-apart
     : (at : ℕ) (w : List ℕ) (x v y : ℕ) → 4 ≤ place x y → 4 ≤ place y x → wordAt at (putWord at w x v) y ≡ wordAt at w y
-unfolding wordAt putWord
+unfolding putWord
 wordAt-apart at w x v y h g =
-    rw (
-      putBytes-off 4 at w x v y h,
-      putBytes-off 4 at w x v (y + 1) (place-within x y 1 h g (lit< tt)),
-      putBytes-off 4 at w x v (y + 2) (place-within x y 2 h g (lit< tt)),
-      putBytes-off 4 at w x v (y + 3) (place-within x y 3 h g (lit< tt)),
-    )
+    wordAt-kept at (putBytes 4 at w x v) w y (λ k l. putBytes-off 4 at w x v (y + k) (place-within x y k h g l))
 
 -- the bytes of a privileged write: byte k is stored where all from x to x + k are inside, else it is as before
 
@@ -243,22 +329,14 @@ unfolding reaches
 reaches-length zero at u w x e = inside-length at u w x e
 reaches-length (suc k) at u w x e = rw (inside-length at u w x e, reaches-length k at u w (x + 1) e)
 
-reaches-not : (k at : ℕ) (w : List ℕ) (x : ℕ) → inside at w x ≡ false → reaches at w x k ≡ false
-unfolding reaches
-reaches-not zero at w x e = e
-reaches-not (suc k) at w x e = rw e
-
 pub putUpward-off : (n at : ℕ) (w : List ℕ) (x v y : ℕ) → n ≤ place x y → byteAt at (putUpward n at w x v) y ≡ byteAt at w y
 unfolding putUpward
 putUpward-off zero at w x v y h = refl
 putUpward-off (suc n) at w x v y h =
-    go (inside at w x) (putUpward n at (putByte at w x v) (x + 1) (v / 256))
+    choose (λ u. byteAt at u y ≡ byteAt at w y) (inside at w x) (putUpward n at (putByte at w x v) (x + 1) (v / 256)) w
     (putUpward-off n at (putByte at w x v) (x + 1) (v / 256) y (place-next x y n h)
     ∙ byteAt-other at w x v y (place-self at x y n h))
-  where
-    go : (b : Bool) (u : List ℕ) → byteAt at u y ≡ byteAt at w y → byteAt at (if b then u else w) y ≡ byteAt at w y
-    go true u e = e
-    go false u e = refl
+    refl
 
 -- byte k after it
 abbrev pub raised : ℕ → List ℕ → ℕ → ℕ → ℕ → ℕ
@@ -313,19 +391,39 @@ pub putPrivileged-off
 unfolding putPrivileged
 putPrivileged-off at w x v y h = putUpward-off 4 at w x v y h
 
--- wholly inside, a privileged write is an ordinary one
-putUpward-inside
-    : (n at : ℕ) (w : List ℕ) (x v : ℕ) → ((k : ℕ) → k < n → place at (x + k) < length w) → putUpward n at w x v ≡ putBytes n at w x v
+-- a word read where a privileged write went, and one that shares no address with it
+pub wordAt-putPrivileged
+    : (at : ℕ) (w : List ℕ) (x v : ℕ)
+    → wordAt at (putPrivileged at w x v) x ≡ join (raised at w x v 0) (raised at w x v 1) (raised at w x v 2) (raised at w x v 3)
+wordAt-putPrivileged at w x v =
+    wordAt-bytes at (putPrivileged at w x v) x (raised at w x v) (λ k l. putPrivileged-at at w x v k l)
+
+pub wordAt-apart-privileged
+    : (at : ℕ) (w : List ℕ) (x v y : ℕ) → 4 ≤ place x y → 4 ≤ place y x → wordAt at (putPrivileged at w x v) y ≡ wordAt at w y
+wordAt-apart-privileged at w x v y h g =
+    wordAt-kept at (putPrivileged at w x v) w y (λ k l. putPrivileged-off at w x v (y + k) (place-within x y k h g l))
+
+-- a privileged write is an ordinary one of the n bytes before the first outside, or of all where none is
+pub putUpward-cut
+    : (m n at : ℕ) (w : List ℕ) (x v : ℕ) → n ≤ m → ((k : ℕ) → k < n → place at (x + k) < length w)
+    → (n < m → length w ≤ place at (x + n)) → putUpward m at w x v ≡ putBytes n at w x v
 unfolding putUpward putBytes
-putUpward-inside zero at w x v h = refl
-putUpward-inside (suc n) at w x v h =
+putUpward-cut zero zero at w x v l h o = refl
+putUpward-cut zero (suc n) at w x v l h o = absurd (omega arith)
+putUpward-cut (suc m) zero at w x v l h o =
     let z : x + 0 ≡ x = omega arith in
+    putUpward-outside (suc m) at w x v (rw z at (o (omega arith)))
+putUpward-cut (suc m) (suc n) at w x v l h o =
+    let z : x + 0 ≡ x = omega arith in
+    let e : x + 1 + n ≡ x + suc n = omega arith in
     let i : place at x < length w = rw z at (h 0 (omega arith)) in
-    let r : putUpward n at (putByte at w x v) (x + 1) (v / 256) ≡ putBytes n at (putByte at w x v) (x + 1) (v / 256) =
-    putUpward-inside n at (putByte at w x v) (x + 1) (v / 256)
-    (λ k l. let e : x + 1 + k ≡ x + suc k = omega arith in rw (length-putByte, e) (h (suc k) (omega arith))) in
-    simp (inside-yes at w x i, r)
+    simp (
+      inside-yes at w x i,
+      putUpward-cut m n at (putByte at w x v) (x + 1) (v / 256) (omega arith)
+          (λ k g. let f : x + 1 + k ≡ x + suc k = omega arith in rw (length-putByte, f) (h (suc k) (omega arith)))
+          (λ g. rw (length-putByte, e) (o (omega arith))),
+    )
 
 pub putPrivileged-inside : (at : ℕ) (w : List ℕ) (x v : ℕ) → Whole at w x → putPrivileged at w x v ≡ putWord at w x v
 unfolding putPrivileged putWord
-putPrivileged-inside at w x v h = putUpward-inside 4 at w x v h
+putPrivileged-inside at w x v h = putUpward-cut 4 4 at w x v (omega arith) h (λ l. absurd (omega arith))

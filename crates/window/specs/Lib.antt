@@ -1,8 +1,11 @@
 -- The definitions that the contracts of `window` cite, and their laws.
+pub mod Tests
 pub mod Memory
 pub mod Bytes
+pub mod Edges
 pub mod Word
 pub mod Access
+pub mod Small
 pub mod Loop
 pub mod Within
 pub mod Mirror

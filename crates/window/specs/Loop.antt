@@ -1,6 +1,6 @@
 -- A counted loop of programs: `body i`, `body (i + 1)`, .., n of them, each handed what the one before gave.
 use Prim.Native.Nat.{ℕ, zero, suc, _+_, _-_, _≤_, _<_}
-use mathlib.Core.Path.{_≡_, refl, sym, ap, _∙_, subst}
+use mathlib.Core.Path.{_≡_, refl}
 use mathlib.Core.List.{List}
 use native.Mathlib.Omega.{arith}
 use Rattle.window.specs.Access.{Prog, ret, _>>=_, run, run-bind, Reads, reads-bind}

@@ -1,16 +1,16 @@
 -- Programs on plain bytes, `ℕ → ℕ`, with no window: a run in S is the same there.
-use Prim.Native.Nat.{ℕ, _+_, _-_, _*_, _%_, _<_}
-use mathlib.Core.Path.{_≡_, refl, sym, ap, _∙_, subst}
+use Prim.Native.Nat.{ℕ, _+_, _-_, _%_, _<_}
+use mathlib.Core.Path.{_≡_, refl, sym, _∙_, subst}
 use mathlib.Core.Logic.{_≢_}
 use mathlib.Core.List.{List}
-use mathlib.Core.Bool.{Bool}
 use native.Mathlib.Omega.{arith}
 use native.Mathlib.Decide.{decLt, ℕ-discrete}
 use lib.ListN.{length}
 use lib.Dec.{eqb, ltb, lit<}
 use borrow.Author.Tests.{eq-eqb, ne-eqb, lt-ltb, le-ltb}
 use Rattle.window.specs.Memory.{if_then_else_, byteAt, wordAt, putByte, putWord, putPrivileged}
-use Rattle.window.specs.Bytes.{byteOf, join, byteAt-same, byteAt-other, putBytes-on, length-putByte, length-putWord, length-putPrivileged}
+use Rattle.window.specs.Bytes.{byteOf, join, join-at, byteAt-same, byteAt-other, putBytes-on}
+use Rattle.window.specs.Bytes.{length-putByte, length-putWord, length-putPrivileged}
 use Rattle.window.specs.Access.{Prog, ret, read8, read32, write8, write32, writePrivileged, run}
 use Rattle.window.specs.Within.{In, dec-in, in-range, off-byte, Four, Within, Lies, Agree, four-privileged, word-off}
 
@@ -35,10 +35,7 @@ runM (writePrivileged p v k) M = runM k (put4 M p v)
 -- equal bytes give equal words
 pub word-same : (M N : ℕ → ℕ) (p : ℕ) → ((k : ℕ) → k < 4 → M (p + k) ≡ N (p + k)) → word M p ≡ word N p
 unfolding word
-word-same M N p h =
-    let z : p + 0 ≡ p = omega arith in
-    let b₀ : M p ≡ N p = rw z at (h 0 (lit< tt)) in
-    rw (b₀, h 1 (lit< tt), h 2 (lit< tt), h 3 (lit< tt))
+word-same M N p h = join-at M (λ k. N (p + k)) p h ∙ sym (join-at N (λ k. N (p + k)) p (λ k l. refl))
 
 pub wordAt-word : (at : ℕ) (w : List ℕ) (p : ℕ) → wordAt at w p ≡ word (byteAt at w) p
 unfolding wordAt word
@@ -69,7 +66,8 @@ put4-off M p v q o = go (decLt q p) (decLt q (p + 4))
 
 module _ (S : ℕ → Type 0) (at n : ℕ) (fit : Lies S at n) where
   byte-mirrored
-      : (p v : ℕ) (w : List ℕ) (M : ℕ → ℕ) → length w ≡ n → S p → Agree S (byteAt at w) M → Agree S (byteAt at (putByte at w p v)) (put1 M p v)
+      : (p v : ℕ) (w : List ℕ) (M : ℕ → ℕ) → length w ≡ n → S p → Agree S (byteAt at w) M
+      → Agree S (byteAt at (putByte at w p v)) (put1 M p v)
   byte-mirrored p v w M l s g q t = go (ℕ-discrete q p)
     where
       go : Dec (q ≡ p) → byteAt at (putByte at w p v) q ≡ put1 M p v q
@@ -90,7 +88,7 @@ module _ (S : ℕ → Type 0) (at n : ℕ) (fit : Lies S at n) where
           in-range (λ x. byteAt at (putWord at w p v) x ≡ put4 M p v x) p 4 q i
           (λ k h. putBytes-on 4 k at w p v h (lit< tt) (rw l (fit (p + k) (s k h) .1)) ∙ sym (put4-on M p v k h))
       go (no m) =
-          word-off S at n fit p v w s q (fit q t .0) m
+          word-off S at (λ r u. fit r u .0) p v w s q (fit q t .0) m
           ∙ g q t
           ∙ sym (put4-off M p v q m)
 

@@ -8,7 +8,7 @@ use native.Mathlib.Decide.{decLe, decLt}
 use lib.ListN.{length}
 use lib.Dec.{lit<}
 use Rattle.window.specs.Memory.{place, byteAt, wordAt, putByte, putWord, putPrivileged}
-use Rattle.window.specs.Bytes.{byteAt-other, length-putByte, length-putWord, length-putPrivileged, putBytes-off, putPrivileged-inside}
+use Rattle.window.specs.Bytes.{byteAt-other, putBytes-off, putPrivileged-off, putPrivileged-inside}
 use Rattle.window.specs.Access.{Prog, ret, read8, read32, write8, write32, writePrivileged, _>>=_, run}
 use Rattle.window.specs.Loop.{loop}
 
@@ -49,7 +49,10 @@ Within S at (write8 p v k) w = S p × Within S at k (putByte at w p v)
 Within S at (write32 p v k) w = Four S p × Within S at k (putWord at w p v)
 Within S at (writePrivileged p v k) w = Four S p × Within S at k (putPrivileged at w p v)
 
--- S lies in a window of n bytes from `at`
+-- S holds addresses only; S lies in a window of n bytes from `at`
+abbrev pub Low : (ℕ → Type 0) → Type 0
+Low S = (q : ℕ) → S q → q < 2 ^ 32
+
 abbrev pub Lies : (ℕ → Type 0) → ℕ → ℕ → Type 0
 Lies S at n = (q : ℕ) → S q → (q < 2 ^ 32) × (place at q < n)
 
@@ -60,32 +63,36 @@ Agree S M N = (q : ℕ) → S q → M q ≡ N q
 abbrev pub Untouched : (ℕ → Type 0) → (ℕ → ℕ) → (ℕ → ℕ) → Type 0
 Untouched S M N = (q : ℕ) → q < 2 ^ 32 → (S q → ⊥) → N q ≡ M q
 
-module _ (S : ℕ → Type 0) (at n : ℕ) (fit : Lies S at n) where
-  pub four-top : (p : ℕ) → Four S p → p + 4 ≤ 2 ^ 32
-  four-top p s = omega (arith, fit (p + 3) (s 3 (lit< tt)) .0)
+-- in a window that holds S, a privileged write in S is an ordinary one
+pub four-privileged
+    : (S : ℕ → Type 0) (at n : ℕ) → Lies S at n → (p v : ℕ) (w : List ℕ) → length w ≡ n → Four S p
+    → putPrivileged at w p v ≡ putWord at w p v
+four-privileged S at n fit p v w l s = putPrivileged-inside at w p v (λ k h. rw l (fit (p + k) (s k h) .1))
 
-  -- in S a privileged write is an ordinary one
-  pub four-privileged : (p v : ℕ) (w : List ℕ) → length w ≡ n → Four S p → putPrivileged at w p v ≡ putWord at w p v
-  four-privileged p v w l s = putPrivileged-inside at w p v (λ k h. rw l (fit (p + k) (s k h) .1))
+module _ (S : ℕ → Type 0) (at : ℕ) (low : Low S) where
+  pub four-top : (p : ℕ) → Four S p → p + 4 ≤ 2 ^ 32
+  four-top p s = omega (arith, low (p + 3) (s 3 (lit< tt)))
 
   pub word-off : (p v : ℕ) (w : List ℕ) → Four S p → Untouched (In p 4) (byteAt at w) (byteAt at (putWord at w p v))
   unfolding putWord
   word-off p v w s q b o = putBytes-off 4 at w p v q (off-place p 4 q (four-top p s) b o)
 
+  off-four : (p q : ℕ) → Four S p → q < 2 ^ 32 → (S q → ⊥) → 4 ≤ place p q
+  off-four p q s b o = off-place p 4 q (four-top p s) b (λ i. o (in-range S p 4 q i s))
+
   pub untouched
-      : {A : Type 0} (m : Prog A) (w : List ℕ) → length w ≡ n → Within S at m w → Untouched S (byteAt at w) (byteAt at (run at m w .1))
-  unfolding run Within
-  untouched (ret a) w l h q b o = refl
-  untouched (read8 p k) w l h q b o = untouched (k (byteAt at w p)) w l (h .1) q b o
-  untouched (read32 p k) w l h q b o = untouched (k (wordAt at w p)) w l (h .1) q b o
-  untouched (write8 p v k) w l h q b o =
-      untouched k (putByte at w p v) (length-putByte at w p v ∙ l) (h .1) q b o
-      ∙ byteAt-other at w p v q (off-byte at p q (fit p (h .0) .0) b (λ e. o (rw e (h .0))))
-  untouched (write32 p v k) w l h q b o =
-      untouched k (putWord at w p v) (length-putWord at w p v ∙ l) (h .1) q b o ∙ word-off p v w (h .0) q b (λ i. o (in-range S p 4 q i (h .0)))
-  untouched (writePrivileged p v k) w l h q b o =
-      let e : putPrivileged at w p v ≡ putWord at w p v = four-privileged p v w l (h .0) in
-      untouched k (putPrivileged at w p v) (length-putPrivileged at w p v ∙ l) (h .1) q b o ∙ rw e (word-off p v w (h .0) q b (λ i. o (in-range S p 4 q i (h .0))))
+      : {A : Type 0} (m : Prog A) (w : List ℕ) → Within S at m w → Untouched S (byteAt at w) (byteAt at (run at m w .1))
+  unfolding run Within putWord
+  untouched (ret a) w h q b o = refl
+  untouched (read8 p k) w h q b o = untouched (k (byteAt at w p)) w (h .1) q b o
+  untouched (read32 p k) w h q b o = untouched (k (wordAt at w p)) w (h .1) q b o
+  untouched (write8 p v k) w h q b o =
+      untouched k (putByte at w p v) (h .1) q b o
+      ∙ byteAt-other at w p v q (off-byte at p q (low p (h .0)) b (λ e. o (rw e (h .0))))
+  untouched (write32 p v k) w h q b o =
+      untouched k (putWord at w p v) (h .1) q b o ∙ putBytes-off 4 at w p v q (off-four p q (h .0) b o)
+  untouched (writePrivileged p v k) w h q b o =
+      untouched k (putPrivileged at w p v) (h .1) q b o ∙ putPrivileged-off at w p v q (off-four p q (h .0) b o)
 
 module _ (S : ℕ → Type 0) (at : ℕ) where
   pub within-bind

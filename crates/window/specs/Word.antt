@@ -4,6 +4,7 @@ use mathlib.Core.List.{List}
 use lib.ListN.{getD, set}
 use Rattle.window.specs.Bytes.{join}
 
+-- Document 01: "A word is four bytes, lowest first."
 unfoldable pub wordIn : List ℕ → ℕ → ℕ
 wordIn w i = join (getD w i 0) (getD w (i + 1) 0) (getD w (i + 2) 0) (getD w (i + 3) 0)
 

@@ -1,5 +1,5 @@
 // A window on a 32-bit address space: its first address `at` and its bytes `w`. Every sum of addresses wraps at 2^32.
-// The six accesses stand here, names in `name`; no other crate indexes a window.
+// The test of a window and the five accesses stand here, names in `name`; no other crate indexes a window.
 pub mod name;
 
 ghost use mathlib.Core.Path.{_≡_};
@@ -126,10 +126,10 @@ pub fn store32(w: &mut [u8], i: usize, v: u32)
 fn read32_split(at: u32, w: &[u8], x: u32) -> u32
     ensures { λ r. ⌜ r ≡ wordAt at (now (w .entry)) x ⌝ }
 {
-    let b0 = read8(at, w, x) as u32;
-    let b1 = read8(at, w, std::num::wrapping_add_u32(x, 1)) as u32;
-    let b2 = read8(at, w, std::num::wrapping_add_u32(x, 2)) as u32;
-    let b3 = read8(at, w, std::num::wrapping_add_u32(x, 3)) as u32;
+    let b0 = wide(read8(at, w, x));
+    let b1 = wide(read8(at, w, std::num::wrapping_add_u32(x, 1)));
+    let b2 = wide(read8(at, w, std::num::wrapping_add_u32(x, 2)));
+    let b3 = wide(read8(at, w, std::num::wrapping_add_u32(x, 3)));
     b0 + 256 * (b1 + 256 * (b2 + 256 * b3))
 }
 

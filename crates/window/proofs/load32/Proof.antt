@@ -1,3 +1,4 @@
+-- Each byte is below 256, so no sum overflows, and the sum is the word of the four bytes.
 use native.Mathlib.Omega.{arith}
 use borrow.Author.Needs.{needs}
 use Rattle.window.specs.Word.{wordIn}

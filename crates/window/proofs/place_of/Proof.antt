@@ -1,3 +1,4 @@
+-- A wrapped difference is `place`, by definition.
 use borrow.Author.Needs.{needs}
 use Rattle.window.specs.Memory.{place}
 use Rattle.window.proofs.place_of.Statement.{statement}

@@ -1,3 +1,4 @@
+-- Where the four places are in a row the word in them is `wordAt`; elsewhere the callee reads it byte by byte.
 use mathlib.Core.Path.{_∙_}
 use borrow.Author.Needs.{needs}
 use Rattle.window.proofs.Laws.{whole-row, row-word}

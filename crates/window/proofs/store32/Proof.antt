@@ -1,3 +1,4 @@
+-- The four stores are those of `setWordIn`, one by one.
 use mathlib.Core.Path.{refl}
 use native.Mathlib.Omega.{arith}
 use lib.ListN.{length-set}

@@ -1,3 +1,4 @@
+-- The second test is made only where the first holds, so that its sum does not overflow.
 use borrow.Author.Tests.{le-leb, lt-leb}
 use borrow.Author.Needs.{needs}
 use Rattle.window.proofs.whole.Statement.{statement}

@@ -1,3 +1,4 @@
+-- Where the four places are in a row the word stored in them is `putWord`; elsewhere the callee stores it byte by byte.
 use mathlib.Core.Path.{_∙_}
 use borrow.Author.Needs.{needs}
 use Rattle.window.proofs.Laws.{whole-row, row-put}
@@ -17,7 +18,10 @@ same-length : tie.Need-same-length
 same-length c = search needs
 
 returns : tie.Need-returns
-returns c = c .before .before .store32 .ensures ∙ row-put _ _ _ _ (c .before .before .before .before .before .before .place-of .ensures) (whole-row _ _ (c .before .before .before .before .before .whole .ensures) (c .before .before .before .before .if1 .taken) .0) _
+returns c =
+    let t = c .before .before .before .before in
+    c .before .before .store32 .ensures
+    ∙ row-put _ _ _ _ (t .before .before .place-of .ensures) (whole-row _ _ (t .before .whole .ensures) (t .if1 .taken) .0) _
 
 write32-split-requires : tie.Need-write32-split-requires
 write32-split-requires c κs = search needs

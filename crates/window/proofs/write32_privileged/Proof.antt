@@ -1,3 +1,4 @@
+-- Where the four places are in a row all four are inside, so nothing stops the write; elsewhere the callee goes byte by byte.
 use mathlib.Core.Path.{_∙_}
 use borrow.Author.Needs.{needs}
 use Rattle.window.proofs.Laws.{whole-row, row-privileged}
@@ -17,8 +18,10 @@ same-length : tie.Need-same-length
 same-length c = search needs
 
 returns : tie.Need-returns
-returns c = let t = whole-row _ _ (c .before .before .before .before .before .whole .ensures) (c .before .before .before .before .if1 .taken) in
-    c .before .before .store32 .ensures ∙ row-privileged _ _ _ _ (c .before .before .before .before .before .before .place-of .ensures) (t .0) _ (t .1)
+returns c =
+    let t = c .before .before .before .before in
+    let r = whole-row _ _ (t .before .whole .ensures) (t .if1 .taken) in
+    c .before .before .store32 .ensures ∙ row-privileged _ _ _ _ (t .before .before .place-of .ensures) (r .0) _ (r .1)
 
 write32-upward-requires : tie.Need-write32-upward-requires
 write32-upward-requires c κs = search needs

@@ -1,3 +1,4 @@
+-- The four byte writes are those of `putWord`, each at its address modulo 2 ^ 32.
 use borrow.Author.Needs.{needs}
 use Rattle.window.proofs.Laws.{putWord-steps}
 use Rattle.window.proofs.write32_split.Statement.{statement}

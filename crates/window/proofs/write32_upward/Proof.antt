@@ -1,3 +1,4 @@
+-- The invariant: the writes still to be made, on the window as it stands, give what all four give on the window at entry.
 use Prim.Native.Nat.{_≤_, _<_, _-_, _^_}
 use mathlib.Core.Path.{_≡_, refl, _∙_}
 use native.Mathlib.Omega.{arith}
@@ -27,7 +28,7 @@ same-length c = search needs
 returns : tie.Need-returns Inv-loop μ-loop
 unfolding putPrivileged
 returns c =
-    upward-stop 4 _ _ _ _ _ (search needs) (c .before .place-of .ensures) (c .if1 .taken) ∙ c .before .before .before .loop .inv .3
+    upward-stop 4 _ _ _ _ _ (c .before .place-of .ensures) (c .if1 .taken) ∙ c .before .before .before .loop .inv .3
 
 cast-w : tie.Need-cast-w Inv-loop μ-loop
 cast-w c = omega arith

@@ -1,3 +1,4 @@
+-- The invariant: what is left of the two names from place i on stands in the same order as the names.
 use Prim.Native.Nat.{_≤_, _-_}
 use mathlib.Core.Path.{_≡_, refl, _∙_}
 use native.Mathlib.Omega.{arith}
@@ -26,7 +27,9 @@ shared-slice-read-if2-2 : tie.Need-shared-slice-read-if2-2 Inv-loop μ-loop
 shared-slice-read-if2-2 c = omega arith
 
 returns-2 : tie.Need-returns-2 Inv-loop μ-loop
-returns-2 c = order-less _ _ _ (c .before .before .before .before .loop-test .taken) (c .before .before .before .if1 .left) (c .if2 .taken) ∙ c .before .before .before .before .before .loop .inv .2
+returns-2 c =
+    let t = c .before .before .before in
+    order-less _ _ _ (t .before .loop-test .taken) (t .if1 .left) (c .if2 .taken) ∙ t .before .before .loop .inv .2
 
 shared-slice-read-if3 : tie.Need-shared-slice-read-if3 Inv-loop μ-loop
 shared-slice-read-if3 c = omega arith
@@ -35,7 +38,10 @@ shared-slice-read-if3-2 : tie.Need-shared-slice-read-if3-2 Inv-loop μ-loop
 shared-slice-read-if3-2 c = omega arith
 
 returns-3 : tie.Need-returns-3 Inv-loop μ-loop
-returns-3 c = order-more _ _ _ (c .before .before .before .before .before .before .before .loop-test .taken) (c .before .before .before .before .before .before .if1 .left) (c .before .before .before .if2 .left) (c .if3 .taken) ∙ c .before .before .before .before .before .before .before .before .loop .inv .2
+returns-3 c =
+    let u = c .before .before .before in
+    let t = u .before .before .before in
+    order-more _ _ _ (t .before .loop-test .taken) (t .if1 .left) (u .if2 .left) (c .if3 .taken) ∙ t .before .before .loop .inv .2
 
 add-i : tie.Need-add-i Inv-loop μ-loop
 add-i c = omega arith
@@ -44,11 +50,13 @@ loop-less : tie.Need-loop-less Inv-loop μ-loop
 loop-less c = omega arith
 
 loop-again : tie.Need-loop-again Inv-loop μ-loop
-loop-again c = (
-  omega arith,
-  omega arith,
-  order-on _ _ _ (c .before .before .before .before .before .before .before .loop-test .taken) (c .before .before .before .before .before .before .if1 .left) (c .before .before .before .if2 .left) (c .if3 .left) ∙ c .before .before .before .before .before .before .before .before .loop .inv .2,
-)
+loop-again c =
+    let u = c .before .before .before in
+    let t = u .before .before .before in (
+      omega arith,
+      omega arith,
+      order-on _ _ _ (t .before .loop-test .taken) (t .if1 .left) (u .if2 .left) (c .if3 .left) ∙ t .before .before .loop .inv .2,
+    )
 
 returns-4 : tie.Need-returns-4 Inv-loop μ-loop
 returns-4 c = order-shorter _ _ _ (c .before .loop-test .left) (c .if4 .taken) ∙ c .before .before .loop .inv .2

@@ -1,3 +1,4 @@
+-- The invariant: the bytes in the buffer and the name still to be read from p on are the name; the rest of the buffer is as at entry.
 use Prim.Native.Nat.{_≤_, _<_, _-_}
 use mathlib.Core.Path.{_≡_, refl, sym, ap, _∙_}
 use mathlib.Core.List.{_++_}
@@ -34,10 +35,12 @@ same-length : tie.Need-same-length Inv-loop μ-loop
 same-length c = search needs
 
 returns-2 : tie.Need-returns-2 Inv-loop μ-loop
-returns-2 c = let l = c .before .before .before .loop in
+returns-2 c =
+    let t = c .before .before in
+    let l = t .before .loop in
     let h : l .n ≤ length (l .buffer) = omega arith in
-    rw (name-some _ (c .before .before .before .before .if1 .left))
-    (laid _ _ _ h (l .inv .2) (name-end 512 _ _ _ _ (c .before .before .loop-test .taken) (c .before .read8 .ensures) (c .if2 .taken)) (l .inv .3))
+    let e = name-end 512 _ _ _ _ (t .loop-test .taken) (c .before .read8 .ensures) (c .if2 .taken) in
+    rw (name-some _ (t .before .before .if1 .left)) (laid _ _ _ h (l .inv .2) e (l .inv .3))
 
 slice-write-buffer : tie.Need-slice-write-buffer Inv-loop μ-loop
 slice-write-buffer c = omega arith
@@ -52,22 +55,24 @@ loop-less : tie.Need-loop-less Inv-loop μ-loop
 loop-less c = omega arith
 
 loop-again : tie.Need-loop-again Inv-loop μ-loop
-loop-again c = let l = c .before .before .before .before .loop in
-    let h : l .n < length (l .buffer) = omega arith in (
+loop-again c =
+    let t = c .before .before in
+    let l = t .before .before .loop in
+    let h : l .n < length (l .buffer) = omega arith in
+    let m = t .before .loop-test .taken in
+    let e = name-next 512 _ _ _ _ m (t .read8 .ensures) (c .before .if2 .left) (c .wrapping-add-u32 .ensures) in (
       omega arith,
       simp length-set (l .inv .1),
-      laid-turn _ _ _ _ h
-          ∙ ap (λ r. take (l .n) (l .buffer) ++ r)
-          (sym (name-next 512 _ _ _ _ (c .before .before .before .loop-test .taken) (c .before .before .read8 .ensures) (c .before .if2 .left) (c .wrapping-add-u32 .ensures)))
-          ∙ l .inv .2,
-      laid-rest (l .n) (l .buffer) _ (c .before .before .read8 .result) (l .inv .3),
+      laid-turn _ _ _ _ h ∙ ap (λ r. take (l .n) (l .buffer) ++ r) (sym e) ∙ l .inv .2,
+      laid-rest (l .n) (l .buffer) _ (t .read8 .result) (l .inv .3),
     )
 
 same-length-2 : tie.Need-same-length-2 Inv-loop μ-loop
 same-length-2 c = search needs
 
 returns-3 : tie.Need-returns-3 Inv-loop μ-loop
-returns-3 c = let l = c .before .loop in
+returns-3 c =
+    let l = c .before .loop in
     let h : l .n ≤ length (l .buffer) = omega arith in
     rw (name-some _ (c .before .before .if1 .left)) (laid _ _ _ h (l .inv .2) (name-full 512 _ _ _ _ (c .loop-test .left)) (l .inv .3))
 
