@@ -53,7 +53,7 @@ unfolding flat bytesOf
 length-flat [] = refl
 length-flat (v ∷ vs) = let h = length-flat vs in omega arith
 
-words-flat : (ws rest : List ℕ) → Below (2 ^ 32) ws → wordsIn (flat ws ++ rest) ≡ ws ++ wordsIn rest
+pub words-flat : (ws rest : List ℕ) → Below (2 ^ 32) ws → wordsIn (flat ws ++ rest) ≡ ws ++ wordsIn rest
 unfolding wordsIn flat bytesOf
 words-flat [] rest b = refl
 words-flat (v ∷ vs) rest b =
@@ -73,7 +73,7 @@ byte-join a b c d ha hb hc hd =
     let e₃ : d % 256 ≡ d = omega arith in
     rw (q₁, q₂, q₃, e₀, e₁, e₂, e₃)
 
-take-words : (n : ℕ) (l : List ℕ) → 4 * n ≤ length l → Below 256 l → take (4 * n) l ≡ flat (take n (wordsIn l))
+pub take-words : (n : ℕ) (l : List ℕ) → 4 * n ≤ length l → Below 256 l → take (4 * n) l ≡ flat (take n (wordsIn l))
 unfolding wordsIn flat
 take-words zero l h b = refl
 take-words (suc n) [] h b = absurd (omega arith)
@@ -94,7 +94,7 @@ unsettled ws = go (eqb (getD ws 0 0) 0 && eqb (getD ws 3 0) 0)
     go true = sym (set-set ws 3 32 (getD ws 3 0) ∙ set-getD ws 3 0)
     go false = sym (set-getD ws 3 0)
 
-more-than-three : (r : Register) → 3 < length (encodeWords r)
+pub more-than-three : (r : Register) → 3 < length (encodeWords r)
 unfolding encodeWords
 more-than-three r = omega arith
 
@@ -102,7 +102,7 @@ words-padded : (n : ℕ) (ws : List ℕ) → Below (2 ^ 32) ws → wordsIn (padd
 unfolding padded
 words-padded n ws b = words-flat ws (replicate (n - length (flat ws)) 0) b
 
-drop-padded : (n : ℕ) (e : List ℕ) (k : ℕ) → length e ≡ k → drop k (padded n e) ≡ replicate (n - length e) 0
+pub drop-padded : (n : ℕ) (e : List ℕ) (k : ℕ) → length e ≡ k → drop k (padded n e) ≡ replicate (n - length e) 0
 unfolding padded
 drop-padded n e k h = drop-at e (replicate (n - length e) 0) k h
 
@@ -148,8 +148,7 @@ names-are records names missing r e =
     let t₄ : Bool = holds missing (slots (r .missing)) in
     let a = both t₁ (t₂ && (t₃ && t₄)) e in
     let b = both t₂ (t₃ && t₄) (a .1) in
-    let c = both t₃ t₄ (b .1) in
-    (
+    let c = both t₃ t₄ (b .1) in (
       holds-padded names (recordNames (r .modules)) (b .0),
       holds-padded missing (slots (r .missing)) (c .1),
       eqb-true (length missing) 32896 (c .0),

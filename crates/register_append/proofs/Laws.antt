@@ -1,0 +1,231 @@
+-- From the code's loops and tests to the definitions of `Draft`.
+use Prim.Native.Nat.{ℕ, zero, suc, _+_, _-_, _*_, _/_, _%_, _^_, _≤_, _<_}
+use mathlib.Core.Path.{_≡_, refl, sym, ap, _∙_}
+use mathlib.Core.List.{List, [], _∷_}
+use mathlib.Core.Bool.{Bool, true, false}
+use native.Mathlib.Omega.{arith}
+use native.Mathlib.Decide.{decLt}
+use native.Mathlib.Numerals.{add-one}
+use lib.ListN.{length, take, drop, getD, set, replicate, length-drop, drop-of-length-le}
+use lib.Seq.{sets, drop-cons, length-take-le}
+use lib.Dec.{leb, ltb}
+use borrow.Author.Tests.{lt-ltb, le-ltb, le-leb, lt-leb}
+use Rattle.window.specs.Memory.{if_then_else_}
+use Rattle.window.specs.Word.{wordIn, setWordIn}
+use Rattle.register_append.specs.declared.draft.Draft.{Draft}
+use Rattle.register_append.specs.declared.draft.Drafted.{Drafted}
+use Rattle.register_append.specs.declared.draft.Drafted.the-variants.{Open, Full}
+use Rattle.register.specs.Words.{part, same, flat, wordsIn, length-words}
+use Rattle.register.specs.Encode.{flag}
+use Rattle.register.specs.Module.{Export, findFrom, findExport}
+use Rattle.register.specs.Decode.{exportsFrom, exportsIn}
+use Rattle.register.specs.declared.exports.Found.{Found}
+use Rattle.register.specs.declared.exports.Found.the-variants.{At, Nothing}
+use Rattle.register_append.specs.Draft.{roomIn, longer, pushWord, countUp, pushListed, addedTo, exportWritten, addExport, exportPlace, exportCount, exportsSoFar, putAt, putExport, usedBytes, usedNames, firstWords, draftAt, beginRecord}
+
+-- a copy, i bytes of it made
+pub copy-turn
+    : (b source : List ℕ) (place i : ℕ) → i < length source
+    → sets (set b (place + i) (getD source i 0)) (place + (i + 1)) (drop (i + 1) source) ≡ sets b (place + i) (drop i source)
+copy-turn b source place i h =
+    let e : place + (i + 1) ≡ suc (place + i) = omega arith in
+    rw (e, drop-cons source i 0 h, add-one)
+
+pub copy-end : (b source : List ℕ) (place i : ℕ) → length source ≤ i → b ≡ sets b (place + i) (drop i source)
+copy-end b source place i h = rw (drop-of-length-le source h)
+
+-- zeros, from i up to `to`
+pub clear-turn
+    : (b : List ℕ) (to i : ℕ) → i < to → sets (set b i 0) (i + 1) (replicate (to - (i + 1)) 0) ≡ sets b i (replicate (to - i) 0)
+clear-turn b to i h = let e : to - i ≡ suc (to - (i + 1)) = omega arith in rw (e, add-one)
+
+pub clear-end : (b : List ℕ) (to i : ℕ) → to ≤ i → b ≡ sets b i (replicate (to - i) 0)
+clear-end b to i h = let e : to - i ≡ 0 = omega arith in rw e
+
+-- the room, and whether a word fits
+
+pub room-small : (n : ℕ) → n < 0xffff_ffff → n ≡ roomIn n
+unfolding roomIn
+room-small n h = rw (lt-ltb n 0xffff_ffff h)
+
+pub room-large : (n : ℕ) → 0xffff_ffff ≤ n → 0xffff_ffff ≡ roomIn n
+unfolding roomIn
+room-large n h = rw (le-ltb n 0xffff_ffff h)
+
+pub room-inside : (n : ℕ) → roomIn n ≤ n
+unfolding roomIn
+room-inside n = elim (decLt n 0xffff_ffff) [ yes l ↦ rw (lt-ltb n 0xffff_ffff l) (omega arith) | no l ↦ rw (le-ltb n 0xffff_ffff (omega arith)) (omega arith) ]
+
+pub room-word : (n : ℕ) → roomIn n < 2 ^ 32
+unfolding roomIn
+room-word n = elim (decLt n 0xffff_ffff) [ yes l ↦ rw (lt-ltb n 0xffff_ffff l) (omega arith) | no l ↦ rw (le-ltb n 0xffff_ffff (omega arith)) (omega arith) ]
+
+module _ (records : List ℕ) (d : Draft) (v : ℕ) {free : ℕ} (e : free ≡ roomIn (length records)) where
+  pub push-full : free < d .end + 4 → _≡_ {A = Drafted × List ℕ} (Full, records) (pushWord records d v)
+  unfolding pushWord
+  push-full h = rw (← e, lt-leb (d .end + 4) free h)
+
+  pub push-open
+      : d .end + 4 ≤ free → _≡_ {A = Drafted × List ℕ} (Open (longer d 4), setWordIn records (d .end) v) (pushWord records d v)
+  unfolding pushWord
+  push-open h = rw (← e, le-leb (d .end + 4) free h)
+
+  pub push-fits : d .end + 4 ≤ free → d .end + 4 ≤ length records
+  push-fits h = let g = room-inside (length records) in omega arith
+
+-- a push, seen from its answer
+
+open-same : (a b : Draft) → Open a ≡ Open b → a ≡ b
+open-same a b e = cc
+
+module _ (records : List ℕ) (d : Draft) (v field : ℕ) {r : Drafted} {after : List ℕ} (e : _≡_ {A = Drafted × List ℕ} (r, after) (pushWord records d v)) where
+  pub listed-full : r ≡ Full → _≡_ {A = Drafted × List ℕ} (Full, after) (pushListed records d field v)
+  unfolding pushWord pushListed
+  listed-full z = go (leb (d .end + 4) (roomIn (length records))) e
+    where
+      go
+          : (b : Bool) → _≡_ {A = Drafted × List ℕ} (r, after) (if b then (Open (longer d 4), setWordIn records (d .end) v) else (Full, records))
+          → _≡_ {A = Drafted × List ℕ} (Full, after)
+          (if b then (Open (longer d 4), countUp (setWordIn records (d .end) v) (longer d 4) field) else (Full, records))
+      go true p = let x : r ≡ Open (longer d 4) = ap (λ t. t .0) p in let y : _≡_ {A = ℕ} 0 1 = cc in absurd (omega arith)
+      go false p = let x : after ≡ records = ap (λ t. t .1) p in rw x
+
+  pub listed-open : (next : Draft) → r ≡ Open next → _≡_ {A = Drafted × List ℕ} (Open next, countUp after next field) (pushListed records d field v)
+  unfolding pushWord pushListed
+  listed-open next z = go (leb (d .end + 4) (roomIn (length records))) e
+    where
+      go
+          : (b : Bool) → _≡_ {A = Drafted × List ℕ} (r, after) (if b then (Open (longer d 4), setWordIn records (d .end) v) else (Full, records))
+          → _≡_ {A = Drafted × List ℕ} (Open next, countUp after next field)
+          (if b then (Open (longer d 4), countUp (setWordIn records (d .end) v) (longer d 4) field) else (Full, records))
+      go true p =
+          let x : after ≡ setWordIn records (d .end) v = ap (λ t. t .1) p in
+          let n : next ≡ longer d 4 = open-same next (longer d 4) (sym z ∙ ap (λ t. t .0) p) in
+          rw (x, n)
+      go false p = let x : r ≡ Full = ap (λ t. t .0) p in let y : _≡_ {A = ℕ} 0 1 = cc in absurd (omega arith)
+
+  pub open-start : (next : Draft) → r ≡ Open next → next .start ≡ d .start
+  unfolding pushWord longer
+  open-start next z = go (leb (d .end + 4) (roomIn (length records))) e
+    where
+      go
+          : (b : Bool) → _≡_ {A = Drafted × List ℕ} (r, after) (if b then (Open (longer d 4), setWordIn records (d .end) v) else (Full, records))
+          → next .start ≡ d .start
+      go true p = ap (λ t. t .start) (open-same next (longer d 4) (sym z ∙ ap (λ t. t .0) p))
+      go false p = let x : r ≡ Full = ap (λ t. t .0) p in let y : _≡_ {A = ℕ} 0 1 = cc in absurd (omega arith)
+
+-- an export more
+
+module _ (records names : List ℕ) (d : Draft) (name : List ℕ) (address : ℕ) {fr : ℕ} (er : fr ≡ roomIn (length records)) where
+  pub add-no-words : fr < d .end + 12 → _≡_ {A = Drafted × List ℕ × List ℕ} (Full, records, names) (addExport records names d name address)
+  unfolding addExport
+  add-no-words h = rw (← er, lt-leb (d .end + 12) fr h)
+
+  module _ {fn : ℕ} (en : fn ≡ roomIn (length names)) (h : d .end + 12 ≤ fr) where
+    pub add-no-names : fn < d .last + length name → _≡_ {A = Drafted × List ℕ × List ℕ} (Full, records, names) (addExport records names d name address)
+    unfolding addExport
+    add-no-names g = rw (← er, le-leb (d .end + 12) fr h, ← en, lt-leb (d .last + length name) fn g)
+
+    pub add-open
+        : {w₁ w₂ w₃ w₄ ns : List ℕ} → d .last + length name ≤ fn → w₁ ≡ setWordIn records (d .end) (d .last)
+        → w₂ ≡ setWordIn w₁ (d .end + 4) (length name) → w₃ ≡ setWordIn w₂ (d .end + 8) address → w₄ ≡ countUp w₃ d 6
+        → ns ≡ sets names (d .last) name
+        → _≡_ {A = Drafted × List ℕ × List ℕ} (Open (addedTo d name), w₄, ns) (addExport records names d name address)
+    unfolding addExport exportWritten
+    add-open g e₁ e₂ e₃ e₄ e₅ =
+        rw (← er, le-leb (d .end + 12) fr h, ← en, le-leb (d .last + length name) fn g, e₅, e₄, e₃, e₂, e₁)
+
+-- an export put: its place among those so far, or one more
+
+module _ (records names : List ℕ) (d : Draft) (name : List ℕ) (address : ℕ) {f : Found} (list : List ℕ)
+    (el : list ≡ exportsSoFar records d) (ef : f ≡ findExport (exportsIn (wordsIn list) names) name) where
+  pub put-again
+      : {w : List ℕ} (k : ℕ) → f ≡ At k → w ≡ setWordIn records (exportPlace records d + 12 * k + 8) address
+      → _≡_ {A = Drafted × List ℕ × List ℕ} (Open d, w, names) (putExport records names d name address)
+  unfolding putExport putAt
+  put-again k z e = rw (← el, ← ef, z, e)
+
+  pub put-new
+      : {r : Drafted} {w ns : List ℕ} → f ≡ Nothing → _≡_ {A = Drafted × List ℕ × List ℕ} (r, w, ns) (addExport records names d name address)
+      → _≡_ {A = Drafted × List ℕ × List ℕ} (r, w, ns) (putExport records names d name address)
+  unfolding putExport putAt
+  put-new z e = rw (← el, ← ef, z) e
+
+-- where a name is found is below the number of exports
+find-from-below : (xs : List Export) (name : List ℕ) (i k : ℕ) → findFrom i xs name ≡ At k → k < i + length xs
+unfolding findFrom
+find-from-below [] name i k e = let y : _≡_ {A = ℕ} 0 1 = cc in absurd (omega arith)
+find-from-below (x ∷ xs) name i k e = go (same name (x .name)) e (find-from-below xs name (i + 1) k)
+  where
+    go : (b : Bool) → (if b then At i else findFrom (i + 1) xs name) ≡ At k → (findFrom (i + 1) xs name ≡ At k → k < i + 1 + length xs) → k < i + suc (length xs)
+    go true p ih = let z : i ≡ k = cc in omega arith
+    go false p ih = let z = ih p in omega arith
+
+exports-length : (n : ℕ) (ws names : List ℕ) (k : ℕ) → length (exportsFrom n ws names k) ≡ n
+unfolding exportsFrom
+exports-length zero ws names k = refl
+exports-length (suc n) ws names k = ap suc (exports-length n ws names (k + 1))
+
+pub find-below
+    : (list names name : List ℕ) {f : Found} (k : ℕ) → f ≡ findExport (exportsIn (wordsIn list) names) name → f ≡ At k → 12 * k + 12 ≤ length list
+unfolding findExport exportsIn
+find-below list names name k e z =
+    let h = find-from-below (exportsFrom (length (wordsIn list) / 3) (wordsIn list) names 0) name 0 k (sym e ∙ z) in
+    omega (arith, exports-length (length (wordsIn list) / 3) (wordsIn list) names 0, length-words list)
+
+-- the slice of the exports so far, as the code takes it
+module _ (records : List ℕ) (d : Draft) {s n : ℕ} (es : s ≡ wordIn records (d .start + 20)) (en : n ≡ wordIn records (d .start + 24)) where
+  pub so-far
+      : take (d .start + 4 * (8 + s) + 12 * n - (d .start + 4 * (8 + s))) (drop (d .start + 4 * (8 + s)) records) ≡ exportsSoFar records d
+  unfolding exportsSoFar exportPlace exportCount part
+  so-far = let e : d .start + 4 * (8 + s) + 12 * n - (d .start + 4 * (8 + s)) ≡ 12 * n = omega arith in rw (e, ← es, ← en)
+
+  pub list-end : exportPlace records d + 12 * exportCount records d ≤ length records → d .start + 4 * (8 + s) + 12 * n ≤ length records
+  unfolding exportPlace exportCount
+  list-end h = rw (es, en) h
+
+  pub found-fits
+      : (names name : List ℕ) {f : Found} (k : ℕ) → exportPlace records d + 12 * exportCount records d ≤ length records
+      → f ≡ findExport (exportsIn (wordsIn (take (d .start + 4 * (8 + s) + 12 * n - (d .start + 4 * (8 + s))) (drop (d .start + 4 * (8 + s)) records))) names) name
+      → f ≡ At k → d .start + 4 * (8 + s) + 12 * k + 12 ≤ length records
+  found-fits names name k h e z =
+      let from = d .start + 4 * (8 + s) in
+      let g : from + 12 * n ≤ length records = list-end h in
+      let l : length (take (from + 12 * n - from) (drop from records)) ≤ 12 * n =
+      (let x : from + 12 * n - from ≡ 12 * n = omega arith in let y : length (drop from records) ≡ length records - from = length-drop from records in
+      rw x (omega (arith, length-take-le (12 * n) (drop from records) (omega arith)))) in
+      let b = find-below (take (from + 12 * n - from) (drop from records)) names name k e z in
+      omega arith
+
+  pub put-place : (k : ℕ) → d .start + 4 * (8 + s) + 12 * k + 8 ≡ exportPlace records d + 12 * k + 8
+  unfolding exportPlace
+  put-place k = rw es
+
+-- a record begun
+
+module _ (records names : List ℕ) (base size : ℕ) (auto : Bool) (name : List ℕ) where
+  abbrev begun : Drafted × List ℕ × List ℕ
+  begun = beginRecord records names base size auto name
+
+  pub begin-many : {n : ℕ} → n ≡ getD (wordsIn records) 0 0 → 64 ≤ n → _≡_ {A = Drafted × List ℕ × List ℕ} (Full, records, names) begun
+  unfolding beginRecord
+  begin-many e h = rw (← e, le-ltb _ 64 h)
+
+  module _ {n u q fr : ℕ} (en : n ≡ getD (wordsIn records) 0 0) (few : n < 64) (eu : u ≡ usedBytes records) (eq : q ≡ usedNames records)
+      (er : fr ≡ roomIn (length records)) where
+    pub begin-no-words : fr < u + 32 → _≡_ {A = Drafted × List ℕ × List ℕ} (Full, records, names) begun
+    unfolding beginRecord
+    begin-no-words h = rw (← en, lt-ltb n 64 few, ← eu, ← er, lt-leb (u + 32) fr h)
+
+    module _ {fn : ℕ} (ef : fn ≡ roomIn (length names)) (h : u + 32 ≤ fr) where
+      pub begin-no-names : fn < q + length name → _≡_ {A = Drafted × List ℕ × List ℕ} (Full, records, names) begun
+      unfolding beginRecord
+      begin-no-names g = rw (← en, lt-ltb n 64 few, ← eu, ← er, le-leb (u + 32) fr h, ← eq, ← ef, lt-leb (q + length name) fn g)
+
+      pub begin-open
+          : {a : ℕ} {w ns : List ℕ} → q + length name ≤ fn → a ≡ flag auto
+          → w ≡ sets records u (flat (base ∷ size ∷ a ∷ q ∷ length name ∷ 0 ∷ 0 ∷ 0 ∷ [])) → ns ≡ sets names q name
+          → _≡_ {A = Drafted × List ℕ × List ℕ} (Open (draftAt u q (length name)), w, ns) begun
+      unfolding beginRecord firstWords
+      begin-open g ea ew es =
+          rw (← en, lt-ltb n 64 few, ← eu, ← er, le-leb (u + 32) fr h, ← eq, ← ef, le-leb (q + length name) fn g, ew, es, ea)

@@ -1,0 +1,2 @@
+-- What the proofs of `register_append` share.
+pub mod Laws

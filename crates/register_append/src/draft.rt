@@ -1,0 +1,246 @@
+// The record that is being written.
+ghost use mathlib.Core.Path.{_≡_};
+ghost use mathlib.Core.List.{[], _∷_};
+ghost use Prim.Native.Nat.{_+_, _*_, _≤_, _<_, _^_};
+ghost use lib.Seq.{sets};
+ghost use lib.ListN.{length};
+ghost use Rattle.register.specs.Words.{flat};
+ghost use Rattle.register.specs.Encode.{flag};
+ghost use Rattle.register_append.specs.Draft.{pushWord, countUp, pushListed, addExport, putExport, beginRecord, finishRecord, givenUp, exportPlace, exportCount};
+use crate::bytes;
+use register::check;
+use register::exports;
+use register::exports::Found;
+use register::words;
+
+// Where a record's words and names begin and end in the two buffers.
+pub struct Draft {
+    pub start: usize,
+    pub end: usize,
+    pub names: usize,
+    pub last: usize,
+}
+
+// The record with one step more, or that there is no room for the step; then nothing changed.
+pub enum Drafted {
+    Open(Draft),
+    Full,
+}
+
+// Writes a word at the record's end.
+fn push_word(records: &mut [u8], draft: Draft, value: u32) -> Drafted
+    ensures { λ r. ⌜ (r, now (records .exit)) ≡ pushWord (now (records .entry)) draft value ⌝ }
+{
+    let free = bytes::room(records.len());
+    let end = draft.end;
+    if free < 4 {
+        return Drafted::Full;
+    }
+    if free - 4 < end {
+        return Drafted::Full;
+    }
+    window::store32(records, end, value);
+    Drafted::Open(Draft {
+        start: draft.start,
+        end: end + 4,
+        names: draft.names,
+        last: draft.last,
+    })
+}
+
+// Adds one to word number `field` of the record.
+fn count_up(records: &mut [u8], draft: Draft, field: usize)
+    requires { ⌜ (field < 8) × (draft .start + 32 ≤ length (now records)) ⌝ }
+    ensures { λ _. ⌜ now (records .exit) ≡ countUp (now (records .entry)) draft field ⌝ }
+{
+    let place = draft.start + 4 * field;
+    let count = window::load32(records, place);
+    window::store32(records, place, std::num::wrapping_add_u32(count, 1));
+}
+
+// Writes an address at the record's end and counts it in word number `field`.
+fn push_listed(records: &mut [u8], draft: Draft, field: usize, address: u32) -> Drafted
+    requires { ⌜ (field < 8) × (draft .start + 32 ≤ length (now records)) ⌝ }
+    ensures { λ r. ⌜ (r, now (records .exit)) ≡ pushListed (now (records .entry)) draft field address ⌝ }
+{
+    match push_word(records, draft, address) {
+        Drafted::Full => Drafted::Full,
+        Drafted::Open(next) => {
+            count_up(records, next, field);
+            Drafted::Open(next)
+        }
+    }
+}
+
+// Writes an address of a segment; no export stands yet.
+pub fn push_segment(records: &mut [u8], draft: Draft, address: u32) -> Drafted
+    requires { ⌜ draft .start + 32 ≤ length (now records) ⌝ }
+    ensures { λ r. ⌜ (r, now (records .exit)) ≡ pushListed (now (records .entry)) draft 5 address ⌝ }
+{
+    push_listed(records, draft, 5, address)
+}
+
+// Writes an address of an indexed export; all named ones stand.
+pub fn push_indexed(records: &mut [u8], draft: Draft, address: u32) -> Drafted
+    requires { ⌜ draft .start + 32 ≤ length (now records) ⌝ }
+    ensures { λ r. ⌜ (r, now (records .exit)) ≡ pushListed (now (records .entry)) draft 7 address ⌝ }
+{
+    push_listed(records, draft, 7, address)
+}
+
+// Writes a named export: three words, its name, and the count.
+fn add_export(
+    records: &mut [u8],
+    names: &mut [u8],
+    draft: Draft,
+    name: &[u8],
+    address: u32,
+) -> Drafted
+    requires { ⌜ (draft .start + 32 ≤ length (now records)) × (draft .last < 2 ^ 32) × (length (now name) ≤ 512) × (draft .end < 2 ^ 32) ⌝ }
+    ensures { λ r. ⌜ (r, now (records .exit), now (names .exit))
+        ≡ addExport (now (records .entry)) (now (names .entry)) draft (now (name .entry)) address ⌝ }
+{
+    let end = draft.end;
+    let last = draft.last;
+    let count = name.len();
+    if bytes::room(records.len()) < end + 12 {
+        return Drafted::Full;
+    }
+    if bytes::room(names.len()) < last + count {
+        return Drafted::Full;
+    }
+    window::store32(records, end, last as u32);
+    window::store32(records, end + 4, count as u32);
+    window::store32(records, end + 8, address);
+    count_up(records, draft, 6);
+    bytes::copy_into(names, last, name);
+    Drafted::Open(Draft {
+        start: draft.start,
+        end: end + 12,
+        names: draft.names,
+        last: last + count,
+    })
+}
+
+// Gives the record an export: a later one of the same name replaces the address of an earlier one.
+pub fn put_export(
+    records: &mut [u8],
+    names: &mut [u8],
+    draft: Draft,
+    name: &[u8],
+    address: u32,
+) -> Drafted
+    requires { ⌜ (draft .start + 32 ≤ length (now records)) × (draft .last < 2 ^ 32) × (length (now name) ≤ 512) × (draft .end < 2 ^ 32)
+        × (exportPlace (now records) draft + 12 * exportCount (now records) draft ≤ length (now records)) ⌝ }
+    ensures { λ r. ⌜ (r, now (records .exit), now (names .exit))
+        ≡ putExport (now (records .entry)) (now (names .entry)) draft (now (name .entry)) address ⌝ }
+{
+    let start = draft.start;
+    let from = start + 4 * (8 + (window::load32(records, start + 20) as usize));
+    let to = from + 12 * (window::load32(records, start + 24) as usize);
+    match exports::find_export(&records[from..to], names, name) {
+        Found::At(k) => {
+            window::store32(records, from + 12 * k + 8, address);
+            Drafted::Open(draft)
+        }
+        Found::Nothing => add_export(records, names, draft, name, address),
+    }
+}
+
+fn flag_word(set: bool) -> u32
+    ensures { λ r. ⌜ r ≡ flag set ⌝ }
+{
+    if set {
+        return 1;
+    }
+    0
+}
+
+// Writes the first eight words of a record that has a name and nothing else yet.
+fn write_first(
+    records: &mut [u8],
+    start: usize,
+    base: u32,
+    size: u32,
+    auto_link: u32,
+    offset: u32,
+    count: u32,
+)
+    requires { ⌜ start + 32 ≤ length (now records) ⌝ }
+    ensures { λ _. ⌜ now (records .exit)
+        ≡ sets (now (records .entry)) start (flat (base ∷ size ∷ «auto_link» ∷ offset ∷ count ∷ 0 ∷ 0 ∷ 0 ∷ [])) ⌝ }
+{
+    window::store32(records, start, base);
+    window::store32(records, start + 4, size);
+    window::store32(records, start + 8, auto_link);
+    window::store32(records, start + 12, offset);
+    window::store32(records, start + 16, count);
+    window::store32(records, start + 20, 0);
+    window::store32(records, start + 24, 0);
+    window::store32(records, start + 28, 0);
+}
+
+// Begins a record after the last one, unless 64 stand or its first words or its name have no room.
+pub fn begin_record(
+    records: &mut [u8],
+    names: &mut [u8],
+    base: u32,
+    size: u32,
+    auto_link: bool,
+    name: &[u8],
+) -> Drafted
+    requires { ⌜ (32 ≤ length (now records)) × (length (now name) ≤ 512) ⌝ }
+    ensures { λ r. ⌜ (r, now (records .exit), now (names .exit))
+        ≡ beginRecord (now (records .entry)) (now (names .entry)) base size «auto_link» (now (name .entry)) ⌝ }
+{
+    if 64 <= words::word(records, 0) {
+        return Drafted::Full;
+    }
+    let start = check::used_bytes(records) as usize;
+    let last = words::word(records, 4);
+    let from = last as usize;
+    let count = name.len();
+    if bytes::room(records.len()) < start + 32 {
+        return Drafted::Full;
+    }
+    if bytes::room(names.len()) < from + count {
+        return Drafted::Full;
+    }
+    write_first(
+        records,
+        start,
+        base,
+        size,
+        flag_word(auto_link),
+        last,
+        count as u32,
+    );
+    bytes::copy_into(names, from, name);
+    Drafted::Open(Draft {
+        start,
+        end: start + 32,
+        names: from,
+        last: from + count,
+    })
+}
+
+// Counts the record in the header: it stands.
+pub fn finish_record(records: &mut [u8], draft: Draft)
+    requires { ⌜ (32 ≤ length (now records)) × (draft .end < 2 ^ 32) × (draft .last < 2 ^ 32) ⌝ }
+    ensures { λ _. ⌜ now (records .exit) ≡ finishRecord (now (records .entry)) draft ⌝ }
+{
+    let count = window::load32(records, 0);
+    window::store32(records, 0, std::num::wrapping_add_u32(count, 1));
+    window::store32(records, 12, draft.end as u32);
+    window::store32(records, 16, draft.last as u32);
+}
+
+// Gives the record up: its bytes are free, and 0, again.
+pub fn give_up(records: &mut [u8], names: &mut [u8], draft: Draft)
+    requires { ⌜ (draft .start ≤ draft .end) × (draft .end ≤ length (now records)) × (draft .names ≤ draft .last)
+        × (draft .last ≤ length (now names)) ⌝ }
+    ensures { λ _. ⌜ (now (records .exit), now (names .exit)) ≡ givenUp (now (records .entry)) (now (names .entry)) draft ⌝ }
+{
+    bytes::clear(records, draft.start, draft.end);
+    bytes::clear(names, draft.names, draft.last);
+}
