@@ -98,7 +98,7 @@ pub more-than-three : (r : Register) → 3 < length (encodeWords r)
 unfolding encodeWords
 more-than-three r = omega arith
 
-words-padded : (n : ℕ) (ws : List ℕ) → Below (2 ^ 32) ws → wordsIn (padded n (flat ws)) ≡ ws ++ wordsIn (replicate (n - length (flat ws)) 0)
+pub words-padded : (n : ℕ) (ws : List ℕ) → Below (2 ^ 32) ws → wordsIn (padded n (flat ws)) ≡ ws ++ wordsIn (replicate (n - length (flat ws)) 0)
 unfolding padded
 words-padded n ws b = words-flat ws (replicate (n - length (flat ws)) 0) b
 

@@ -125,7 +125,7 @@ module _ (m : Module) (rest : List ℕ) (q : ℕ) where
       let e : moduleWords q m ++ rest ≡ first ++ (segs ++ (ex ++ (idx ++ rest))) = simp append-assoc in
       rw e (part-middle first segs (ex ++ (idx ++ rest)) 8 (length segs) refl refl)
 
-  exports-part : exportPart ws ≡ ex
+  pub exports-part : exportPart ws ≡ ex
   unfolding moduleWords exportPart
   exports-part =
       let e : moduleWords q m ++ rest ≡ (first ++ segs) ++ (ex ++ (idx ++ rest)) = simp append-assoc in

@@ -283,41 +283,41 @@ module _ (records names missing : List ℕ) (r : Register) (p : proper r ≡ tru
   abbrev n : ℕ
   n = length (recordWords 0 (r .modules))
 
-  size-words : length (encodeWords r) ≡ 8 + n
+  pub size-words : length (encodeWords r) ≡ 8 + n
   unfolding encodeWords
   size-words = omega arith
 
   word : (k : ℕ) → k < 8 → getD w k 0 ≡ getD (encodeWords r) k 0
   word k h = begins-at (encodeWords r) w (parts .words) k (omega (arith, size-words))
 
-  long : (8 + n ≤ length w) × (4 * (8 + n) ≤ length records)
+  pub long : (8 + n ≤ length w) × (4 * (8 + n) ≤ length records)
   long =
       let a = begins-long (encodeWords r) w (parts .words) in
       let b = size-words in
       let c : length w ≡ length records / 4 = length-settled (wordsIn records) ∙ length-words records in
       (omega arith, omega arith)
 
-  word₀ : getD w 0 0 ≡ length (r .modules)
+  pub word₀ : getD w 0 0 ≡ length (r .modules)
   unfolding encodeWords
   word₀ = word 0 (omega arith)
 
-  word₁ : getD w 1 0 ≡ crsKnown (r .crs)
+  pub word₁ : getD w 1 0 ≡ crsKnown (r .crs)
   unfolding encodeWords
   word₁ = word 1 (omega arith)
 
-  word₂ : getD w 2 0 ≡ crsBase (r .crs)
+  pub word₂ : getD w 2 0 ≡ crsBase (r .crs)
   unfolding encodeWords
   word₂ = word 2 (omega arith)
 
-  word₃ : getD w 3 0 ≡ 4 * (8 + n)
+  pub word₃ : getD w 3 0 ≡ 4 * (8 + n)
   unfolding encodeWords
   word₃ = word 3 (omega arith)
 
-  word₄ : getD w 4 0 ≡ length (recordNames (r .modules))
+  pub word₄ : getD w 4 0 ≡ length (recordNames (r .modules))
   unfolding encodeWords
   word₄ = word 4 (omega arith)
 
-  word₅ : getD w 5 0 ≡ length (r .missing)
+  pub word₅ : getD w 5 0 ≡ length (r .missing)
   unfolding encodeWords
   word₅ = word 5 (omega arith)
 

@@ -11,3 +11,4 @@ pub mod CheckComplete
 pub mod Slots
 pub mod CheckIs
 pub mod Buffers
+pub mod Change

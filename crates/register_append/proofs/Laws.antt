@@ -21,7 +21,7 @@ use Rattle.register.specs.Module.{Export, findFrom, findExport}
 use Rattle.register.specs.Decode.{exportsFrom, exportsIn}
 use Rattle.register.specs.declared.exports.Found.{Found}
 use Rattle.register.specs.declared.exports.Found.the-variants.{At, Nothing}
-use Rattle.register_append.specs.Draft.{roomIn, longer, pushWord, countUp, pushListed, addedTo, exportWritten, addExport, exportPlace, exportCount, exportsSoFar, putAt, putExport, usedBytes, usedNames, firstWords, draftAt, beginRecord}
+use Rattle.register_append.specs.Draft.{roomIn, room-inside, longer, pushWord, countUp, pushListed, addedTo, exportWritten, addExport, exportPlace, exportCount, exportsSoFar, putAt, putExport, usedBytes, usedNames, firstWords, draftAt, beginRecord}
 
 -- a copy, i bytes of it made
 pub copy-turn
@@ -51,14 +51,6 @@ room-small n h = rw (lt-ltb n 0xffff_ffff h)
 pub room-large : (n : ℕ) → 0xffff_ffff ≤ n → 0xffff_ffff ≡ roomIn n
 unfolding roomIn
 room-large n h = rw (le-ltb n 0xffff_ffff h)
-
-pub room-inside : (n : ℕ) → roomIn n ≤ n
-unfolding roomIn
-room-inside n = elim (decLt n 0xffff_ffff) [ yes l ↦ rw (lt-ltb n 0xffff_ffff l) (omega arith) | no l ↦ rw (le-ltb n 0xffff_ffff (omega arith)) (omega arith) ]
-
-pub room-word : (n : ℕ) → roomIn n < 2 ^ 32
-unfolding roomIn
-room-word n = elim (decLt n 0xffff_ffff) [ yes l ↦ rw (lt-ltb n 0xffff_ffff l) (omega arith) | no l ↦ rw (le-ltb n 0xffff_ffff (omega arith)) (omega arith) ]
 
 module _ (records : List ℕ) (d : Draft) (v : ℕ) {free : ℕ} (e : free ≡ roomIn (length records)) where
   pub push-full : free < d .end + 4 → _≡_ {A = Drafted × List ℕ} (Full, records) (pushWord records d v)

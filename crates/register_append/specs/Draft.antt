@@ -1,5 +1,8 @@
 -- What each step of writing a record does to the bytes of the two buffers.
-use Prim.Native.Nat.{ℕ, _+_, _-_, _*_, _%_, _^_}
+use Prim.Native.Nat.{ℕ, _+_, _-_, _*_, _%_, _^_, _≤_, _<_}
+use native.Mathlib.Omega.{arith}
+use native.Mathlib.Decide.{decLt}
+use borrow.Author.Tests.{lt-ltb, le-ltb}
 use mathlib.Core.List.{List, [], _∷_}
 use mathlib.Core.Bool.{Bool, true, false, _&&_}
 use lib.ListN.{length, getD, replicate}
@@ -20,6 +23,14 @@ use Rattle.register_append.specs.declared.draft.Drafted.the-variants.{Op
 -- "Lent bytes past 2^32 − 1 never count as free."
 unfoldable pub roomIn : ℕ → ℕ
 roomIn n = if ltb n 0xffff_ffff then n else 0xffff_ffff
+
+pub room-inside : (n : ℕ) → roomIn n ≤ n
+unfolding roomIn
+room-inside n = elim (decLt n 0xffff_ffff) [ yes l ↦ rw (lt-ltb n 0xffff_ffff l) (omega arith) | no l ↦ rw (le-ltb n 0xffff_ffff (omega arith)) (omega arith) ]
+
+pub room-word : (n : ℕ) → roomIn n < 2 ^ 32
+unfolding roomIn
+room-word n = elim (decLt n 0xffff_ffff) [ yes l ↦ rw (lt-ltb n 0xffff_ffff l) (omega arith) | no l ↦ rw (le-ltb n 0xffff_ffff (omega arith)) (omega arith) ]
 
 -- the record bytes and the name bytes used
 unfoldable pub usedBytes : List ℕ → ℕ

@@ -52,6 +52,16 @@ getD-sets l o (b ∷ bs) (suc i) h g =
     let s : length (set l o b) ≡ length l = length-set l o b in
     rw z (getD-sets (set l o b) (suc o) bs i (omega arith) (omega arith))
 
+pub word-below : (l : List ℕ) (o : ℕ) (bs : List ℕ) (i : ℕ) → i + 4 ≤ o → wordIn (sets l o bs) i ≡ wordIn l i
+unfolding wordIn
+word-below l o bs i h =
+    rw (
+      getD-below l o bs i (omega arith),
+      getD-below l o bs (i + 1) (omega arith),
+      getD-below l o bs (i + 2) (omega arith),
+      getD-below l o bs (i + 3) (omega arith),
+    )
+
 -- a word's store is a run of four
 
 pub store-word : (l : List ℕ) (i v : ℕ) → setWordIn l i v ≡ sets l i (bytesOf v)

@@ -1,8 +1,8 @@
 use native.Mathlib.Omega.{arith}
 use lib.ListN.{length}
 use borrow.Author.Needs.{needs}
-use Rattle.register_append.specs.Draft.{addedTo}
-use Rattle.register_append.proofs.Laws.{room-inside, add-no-words, add-no-names, add-open}
+use Rattle.register_append.specs.Draft.{addedTo, room-inside}
+use Rattle.register_append.proofs.Laws.{add-no-words, add-no-names, add-open}
 use Rattle.register_append.proofs.draft.add_export.Statement.{statement}
 use Rattle.register_append.proofs.draft.add_export.Tie as tie
 

@@ -1,8 +1,8 @@
 use native.Mathlib.Omega.{arith}
 use lib.ListN.{length}
 use borrow.Author.Needs.{needs}
-use Rattle.register_append.specs.Draft.{usedBytes, usedNames, draftAt}
-use Rattle.register_append.proofs.Laws.{room-inside, begin-many, begin-no-words, begin-no-names, begin-open}
+use Rattle.register_append.specs.Draft.{usedBytes, usedNames, draftAt, room-inside}
+use Rattle.register_append.proofs.Laws.{begin-many, begin-no-words, begin-no-names, begin-open}
 use Rattle.register_append.proofs.draft.begin_record.Statement.{statement}
 use Rattle.register_append.proofs.draft.begin_record.Tie as tie
 

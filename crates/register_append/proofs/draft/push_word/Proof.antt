@@ -1,8 +1,8 @@
 use native.Mathlib.Omega.{arith}
 use lib.ListN.{length}
 use borrow.Author.Needs.{needs}
-use Rattle.register_append.specs.Draft.{longer}
-use Rattle.register_append.proofs.Laws.{push-full, push-open, room-inside}
+use Rattle.register_append.specs.Draft.{longer, room-inside}
+use Rattle.register_append.proofs.Laws.{push-full, push-open}
 use Rattle.register_append.proofs.draft.push_word.Statement.{statement}
 use Rattle.register_append.proofs.draft.push_word.Tie as tie
 
