@@ -199,11 +199,11 @@ fn slot_ok(slot: &[u8]) -> bool
 {
     let low = slot[0] as usize;
     let high = slot[1] as usize;
-    let count = low + 256 * high;
-    if 512 < count {
+    let size = low + 256 * high;
+    if 512 < size {
         return false;
     }
-    let end = 2 + count;
+    let end = 2 + size;
     if !no_zero(&slot[2..end]) {
         return false;
     }

@@ -19,11 +19,11 @@ shared-slice-read-high c = search needs
 cast-high : tie.Need-cast-high
 cast-high c = omega (arith, c .shared-slice-known3 .given 1)
 
-mul-count : tie.Need-mul-count
-mul-count c = omega (arith, c .shared-slice-known3 .given 1)
+mul-size : tie.Need-mul-size
+mul-size c = omega (arith, c .shared-slice-known3 .given 1)
 
-add-count : tie.Need-add-count
-add-count c = omega (arith, c .shared-slice-known3 .given 0, c .shared-slice-known3 .given 1)
+add-size : tie.Need-add-size
+add-size c = omega (arith, c .shared-slice-known3 .given 0, c .shared-slice-known3 .given 1)
 
 returns : tie.Need-returns
 unfolding slotLength
@@ -63,8 +63,8 @@ slot-ok-spec =
     cast-low
     shared-slice-read-high
     cast-high
-    mul-count
-    add-count
+    mul-size
+    add-size
     returns
     add-end
     sub-no-zero
