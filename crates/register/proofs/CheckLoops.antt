@@ -10,11 +10,11 @@ use lib.Dec.{eqb, leb}
 use borrow.Author.Tests.{eqb-true, leb-true, eq-eqb, ne-eqb, le-leb, lt-leb}
 use Rattle.window.specs.Memory.{if_then_else_}
 use Rattle.window.specs.Name.{noZero}
-use Rattle.window.specs.Tests.{both}
 use Rattle.register.specs.Words.{part, wordsIn, words-drop, length-words, part-words}
 use Rattle.register.specs.Module.{distinct}
 use Rattle.register.specs.Decode.{moduleSize, exportsIn}
 use Rattle.register.specs.Check.{nameOk, exportsEnd, fixedOk, exportPart, moduleEnd, after, modulesOk}
+use Rattle.register.specs.CheckSound.{named, fixed}
 use Rattle.register.proofs.Laws.{part-whole}
 use Rattle.register.specs.declared.check.End.{End}
 use Rattle.register.specs.declared.check.End.the-variants.{At, Bad}
@@ -48,30 +48,15 @@ name-good names q o l e h g s =
 
 -- a right name ends inside the names
 pub name-inside : (names : List ℕ) (q o l : ℕ) {t : Bool} → t ≡ nameOk names q o l → t ≡ true → q + l ≤ length names
-unfolding nameOk
-name-inside names q o l s z =
-    let a = both (eqb o q) (leb l 512 && (leb (o + l) (length names) && noZero (part names o l))) (sym s ∙ z) in
-    let b = both (leb l 512) (leb (o + l) (length names) && noZero (part names o l)) (a .1) in
-    let d = both (leb (o + l) (length names)) (noZero (part names o l)) (b .1) in
-    omega (arith, eqb-true o q (a .0), leb-true (o + l) (length names) (d .0))
+name-inside names q o l s z = let a = named names q o l (sym s ∙ z) in omega (arith, a .place, a .fits)
 
 -- a record whose first words are right has all its words, and its own name
 module _ (ws names : List ℕ) (q : ℕ) {t : Bool} (s : t ≡ fixedOk ws names q) (z : t ≡ true) where
-  parts
-      : (moduleSize ws ≤ length ws) × (q + getD ws 4 0 ≤ length names)
-  unfolding fixedOk
-  parts =
-      let a = both (leb 8 (length ws)) (leb (moduleSize ws) (length ws) && (leb (getD ws 2 0) 1 && (leb (getD ws 5 0) 16 && nameOk names q (getD ws 3 0) (getD ws 4 0)))) (sym s ∙ z) in
-      let b = both (leb (moduleSize ws) (length ws)) (leb (getD ws 2 0) 1 && (leb (getD ws 5 0) 16 && nameOk names q (getD ws 3 0) (getD ws 4 0))) (a .1) in
-      let d = both (leb (getD ws 2 0) 1) (leb (getD ws 5 0) 16 && nameOk names q (getD ws 3 0) (getD ws 4 0)) (b .1) in
-      let f = both (leb (getD ws 5 0) 16) (nameOk names q (getD ws 3 0) (getD ws 4 0)) (d .1) in
-      (leb-true (moduleSize ws) (length ws) (b .0), name-inside names q (getD ws 3 0) (getD ws 4 0) refl (f .1))
-
   pub fixed-size : moduleSize ws ≤ length ws
-  fixed-size = parts .0
+  fixed-size = fixed ws names q (sym s ∙ z) .whole
 
   pub fixed-name : q + getD ws 4 0 ≤ length names
-  fixed-name = parts .1
+  fixed-name = let a = fixed ws names q (sym s ∙ z) .name in omega (arith, a .place, a .fits)
 
 pub size-bytes : (b : List ℕ) → moduleSize (wordsIn b) ≤ length (wordsIn b) → 4 * (8 + getD (wordsIn b) 5 0) + 12 * getD (wordsIn b) 6 0 ≤ length b
 unfolding moduleSize

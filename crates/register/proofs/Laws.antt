@@ -17,9 +17,9 @@ pub word-none : (l : List ℕ) (i : ℕ) → length l / 4 ≤ i → 0 ≡ getD (
 word-none l i h = sym (List·getD-eq-default (wordsIn l) 0 (rw length-words h))
 
 -- a part that the bytes cut short
-pub part-none : (l : List ℕ) (o n : ℕ) → length l < o → take (length l - length l) (drop (length l) l) ≡ part l o n
+pub part-past : (l : List ℕ) (o n : ℕ) → length l < o → take (length l - length l) (drop (length l) l) ≡ part l o n
 unfolding part
-part-none l o n h = let g : length l ≤ o = omega arith in rw (drop-length, drop-of-length-le l g, take-nil, take-nil)
+part-past l o n h = let g : length l ≤ o = omega arith in rw (drop-length, drop-of-length-le l g, take-nil, take-nil)
 
 pub part-short : (l : List ℕ) (o n : ℕ) → o ≤ length l → length l < o + n → take (length l - o) (drop o l) ≡ part l o n
 unfolding part

@@ -19,7 +19,7 @@ use Rattle.register.specs.Change.{newModule, appended}
 use Rattle.register.specs.Buffers.{Below, padded, length-flat, records-are, names-are, encodeRecords, encodeNames}
 use Rattle.register_append.specs.declared.draft.Draft.{Draft}
 use Rattle.register_append.specs.declared.draft.Drafted.the-variants.{Open, Full}
-use Rattle.register_append.specs.Sets.{sets-inside, word-below, store-word, flat-set, flat-append}
+use Rattle.register_append.specs.Sets.{sets-inside, four-inside, word-below, store-word, flat-set, flat-append}
 use Rattle.register_append.specs.Draft.{roomIn, room-inside, room-word, usedBytes, usedNames, firstWords, draftAt, beginRecord, finishRecord, cleared, givenUp}
 use Rattle.register_append.specs.Held.{Held}
 
@@ -43,10 +43,6 @@ sets-zeros a (v ∷ vs) (suc k) h =
     (ap (λ t. sets (a ++ (v ∷ []) ++ replicate k 0) t vs) (sym n)
     ∙ sets-zeros (a ++ (v ∷ [])) vs k (omega arith)
     ∙ ap (λ t. t ++ replicate (k - length vs) 0) (append-assoc a (v ∷ []) vs))
-
-four-fit : (i v n k : ℕ) → k ≡ 4 * n → i < n → 4 * i + length (bytesOf v) ≤ k
-unfolding bytesOf
-four-fit i v n k e h = omega arith
 
 -- zeros stored again over what was stored over zeros
 sets-all : (bs cs : List ℕ) → length cs ≡ length bs → sets bs 0 cs ≡ cs
@@ -78,7 +74,7 @@ module _ (n : ℕ) (ws : List ℕ) where
       let l : length (flat ws) ≡ 4 * length ws = length-flat ws in
       let k : length (flat (set ws i v)) ≡ length (flat ws) = length-flat (set ws i v) ∙ ap (λ t. 4 * t) (length-set ws i v) ∙ sym l in
       store-word (flat ws ++ replicate (n - length (flat ws)) 0) (4 * i) v
-      ∙ sets-front (flat ws) (replicate (n - length (flat ws)) 0) (4 * i) (bytesOf v) (four-fit i v (length ws) (length (flat ws)) l h)
+      ∙ sets-front (flat ws) (replicate (n - length (flat ws)) 0) (4 * i) (bytesOf v) (four-inside i v l h)
       ∙ rw (flat-set ws i v h, k)
 
   pub more-padded

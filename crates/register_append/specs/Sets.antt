@@ -100,9 +100,9 @@ unfolding flat
 flat-append [] b = refl
 flat-append (v ∷ a) b = ap (λ t. bytesOf v ++ t) (flat-append a b) ∙ sym (append-assoc (bytesOf v) (flat a) (flat b))
 
-four : {n m : ℕ} (i v : ℕ) → m ≡ 4 * n → i < n → 4 * i + length (bytesOf v) ≤ m
+pub four-inside : {n m : ℕ} (i v : ℕ) → m ≡ 4 * n → i < n → 4 * i + length (bytesOf v) ≤ m
 unfolding bytesOf
-four i v e h = omega arith
+four-inside i v e h = omega arith
 
 pub words-of : (ws : List ℕ) → Below (2 ^ 32) ws → wordsIn (flat ws) ≡ ws
 unfolding wordsIn
@@ -125,7 +125,7 @@ module _ (l : List ℕ) (o : ℕ) (ws : List ℕ) where
   change-laid i v h =
       let n : length (flat ws) ≡ 4 * length ws = length-flat ws in
       store-word laid (o + 4 * i) v
-      ∙ sets-inside l o (flat ws) (4 * i) (bytesOf v) (four i v n h)
+      ∙ sets-inside l o (flat ws) (4 * i) (bytesOf v) (four-inside i v n h)
       ∙ ap (sets l o) (flat-set ws i v h)
 
   pub word-laid : (i : ℕ) → o + 4 * length ws ≤ length l → Below (2 ^ 32) ws → i < length ws → wordIn laid (o + 4 * i) ≡ getD ws i 0

@@ -1,5 +1,5 @@
 use borrow.Author.Needs.{needs}
-use Rattle.register.proofs.Laws.{part-none, part-short, part-whole}
+use Rattle.register.proofs.Laws.{part-past, part-short, part-whole}
 use Rattle.register.proofs.words.name_part.Statement.{statement}
 use Rattle.register.proofs.words.name_part.Tie as tie
 
@@ -13,7 +13,7 @@ part-result-end : tie.Need-part-result-end
 part-result-end c = search needs
 
 returns : tie.Need-returns
-returns c = part-none _ _ _ (c .before .if1 .taken)
+returns c = part-past _ _ _ (c .before .if1 .taken)
 
 add-end : tie.Need-add-end
 add-end c = search needs
