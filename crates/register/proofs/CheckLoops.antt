@@ -110,7 +110,8 @@ module _ (n : ℕ) (r names : List ℕ) (k place q : ℕ) (h : k < n) where
       rw (turn, ← drop-drop (4 * m) place r, words-drop m (drop place r), ← f, ← s, z, y)
 
 pub modules-end
-    : (n : ℕ) (r names : List ℕ) (k place q : ℕ) → n ≤ k → modulesOk (n - k) (wordsIn (drop place r)) names q ≡ (eqb (length (wordsIn (drop place r))) 0 && eqb q (length names))
+    : (n : ℕ) (r names : List ℕ) (k place q : ℕ) → n ≤ k → modulesOk (n - k) (wordsIn (drop place r)) names q
+    ≡ (eqb (length (wordsIn (drop place r))) 0 && eqb q (length names))
 unfolding modulesOk
 modules-end n r names k place q h = let m : n - k ≡ 0 = omega arith in rw m
 

@@ -2,4 +2,5 @@
 pub mod Laws
 pub mod ExportLoops
 pub mod CheckLoops
+pub mod Contents
 pub mod HeaderLaws

@@ -134,7 +134,9 @@ records-are records names missing r b e =
     let f : length (flat (set (encodeWords r) 3 (getD ws 3 0))) ≡ 4 * n =
     length-flat (set (encodeWords r) 3 (getD ws 3 0)) ∙ ap (λ k. 4 * k) (length-set (encodeWords r) 3 (getD ws 3 0)) in
     sym (take-append-drop (4 * n) records)
-    ∙ rw (take-words n records l b, x, f) (ap (λ t. flat (set (encodeWords r) 3 (getD ws 3 0)) ++ t) (all-zero (drop (4 * n) records) (c .1) ∙ ap (λ k. replicate k 0) (length-drop (4 * n) records)))
+    ∙ rw (take-words n records l b, x, f)
+    (ap (λ t. flat (set (encodeWords r) 3 (getD ws 3 0)) ++ t)
+    (all-zero (drop (4 * n) records) (c .1) ∙ ap (λ k. replicate k 0) (length-drop (4 * n) records)))
 
 pub names-are
     : (records names missing : List ℕ) (r : Register) → encodes records names missing r ≡ true

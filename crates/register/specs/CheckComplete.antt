@@ -199,7 +199,8 @@ module _ (m : Module) (rest names pre post : List ℕ) (q : ℕ) (en : names ≡
   end-passes : moduleEnd (ws m rest q) names q ≡ At (q + length (moduleNames m))
   unfolding moduleEnd moduleNames
   end-passes =
-      let l : length (m .name ++ exportNames (m .named)) ≡ length (m .name) + length (exportNames (m .named)) = length-append (m .name) (exportNames (m .named)) in
+      let l : length (m .name ++ exportNames (m .named)) ≡ length (m .name) + length (exportNames (m .named)) =
+      length-append (m .name) (exportNames (m .named)) in
       rw (fixed-passes, exports-back, proper-parts .3, exports-part m rest q, count, name-word m rest q)
       (listed .end ∙ ap (λ t. At t) (omega arith))
 
@@ -231,7 +232,8 @@ modules-complete (m ∷ ms) names pre q en lp h =
     modules-complete ms names (pre ++ moduleNames m) (q + length (moduleNames m)) (en ∙ simp append-assoc)
     (length-append pre (moduleNames m) ∙ ap (λ t. t + length (moduleNames m)) lp)
     (a .1) in
-    let d : drop (moduleSize (moduleWords q m ++ recordWords (q + length (moduleNames m)) ms)) (moduleWords q m ++ recordWords (q + length (moduleNames m)) ms)
+    let d : drop (moduleSize (moduleWords q m ++ recordWords (q + length (moduleNames m)) ms))
+    (moduleWords q m ++ recordWords (q + length (moduleNames m)) ms)
     ≡ recordWords (q + length (moduleNames m)) ms =
     rw (w .size) (drop-append-seam (moduleWords q m) (recordWords (q + length (moduleNames m)) ms)) in
     record { end = rw (w .end, d) (i .end); back = rw (w .back, d, i .back) }

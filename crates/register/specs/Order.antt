@@ -60,7 +60,8 @@ is-before After e = let z : _≡_ {A = ℕ} 0 1 = cc in absurd (omega arith)
 
 -- a name before the first of ascending ones is none of them
 not-among
-    : (i : ℕ) (name : List ℕ) (xs : List Export) → ascending xs ≡ true → ((x : Export) (t : List Export) → xs ≡ x ∷ t → orderOf name (x .name) ≡ Before)
+    : (i : ℕ) (name : List ℕ) (xs : List Export) → ascending xs ≡ true
+    → ((x : Export) (t : List Export) → xs ≡ x ∷ t → orderOf name (x .name) ≡ Before)
     → findFrom i xs name ≡ Nothing
 unfolding findFrom ascending
 not-among i name [] e h = refl

@@ -30,7 +30,8 @@ zeros (suc n) = zeros n
 pub length-slot : (name : List ℕ) → length name ≤ 512 → length (slot name) ≡ 514
 unfolding slot
 length-slot name h =
-    let a : length (name ++ replicate (512 - length name) 0) ≡ length name + length (replicate {A = ℕ} (512 - length name) 0) = length-append name (replicate (512 - length name) 0) in
+    let a : length (name ++ replicate (512 - length name) 0) ≡ length name + length (replicate {A = ℕ} (512 - length name) 0) =
+    length-append name (replicate (512 - length name) 0) in
     let b : length (replicate {A = ℕ} (512 - length name) 0) ≡ 512 - length name = length-replicate (512 - length name) 0 in
     omega arith
 

@@ -70,7 +70,8 @@ module _ (records : List ℕ) (d : Draft) (v : ℕ) {free : ℕ} (e : free ≡ r
 open-same : (a b : Draft) → Open a ≡ Open b → a ≡ b
 open-same a b e = cc
 
-module _ (records : List ℕ) (d : Draft) (v field : ℕ) {r : Drafted} {after : List ℕ} (e : _≡_ {A = Drafted × List ℕ} (r, after) (pushWord records d v)) where
+module _ (records : List ℕ) (d : Draft) (v field : ℕ) {r : Drafted} {after : List ℕ}
+    (e : _≡_ {A = Drafted × List ℕ} (r, after) (pushWord records d v)) where
   pub listed-full : r ≡ Full → _≡_ {A = Drafted × List ℕ} (Full, after) (pushListed records d field v)
   unfolding pushWord pushListed
   listed-full z = go (leb (d .end + 4) (roomIn (length records))) e
@@ -114,7 +115,8 @@ module _ (records names : List ℕ) (d : Draft) (name : List ℕ) (address : ℕ
   add-no-words h = rw (← er, lt-leb (d .end + 12) fr h)
 
   module _ {fn : ℕ} (en : fn ≡ roomIn (length names)) (h : d .end + 12 ≤ fr) where
-    pub add-no-names : fn < d .last + length name → _≡_ {A = Drafted × List ℕ × List ℕ} (Full, records, names) (addExport records names d name address)
+    pub add-no-names : fn < d .last + length name
+        → _≡_ {A = Drafted × List ℕ × List ℕ} (Full, records, names) (addExport records names d name address)
     unfolding addExport
     add-no-names g = rw (← er, le-leb (d .end + 12) fr h, ← en, lt-leb (d .last + length name) fn g)
 
@@ -149,7 +151,8 @@ unfolding findFrom
 find-from-below [] name i k e = let y : _≡_ {A = ℕ} 0 1 = cc in absurd (omega arith)
 find-from-below (x ∷ xs) name i k e = go (same name (x .name)) e (find-from-below xs name (i + 1) k)
   where
-    go : (b : Bool) → (if b then At i else findFrom (i + 1) xs name) ≡ At k → (findFrom (i + 1) xs name ≡ At k → k < i + 1 + length xs) → k < i + suc (length xs)
+    go : (b : Bool) → (if b then At i else findFrom (i + 1) xs name) ≡ At k → (findFrom (i + 1) xs name ≡ At k → k < i + 1 + length xs)
+        → k < i + suc (length xs)
     go true p ih = let z : i ≡ k = cc in omega arith
     go false p ih = let z = ih p in omega arith
 
@@ -178,7 +181,8 @@ module _ (records : List ℕ) (d : Draft) {s n : ℕ} (es : s ≡ wordIn records
 
   pub found-fits
       : (names name : List ℕ) {f : Found} (k : ℕ) → exportPlace records d + 12 * exportCount records d ≤ length records
-      → f ≡ findExport (exportsIn (wordsIn (take (d .start + 4 * (8 + s) + 12 * n - (d .start + 4 * (8 + s))) (drop (d .start + 4 * (8 + s)) records))) names) name
+      → f ≡ findExport (exportsIn
+      (wordsIn (take (d .start + 4 * (8 + s) + 12 * n - (d .start + 4 * (8 + s))) (drop (d .start + 4 * (8 + s)) records))) names) name
       → f ≡ At k → d .start + 4 * (8 + s) + 12 * k + 12 ≤ length records
   found-fits names name k h e z =
       let from = d .start + 4 * (8 + s) in

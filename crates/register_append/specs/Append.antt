@@ -63,7 +63,8 @@ zeros-again x bs k o e h =
     ∙ ap (sets (x ++ replicate k 0) o) (sets-all bs r lr)
     ∙ ap (λ t. sets (x ++ replicate k 0) t r) e
     ∙ sets-zeros x r k (omega arith)
-    ∙ rw lr (append-assoc x r (replicate (k - length bs) 0) ∙ ap (λ t. x ++ t) (replicate-append-replicate (length bs) (k - length bs) 0 ∙ ap (λ t. replicate t 0) d))
+    ∙ rw lr (append-assoc x r (replicate (k - length bs) 0)
+    ∙ ap (λ t. x ++ t) (replicate-append-replicate (length bs) (k - length bs) 0 ∙ ap (λ t. replicate t 0) d))
 
 -- words of a padded buffer: changed, and more of them
 
@@ -94,18 +95,21 @@ module _ (n : ℕ) (ws : List ℕ) where
 pub recordNames-more : (ms : List Module) (m : Module) → recordNames (ms ++ (m ∷ [])) ≡ recordNames ms ++ moduleNames m
 unfolding recordNames
 recordNames-more [] m = append-nil (moduleNames m)
-recordNames-more (x ∷ ms) m = ap (λ t. moduleNames x ++ t) (recordNames-more ms m) ∙ sym (append-assoc (moduleNames x) (recordNames ms) (moduleNames m))
+recordNames-more (x ∷ ms) m =
+    ap (λ t. moduleNames x ++ t) (recordNames-more ms m) ∙ sym (append-assoc (moduleNames x) (recordNames ms) (moduleNames m))
 
 pub recordWords-more
     : (q : ℕ) (ms : List Module) (m : Module) → recordWords q (ms ++ (m ∷ [])) ≡ recordWords q ms ++ moduleWords (q + length (recordNames ms)) m
 unfolding recordWords recordNames
 recordWords-more q [] m = let z : q + 0 ≡ q = omega arith in rw z (append-nil (moduleWords q m))
 recordWords-more q (x ∷ ms) m =
-    let n : length (moduleNames x ++ recordNames ms) ≡ length (moduleNames x) + length (recordNames ms) = length-append (moduleNames x) (recordNames ms) in
+    let n : length (moduleNames x ++ recordNames ms) ≡ length (moduleNames x) + length (recordNames ms) =
+    length-append (moduleNames x) (recordNames ms) in
     let e : q + (length (moduleNames x) + length (recordNames ms)) ≡ q + length (moduleNames x) + length (recordNames ms) = omega arith in
     rw (n, e)
     (ap (λ t. moduleWords q x ++ t) (recordWords-more (q + length (moduleNames x)) ms m)
-    ∙ sym (append-assoc (moduleWords q x) (recordWords (q + length (moduleNames x)) ms) (moduleWords (q + length (moduleNames x) + length (recordNames ms)) m)))
+    ∙ sym (append-assoc (moduleWords q x) (recordWords (q + length (moduleNames x)) ms)
+    (moduleWords (q + length (moduleNames x) + length (recordNames ms)) m)))
 
 -- the header of the register with m, by three changes of the header without
 pub words-appended
@@ -122,7 +126,8 @@ words-appended r m x end last e f =
     let n : length (ms ++ (m ∷ [])) ≡ length ms + 1 = length-append ms (m ∷ []) in
     let k : length (recordNames (ms ++ (m ∷ []))) ≡ last =
     ap length (recordNames-more ms m) ∙ length-append (recordNames ms) (moduleNames m) ∙ sym f in
-    let l : length (recordWords 0 ms ++ moduleWords (length (recordNames ms)) m) ≡ length (recordWords 0 ms) + length (moduleWords (length (recordNames ms)) m) =
+    let l : length (recordWords 0 ms ++ moduleWords (length (recordNames ms)) m)
+    ≡ length (recordWords 0 ms) + length (moduleWords (length (recordNames ms)) m) =
     length-append (recordWords 0 ms) (moduleWords (length (recordNames ms)) m) in
     let u : 4 * (8 + length (recordWords 0 ms ++ moduleWords (length (recordNames ms)) m)) ≡ end = omega arith in
     rw (k, n, w, u)
@@ -188,13 +193,15 @@ module _ (l n missing : List ℕ) (r : Register) (p : proper r ≡ true) (e : en
         ap (λ t. setWordIn t 0 c) all-words ∙ set-padded (length l) w 0 c (omega (arith, size)) in
         let s₂ : setWordIn (setWordIn records 0 c) 12 (d .end) ≡ padded (length l) (flat (set (set w 0 c) 3 (d .end))) =
         ap (λ t. setWordIn t 12 (d .end)) s₁ ∙ set-padded (length l) (set w 0 c) 3 (d .end) (omega (arith, size)) in
-        let s₃ : setWordIn (setWordIn (setWordIn records 0 c) 12 (d .end)) 16 (d .last) ≡ padded (length l) (flat (set (set (set w 0 c) 3 (d .end)) 4 (d .last))) =
+        let s₃ : setWordIn (setWordIn (setWordIn records 0 c) 12 (d .end)) 16 (d .last)
+        ≡ padded (length l) (flat (set (set (set w 0 c) 3 (d .end)) 4 (d .last))) =
         ap (λ t. setWordIn t 16 (d .last)) s₂ ∙ set-padded (length l) (set (set w 0 c) 3 (d .end)) 4 (d .last) (omega (arith, size)) in
         let q : length (moduleWords (d .names) m) ≡ length mw = ap (λ k. length (moduleWords k m)) en in
         rw (first-word, v)
         (s₃
         ∙ ap (λ t. padded (length l) (flat t))
-        (words-appended r m (getD (wordsIn l) 3 0) (d .end) (d .last) (omega (arith, h .end, es)) (h .last ∙ ap (λ k. k + length (moduleNames m)) en)))
+        (words-appended r m (getD (wordsIn l) 3 0) (d .end) (d .last) (omega (arith, h .end, es))
+        (h .last ∙ ap (λ k. k + length (moduleNames m)) en)))
 
     pub finished-names : names ≡ encodeNames (length n) (appended r m)
     unfolding encodeNames appended padded
@@ -202,7 +209,8 @@ module _ (l n missing : List ℕ) (r : Register) (p : proper r ≡ true) (e : en
         let rn = recordNames (r .modules) in
         let a : n ≡ rn ++ replicate (length n - length rn) 0 = names-are l n missing r e .0 in
         let g : length (moduleNames m) ≤ length n - length rn = omega (arith, h .last, en, h .name-room, room-inside (length n)) in
-        let k : length n - length rn - length (moduleNames m) ≡ length n - length (rn ++ moduleNames m) = omega (arith, length-append rn (moduleNames m)) in
+        let k : length n - length rn - length (moduleNames m) ≡ length n - length (rn ++ moduleNames m) =
+        omega (arith, length-append rn (moduleNames m)) in
         h .bytes
         ∙ ap (λ q. sets n q (moduleNames m)) en
         ∙ ap (λ t. sets t (length rn) (moduleNames m)) a
@@ -293,7 +301,17 @@ module _ (l n missing : List ℕ) (r : Register) (p : proper r ≡ true) (e : en
       let a = used l n missing r p e b in
       let c = named l n missing r p e b in
       let lw : length (moduleWords q new) ≡ 8 = ap length (sym first-words) ∙ eight base size auto q (length name) in (
-        rw (modules, lt-ltb (length (r .modules)) 64 few, a, c, le-leb (u + 32) (roomIn (length l)) g, le-leb (q + length name) (roomIn (length n)) gn, first-words, first-names),
+        rw (
+          modules,
+          lt-ltb (length (r .modules)) 64 few,
+          a,
+          c,
+          le-leb (u + 32) (roomIn (length l)) g,
+          le-leb (q + length name)
+              (roomIn (length n)) gn,
+          first-words,
+          first-names,
+        ),
         record {
           end = omega arith;
           last = ap (λ t. q + length t) (sym first-names);

@@ -26,11 +26,19 @@ roomIn n = if ltb n 0xffff_ffff then n else 0xffff_ffff
 
 pub room-inside : (n : ℕ) → roomIn n ≤ n
 unfolding roomIn
-room-inside n = elim (decLt n 0xffff_ffff) [ yes l ↦ rw (lt-ltb n 0xffff_ffff l) (omega arith) | no l ↦ rw (le-ltb n 0xffff_ffff (omega arith)) (omega arith) ]
+room-inside n = elim (decLt n 0xffff_ffff) [
+  | yes l ↦ rw (lt-ltb n 0xffff_ffff l) (omega arith)
+  | no l ↦ rw (le-ltb n 0xffff_ffff (omega arith))
+      (omega arith)
+]
 
 pub room-word : (n : ℕ) → roomIn n < 2 ^ 32
 unfolding roomIn
-room-word n = elim (decLt n 0xffff_ffff) [ yes l ↦ rw (lt-ltb n 0xffff_ffff l) (omega arith) | no l ↦ rw (le-ltb n 0xffff_ffff (omega arith)) (omega arith) ]
+room-word n = elim (decLt n 0xffff_ffff) [
+  | yes l ↦ rw (lt-ltb n 0xffff_ffff l) (omega arith)
+  | no l ↦ rw (le-ltb n 0xffff_ffff (omega arith))
+      (omega arith)
+]
 
 -- the record bytes and the name bytes used
 unfoldable pub usedBytes : List ℕ → ℕ

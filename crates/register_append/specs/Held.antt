@@ -43,7 +43,8 @@ unfolding exportNames
 exportNames-more [] x = append-nil (x .name)
 exportNames-more (y ∷ xs) x = ap (λ t. y .name ++ t) (exportNames-more xs x) ∙ sym (append-assoc (y .name) (exportNames xs) (x .name))
 
-absent-put : (xs : List Export) (name : List ℕ) (a i : ℕ) → findFrom i xs name ≡ Nothing → putNamed xs name a ≡ xs ++ (record { name = name; address = a } ∷ [])
+absent-put : (xs : List Export) (name : List ℕ) (a i : ℕ) → findFrom i xs name ≡ Nothing → putNamed xs name a
+    ≡ xs ++ (record { name = name; address = a } ∷ [])
 unfolding findFrom putNamed
 absent-put [] name a i e = refl
 absent-put (x ∷ xs) name a i e = go (same name (x .name)) e (absent-put xs name a (i + 1))
@@ -52,7 +53,8 @@ absent-put (x ∷ xs) name a i e = go (same name (x .name)) e (absent-put xs nam
     new = record { name = name; address = a }
 
     go
-        : (b : Bool) → (if b then At i else findFrom (i + 1) xs name) ≡ Nothing → (findFrom (i + 1) xs name ≡ Nothing → putNamed xs name a ≡ xs ++ (new ∷ []))
+        : (b : Bool) → (if b then At i else findFrom (i + 1) xs name) ≡ Nothing
+        → (findFrom (i + 1) xs name ≡ Nothing → putNamed xs name a ≡ xs ++ (new ∷ []))
         → (if b then record { name = x .name; address = a } ∷ xs else x ∷ putNamed xs name a) ≡ x ∷ (xs ++ (new ∷ []))
     go true p ih = let z : _≡_ {A = ℕ} 0 1 = cc in absurd (omega arith)
     go false p ih = ap (λ t. x ∷ t) (ih p)
@@ -139,7 +141,8 @@ module _ (q : ℕ) (m : Module) where
       let x : Export = record { name = name; address = a } in
       let p : putNamed (m .named) name a ≡ m .named ++ (x ∷ []) = absent-put (m .named) name a 0 e in
       let n : length (m .named ++ (x ∷ [])) ≡ length (m .named) + 1 = length-append (m .named) (x ∷ []) in
-      let l : length (m .name ++ exportNames (m .named)) ≡ length (m .name) + length (exportNames (m .named)) = length-append (m .name) (exportNames (m .named)) in
+      let l : length (m .name ++ exportNames (m .named)) ≡ length (m .name) + length (exportNames (m .named)) =
+      length-append (m .name) (exportNames (m .named)) in
       let z : q + (length (m .name) + length (exportNames (m .named))) ≡ q + length (m .name) + length (exportNames (m .named)) = omega arith in
       let w : exportWords (q + length (m .name)) (m .named ++ (x ∷ []))
       ≡ exportWords (q + length (m .name)) (m .named) ++ ((q + length (m .name) + length (exportNames (m .named))) ∷ length name ∷ a ∷ []) =
@@ -160,8 +163,10 @@ module _ (q : ℕ) (m : Module) where
       let w : exportWords (q + length (m .name)) (putNamed (m .named) name a) ≡ set (exportWords (q + length (m .name)) (m .named)) (3 * k + 2) a =
       h .words ∙ ap (λ t. set (exportWords (q + length (m .name)) (m .named)) t a) j in
       let n : length (putNamed (m .named) name a) ≡ length (m .named) = h .size in
-      let b : 3 * k + 2 < length (exportWords (q + length (m .name)) (m .named)) = omega (arith, h .inside, length-exportWords (q + length (m .name)) (m .named)) in
-      let s : 8 + (length (m .segments) + (3 * k + 2)) ≡ suc (suc (suc (suc (suc (suc (suc (suc (length (m .segments) + (3 * k + 2))))))))) = omega arith in
+      let b : 3 * k + 2 < length (exportWords (q + length (m .name)) (m .named)) =
+      omega (arith, h .inside, length-exportWords (q + length (m .name)) (m .named)) in
+      let s : 8 + (length (m .segments) + (3 * k + 2)) ≡ suc (suc (suc (suc (suc (suc (suc (suc (length (m .segments) + (3 * k + 2))))))))) =
+      omega arith in
       rw (s, n, w)
       (ap (λ t. m .base ∷ m .size ∷ flag (m .auto) ∷ q ∷ length (m .name) ∷ length (m .segments) ∷ length (m .named) ∷ length (m .indexed) ∷ t)
       (set-middle (m .segments) (exportWords (q + length (m .name)) (m .named)) (m .indexed) (3 * k + 2) a b))

@@ -140,5 +140,6 @@ module _ (l : List ℕ) (d : Draft) (ws : List ℕ) (e : d .end ≡ d .start + 4
       part-sets l (d .start) (flat ws) (4 * (8 + getD ws 5 0)) (4 * (3 * getD ws 6 0)) (omega arith) (omega arith) in (
         rw w₅,
         w₆,
-        rw (w₅, w₆, n, p) (part-words (flat ws) (8 + getD ws 5 0) (3 * getD ws 6 0) ∙ ap (λ t. part t (8 + getD ws 5 0) (3 * getD ws 6 0)) (words-of ws b)),
+        rw (w₅, w₆, n, p) (part-words (flat ws) (8 + getD ws 5 0) (3 * getD ws 6 0)
+            ∙ ap (λ t. part t (8 + getD ws 5 0) (3 * getD ws 6 0)) (words-of ws b)),
       )

@@ -128,7 +128,8 @@ module _ (l n missing : List ℕ) (r : Register) (p : proper r ≡ true) (e : en
   the-missing =
       let a = names-are l n missing r e in
       let s = slots (r .missing) in
-      let g : length missing ≡ length s + length (replicate {A = ℕ} (length missing - length s) 0) = ap length (a .1) ∙ length-append s (replicate (length missing - length s) 0) in
+      let g : length missing ≡ length s + length (replicate {A = ℕ} (length missing - length s) 0) =
+      ap length (a .1) ∙ length-append s (replicate (length missing - length s) 0) in
       (a .1 ∙ ap (λ k. s ++ replicate (k - length s) 0) (a .2), omega (arith, a .2))
 
   encodes-appended : encodes (encodeRecords (length l) (appended r m)) (encodeNames (length n) (appended r m)) missing (appended r m) ≡ true

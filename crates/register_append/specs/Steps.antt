@@ -28,7 +28,8 @@ use Rattle.register_append.specs.Draft.{roomIn, room-inside, room-word, 
 use Rattle.register_append.specs.Laid.{listed-laid, export-laid, so-far-laid, below-append, below-one, below-three}
 use Rattle.register_append.specs.Held.{Held, found-inside, words-indexed, words-segment, words-export, words-again, names-again, names-export, words-long, below-set}
 
-export-part : (q : ℕ) (m : Module) → part (moduleWords q m) (8 + length (m .segments)) (3 * length (m .named)) ≡ exportWords (q + length (m .name)) (m .named)
+export-part : (q : ℕ) (m : Module) → part (moduleWords q m) (8 + length (m .segments)) (3 * length (m .named))
+    ≡ exportWords (q + length (m .name)) (m .named)
 unfolding moduleWords exportPart
 export-part q m = ap exportPart (sym (append-nil (moduleWords q m))) ∙ exports-part m [] q
 
@@ -53,7 +54,8 @@ module _ (l n : List ℕ) (d : Draft) (m : Module) (records names : List ℕ) (h
       let z : length (moduleWords (d .names) m′) ≡ length ws + 1 = ap length (sym w) ∙ v in
       let b : Below (2 ^ 32) (moduleWords (d .names) m′) =
       subst (Below (2 ^ 32)) w
-      (below-set (2 ^ 32) (ws ++ (a ∷ [])) field (getD ws field 0 + 1) (below-append ws (a ∷ []) (2 ^ 32) (h .small) (below-one a k)) (omega (arith, few))) in
+      (below-set (2 ^ 32) (ws ++ (a ∷ [])) field (getD ws field 0 + 1) (below-append ws (a ∷ []) (2 ^ 32) (h .small) (below-one a k))
+      (omega (arith, few))) in
       let p : pushListed (sets l (d .start) (flat ws)) d field a ≡ (Open (longer d 4), sets l (d .start) (flat (moduleWords (d .names) m′))) =
       listed-laid l d ws (h .end) (h .small) field a f k (omega (arith, few)) (room-inside (length l))
       ∙ rw (le-leb (d .end + 4) (roomIn (length l)) g, w) in (
@@ -82,7 +84,8 @@ module _ (l n : List ℕ) (d : Draft) (m : Module) (records names : List ℕ) (h
       × Held l n (longer d 4) (withSegment m a) (sets l (d .start) (flat (moduleWords (d .names) (withSegment m a)))) names
   unfolding moduleWords moduleNames withSegment
   step-segment a k e f g =
-      listed 5 a (withSegment m a) (omega (arith, words-long (d .names) m)) k (omega (arith, words-long (d .names) m)) (words-segment (d .names) m a e f) refl g
+      listed 5 a (withSegment m a) (omega (arith, words-long (d .names) m)) k (omega (arith, words-long (d .names) m))
+      (words-segment (d .names) m a e f) refl g
 
   pub step-indexed
       : (a : ℕ) → a < 2 ^ 32 → d .end + 4 ≤ roomIn (length l)
@@ -90,7 +93,8 @@ module _ (l n : List ℕ) (d : Draft) (m : Module) (records names : List ℕ) (h
       × Held l n (longer d 4) (withIndexed m a) (sets l (d .start) (flat (moduleWords (d .names) (withIndexed m a)))) names
   unfolding moduleWords moduleNames withIndexed
   step-indexed a k g =
-      listed 7 a (withIndexed m a) (omega (arith, words-long (d .names) m)) k (omega (arith, words-long (d .names) m)) (words-indexed (d .names) m a) refl g
+      listed 7 a (withIndexed m a) (omega (arith, words-long (d .names) m)) k (omega (arith, words-long (d .names) m))
+      (words-indexed (d .names) m a) refl g
 
 -- exports: those so far are the module's
 
@@ -155,7 +159,8 @@ module _ (l n : List ℕ) (d : Draft) (m : Module) (records names : List ℕ) (h
       let z : length (moduleWords q (withExport m name a)) ≡ length (moduleWords q m) = ap length (sym w) ∙ length-set (moduleWords q m) i a in
       let p : exportPlace records d + 12 * k + 8 ≡ d .start + 4 * i = omega (arith, so-far .0) in
       let c : setWordIn records (exportPlace records d + 12 * k + 8) a ≡ sets l (d .start) (flat (moduleWords q (withExport m name a))) =
-      rw p (ap (λ t. setWordIn t (d .start + 4 * i) a) (h .words) ∙ change-laid l (d .start) (moduleWords q m) i a (omega arith) ∙ ap (λ t. sets l (d .start) (flat t)) w) in (
+      rw p (ap (λ t. setWordIn t (d .start + 4 * i) a) (h .words) ∙ change-laid l (d .start) (moduleWords q m) i a (omega arith)
+      ∙ ap (λ t. sets l (d .start) (flat t)) w) in (
         rw (exports-held, f, c),
         record {
           end = h .end ∙ ap (λ t. d .start + 4 * t) (sym z);
@@ -199,7 +204,8 @@ module _ (l n : List ℕ) (d : Draft) (m : Module) (records names : List ℕ) (h
       ∙ export-laid l d x (h .end) (h .small) (length name) a (omega arith) hl hc ha h6 (omega (arith, g, room-inside (length l)))
       ∙ ap (λ t. sets l (d .start) (flat t)) w in
       let e : sets names (d .last) name ≡ sets n q (moduleNames (withExport m name a)) =
-      ap (λ t. sets t (d .last) name) (h .bytes) ∙ ap (λ t. sets (sets n q (moduleNames m)) t name) (h .last) ∙ sym (sets-append n q (moduleNames m) name) ∙ ap (sets n q) (sym s) in (
+      ap (λ t. sets t (d .last) name) (h .bytes) ∙ ap (λ t. sets (sets n q (moduleNames m)) t name) (h .last)
+      ∙ sym (sets-append n q (moduleNames m) name) ∙ ap (sets n q) (sym s) in (
         rw (exports-held, f, er, en, le-leb (d .end + 12) (roomIn (length l)) g, le-leb (d .last + length name) (roomIn (length n)) gn, c, e),
         record {
           end = omega (arith, h .end);

@@ -51,7 +51,8 @@ standing (m ∷ ms) records names i q rest pre post ew en lp h l =
     let q′ = q + length (moduleNames m) in
     let a = both (properModule m) (properModules ms) h in
     let k : length (moduleWords q m ++ recordWords q′ ms) ≡ n + length (recordWords q′ ms) = length-append (moduleWords q m) (recordWords q′ ms) in
-    let f : drop i (wordsIn records) ≡ moduleWords q m ++ (recordWords q′ ms ++ rest) = ew ∙ append-assoc (moduleWords q m) (recordWords q′ ms) rest in
+    let f : drop i (wordsIn records) ≡ moduleWords q m ++ (recordWords q′ ms ++ rest) =
+    ew ∙ append-assoc (moduleWords q m) (recordWords q′ ms) rest in
     let s =
     stands records names i q m (recordWords q′ ms ++ rest) pre (recordNames ms ++ post) f (en ∙ simp append-assoc) lp (a .0) (omega arith) in
     let d : drop (i + n) (wordsIn records) ≡ recordWords q′ ms ++ rest =

@@ -20,7 +20,8 @@ unfolding moduleBytes moduleWords
 module-bytes q m =
     let ex = exportWords (q + length (m .name)) (m .named) in
     let l : length ex ≡ 3 * length (m .named) = length-exportWords (q + length (m .name)) (m .named) in
-    let a : length (m .segments ++ (ex ++ m .indexed)) ≡ length (m .segments) + (length ex + length (m .indexed)) = rw (length-append, length-append) in
+    let a : length (m .segments ++ (ex ++ m .indexed)) ≡ length (m .segments) + (length ex + length (m .indexed)) =
+    rw (length-append, length-append) in
     omega arith
 
 -- the record of module m begins at byte `place`, and is whole
@@ -32,7 +33,8 @@ pub record Stands (records names : List ℕ) (place : ℕ) (m : Module) : Type 0
   pub aligned : place % 4 ≡ 0
   pub proper : properModule m ≡ true
 
-pub stands-end : {records names : List ℕ} {place : ℕ} {m : Module} → Stands records names place m → recordEnd (recordAt records place) ≡ place + moduleBytes m
+pub stands-end : {records names : List ℕ} {place : ℕ} {m : Module} → Stands records names place m → recordEnd (recordAt records place)
+    ≡ place + moduleBytes m
 unfolding moduleBytes
 stands-end s = ap recordEnd (s .words)
 

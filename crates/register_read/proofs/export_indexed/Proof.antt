@@ -49,7 +49,8 @@ returns : tie.Need-returns
 returns c =
     let l = c .before .before in
     λ names.
-    indexed-entry _ _ _ (l .before .before .before .bytes-from .ensures) (l .before .before .word .ensures) (l .before .word2 .ensures) names _ _ (l .word3 .ensures)
+    indexed-entry _ _ _ (l .before .before .before .bytes-from .ensures) (l .before .before .word .ensures) (l .before .word2 .ensures) names _ _
+    (l .word3 .ensures)
     (c .before .bytes-at .ensures) (c .entry-of .ensures)
 
 pub export-indexed-spec : {M : Type 1} → statement M

@@ -44,7 +44,8 @@ enum-told c = search needs
 returns : tie.Need-returns
 returns c =
     let l = c .before .before .before in
-    export-none _ _ _ (l .before .before .before .bytes-from .ensures) (l .before .before .word .ensures) (l .before .word2 .ensures) _ _ _ (l .bytes-at .ensures)
+    export-none _ _ _ (l .before .before .before .bytes-from .ensures) (l .before .before .word .ensures) (l .before .word2 .ensures) _ _ _
+    (l .bytes-at .ensures)
     (sym (c .before .before .find-export .ensures) ∙ c .enum-told .given .1)
 
 mul-word : tie.Need-mul-word
@@ -65,7 +66,8 @@ word-requires-3 c κs = search needs
 returns-2 : tie.Need-returns-2
 returns-2 c =
     let l = c .before .before .before .before .before in
-    export-at _ _ _ (l .before .before .before .bytes-from .ensures) (l .before .before .word .ensures) (l .before .word2 .ensures) _ _ _ (l .bytes-at .ensures)
+    export-at _ _ _ (l .before .before .before .bytes-from .ensures) (l .before .before .word .ensures) (l .before .word2 .ensures) _ _ _
+    (l .bytes-at .ensures)
     (sym (c .before .before .before .before .find-export .ensures) ∙ c .before .before .k .given .1) (c .word3 .ensures)
 
 pub export-named-spec : {M : Type 1} → statement M

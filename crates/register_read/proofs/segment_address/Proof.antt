@@ -23,7 +23,8 @@ entry-of-requires c κs = search needs
 
 returns : tie.Need-returns
 returns c = λ names.
-    segment-entry _ _ _ (c .before .before .before .bytes-from .ensures) (c .before .before .word .ensures) names _ _ (c .before .bytes-at .ensures) (c .entry-of .ensures)
+    segment-entry _ _ _ (c .before .before .before .bytes-from .ensures) (c .before .before .word .ensures) names _ _ (c .before .bytes-at .ensures)
+    (c .entry-of .ensures)
 
 pub segment-address-spec : {M : Type 1} → statement M
 segment-address-spec =

@@ -1,9 +1,8 @@
-use mathlib.Core.Path.{sym}
+use mathlib.Core.Path.{sym, _∙_}
 use lib.Seq.{length-take-le}
 use borrow.Author.Tests.{not-true, not-false}
 use borrow.Author.Needs.{needs}
-use Rattle.register.specs.Words.{part}
-use Rattle.register.specs.Check.{contentsOk}
+use Rattle.register.proofs.Contents.{modules-are, slots-are, modules-wrong, slots-wrong, records-wrong, names-wrong, contents-right}
 use Rattle.register.proofs.check.contents_ok.Statement.{statement}
 use Rattle.register.proofs.check.contents_ok.Tie as tie
 
@@ -20,7 +19,9 @@ part-modules-ok-end : tie.Need-part-modules-ok-end
 part-modules-ok-end c = search needs
 
 slice-aggregate-modules-ok : tie.Need-slice-aggregate-modules-ok
-slice-aggregate-modules-ok c = sym (length-take-le (c .before .before .before .before .before .before .args .named) (c .before .before .before .before .before .before .args .names .now) (c .before .before .before .before .before .before .pre .2))
+slice-aggregate-modules-ok c =
+    sym (length-take-le (c .before .before .before .before .before .before .args .named)
+    (c .before .before .before .before .before .before .args .names .now) (c .before .before .before .before .before .before .pre .2))
 
 word-requires-2 : tie.Need-word-requires-2
 word-requires-2 c κs = search needs
@@ -29,29 +30,46 @@ modules-ok-requires : tie.Need-modules-ok-requires
 modules-ok-requires c κs = search needs
 
 returns : tie.Need-returns
-unfolding contentsOk part
-returns c = rw (← c .before .before .word2 .ensures, ← c .before .modules-ok .ensures, not-true (c .before .modules-ok .result) (c .if1 .taken))
+returns c =
+    modules-wrong _ _ _ _ _ _ _
+    (modules-are _ _ (c .before .before .word2 .ensures) (c .before .modules-ok .ensures) (not-true _ (c .if1 .taken)))
 
 slots-ok-requires : tie.Need-slots-ok-requires
 slots-ok-requires c κs = search needs
 
 returns-2 : tie.Need-returns-2
-unfolding contentsOk part
-returns-2 c = rw (← c .before .before .before .before .word2 .ensures, ← c .before .before .before .modules-ok .ensures, not-false (c .before .before .before .modules-ok .result) (c .before .before .if1 .left), ← c .before .before .before .before .before .before .before .word .ensures, ← c .before .slots-ok .ensures, not-true (c .before .slots-ok .result) (c .if2 .taken))
+returns-2 c =
+    slots-wrong _ _ _ _ _ _ _
+    (modules-are _ _ (c .before .before .before .before .word2 .ensures) (c .before .before .before .modules-ok .ensures)
+    (not-false _ (c .before .before .if1 .left)))
+    (slots-are _ (c .before .before .before .before .before .before .before .word .ensures) (c .before .slots-ok .ensures)
+    (not-true _ (c .if2 .taken)))
 
 zero-from-requires : tie.Need-zero-from-requires
 zero-from-requires c κs = search needs
 
 returns-3 : tie.Need-returns-3
-unfolding contentsOk part
-returns-3 c = rw (← c .before .before .before .before .before .before .word2 .ensures, ← c .before .before .before .before .before .modules-ok .ensures, not-false (c .before .before .before .before .before .modules-ok .result) (c .before .before .before .before .if1 .left), ← c .before .before .before .before .before .before .before .before .before .word .ensures, ← c .before .before .before .slots-ok .ensures, not-false (c .before .before .before .slots-ok .result) (c .before .before .if2 .left), ← c .before .zero-from .ensures, not-true (c .before .zero-from .result) (c .if3 .taken))
+returns-3 c =
+    records-wrong _ _ _ _ _ _ _
+    (modules-are _ _ (c .before .before .before .before .before .before .word2 .ensures)
+    (c .before .before .before .before .before .modules-ok .ensures) (not-false _ (c .before .before .before .before .if1 .left)))
+    (slots-are _ (c .before .before .before .before .before .before .before .before .before .word .ensures)
+    (c .before .before .before .slots-ok .ensures) (not-false _ (c .before .before .if2 .left)))
+    (sym (c .before .zero-from .ensures) ∙ not-true _ (c .if3 .taken))
 
 zero-from-requires-2 : tie.Need-zero-from-requires-2
 zero-from-requires-2 c κs = search needs
 
 returns-4 : tie.Need-returns-4
-unfolding contentsOk part
-returns-4 c = rw (← c .before .before .before .before .before .before .before .before .word2 .ensures, ← c .before .before .before .before .before .before .before .modules-ok .ensures, not-false (c .before .before .before .before .before .before .before .modules-ok .result) (c .before .before .before .before .before .before .if1 .left), ← c .before .before .before .before .before .before .before .before .before .before .before .word .ensures, ← c .before .before .before .before .before .slots-ok .ensures, not-false (c .before .before .before .before .before .slots-ok .result) (c .before .before .before .before .if2 .left), ← c .before .before .before .zero-from .ensures, not-false (c .before .before .before .zero-from .result) (c .before .before .if3 .left), ← c .before .zero-from2 .ensures, not-true (c .before .zero-from2 .result) (c .if4 .taken))
+returns-4 c =
+    names-wrong _ _ _ _ _ _ _
+    (modules-are _ _ (c .before .before .before .before .before .before .before .before .word2 .ensures)
+    (c .before .before .before .before .before .before .before .modules-ok .ensures)
+    (not-false _ (c .before .before .before .before .before .before .if1 .left)))
+    (slots-are _ (c .before .before .before .before .before .before .before .before .before .before .before .word .ensures)
+    (c .before .before .before .before .before .slots-ok .ensures) (not-false _ (c .before .before .before .before .if2 .left)))
+    (sym (c .before .before .before .zero-from .ensures) ∙ not-false _ (c .before .before .if3 .left))
+    (sym (c .before .zero-from2 .ensures) ∙ not-true _ (c .if4 .taken))
 
 cast-zero-from : tie.Need-cast-zero-from
 cast-zero-from c = search needs
@@ -63,8 +81,17 @@ zero-from-requires-3 : tie.Need-zero-from-requires-3
 zero-from-requires-3 c κs = search needs
 
 returns-5 : tie.Need-returns-5
-unfolding contentsOk part
-returns-5 c = rw (← c .before .before .before .before .before .before .before .before .before .word2 .ensures, ← c .before .before .before .before .before .before .before .before .modules-ok .ensures, not-false (c .before .before .before .before .before .before .before .before .modules-ok .result) (c .before .before .before .before .before .before .before .if1 .left), ← c .before .before .before .before .before .before .before .before .before .before .before .before .word .ensures, ← c .before .before .before .before .before .before .slots-ok .ensures, not-false (c .before .before .before .before .before .before .slots-ok .result) (c .before .before .before .before .before .if2 .left), ← c .before .before .before .before .zero-from .ensures, not-false (c .before .before .before .before .zero-from .result) (c .before .before .before .if3 .left), ← c .before .before .zero-from2 .ensures, not-false (c .before .before .zero-from2 .result) (c .before .if4 .left)) (c .zero-from3 .ensures)
+returns-5 c =
+    c .zero-from3 .ensures
+    ∙ (rw (c .before .before .before .before .before .before .before .before .before .before .before .before .word .ensures)
+    (contents-right _ _ _ _ _ _ _
+    (modules-are _ _ (c .before .before .before .before .before .before .before .before .before .word2 .ensures)
+    (c .before .before .before .before .before .before .before .before .modules-ok .ensures)
+    (not-false _ (c .before .before .before .before .before .before .before .if1 .left)))
+    (slots-are _ (c .before .before .before .before .before .before .before .before .before .before .before .before .word .ensures)
+    (c .before .before .before .before .before .before .slots-ok .ensures) (not-false _ (c .before .before .before .before .before .if2 .left)))
+    (sym (c .before .before .before .before .zero-from .ensures) ∙ not-false _ (c .before .before .before .if3 .left))
+    (sym (c .before .before .zero-from2 .ensures) ∙ not-false _ (c .before .if4 .left))))
 
 pub contents-ok-spec : {M : Type 1} → statement M
 contents-ok-spec =

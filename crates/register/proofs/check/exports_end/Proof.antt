@@ -39,7 +39,9 @@ name-ok-requires : tie.Need-name-ok-requires Inv-loop μ-loop
 name-ok-requires c κs = search needs
 
 returns : tie.Need-returns Inv-loop μ-loop
-returns c = end-bad _ _ _ _ _ _ (c .before .before .before .before .loop-test .taken) (c .before .before .word2 .ensures) (c .before .before .before .word .ensures) (c .before .name-ok .ensures) (not-true _ (c .if1 .taken)) ∙ c .before .before .before .before .before .loop .inv
+returns c = end-bad _ _ _ _ _ _ (c .before .before .before .before .loop-test .taken) (c .before .before .word2 .ensures)
+    (c .before .before .before .word .ensures) (c .before .name-ok .ensures) (not-true _ (c .if1 .taken))
+    ∙ c .before .before .before .before .before .loop .inv
 
 cast-place : tie.Need-cast-place Inv-loop μ-loop
 cast-place c = omega arith
@@ -54,7 +56,9 @@ loop-less : tie.Need-loop-less Inv-loop μ-loop
 loop-less c = omega arith
 
 loop-again : tie.Need-loop-again Inv-loop μ-loop
-loop-again c = end-on _ _ _ _ _ _ (c .before .before .before .before .loop-test .taken) (c .before .before .word2 .ensures) (c .before .before .before .word .ensures) (c .before .name-ok .ensures) (not-false _ (c .if1 .left)) ∙ c .before .before .before .before .before .loop .inv
+loop-again c = end-on _ _ _ _ _ _ (c .before .before .before .before .loop-test .taken) (c .before .before .word2 .ensures)
+    (c .before .before .before .word .ensures) (c .before .name-ok .ensures) (not-false _ (c .if1 .left))
+    ∙ c .before .before .before .before .before .loop .inv
 
 returns-2 : tie.Need-returns-2 Inv-loop μ-loop
 returns-2 c = end-done _ _ _ _ _ (c .loop-test .left) ∙ c .before .loop .inv

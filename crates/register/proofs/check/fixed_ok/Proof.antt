@@ -21,14 +21,30 @@ word-requires c κs = search needs
 
 returns-3 : tie.Need-returns-3
 unfolding fixedOk
-returns-3 c = simp (length-words, le-leb _ _ (c .before .before .before .before .if1 .left), ← c .before .before .before .module-size .ensures, le-leb _ _ (c .before .before .if2 .left), ← c .before .word .ensures, lt-leb _ _ (c .if3 .taken))
+returns-3 c = simp (
+  length-words,
+  le-leb _ _ (c .before .before .before .before .if1 .left),
+  ← c .before .before .before .module-size .ensures,
+  le-leb _ _ (c .before .before .if2 .left),
+  ← c .before .word .ensures,
+  lt-leb _ _ (c .if3 .taken),
+)
 
 word-requires-2 : tie.Need-word-requires-2
 word-requires-2 c κs = search needs
 
 returns-4 : tie.Need-returns-4
 unfolding fixedOk
-returns-4 c = simp (length-words, le-leb _ _ (c .before .before .before .before .before .before .if1 .left), ← c .before .before .before .before .before .module-size .ensures, le-leb _ _ (c .before .before .before .before .if2 .left), ← c .before .before .before .word .ensures, le-leb _ _ (c .before .before .if3 .left), ← c .before .word2 .ensures, lt-leb _ _ (c .if4 .taken))
+returns-4 c = simp (
+  length-words,
+  le-leb _ _ (c .before .before .before .before .before .before .if1 .left),
+  ← c .before .before .before .before .before .module-size .ensures,
+  le-leb _ _ (c .before .before .before .before .if2 .left),
+  ← c .before .before .before .word .ensures,
+  le-leb _ _ (c .before .before .if3 .left),
+  ← c .before .word2 .ensures,
+  lt-leb _ _ (c .if4 .taken),
+)
 
 word-requires-3 : tie.Need-word-requires-3
 word-requires-3 c κs = search needs
@@ -41,7 +57,20 @@ name-ok-requires c κs = search needs
 
 returns-5 : tie.Need-returns-5
 unfolding fixedOk
-returns-5 c = simp (length-words, le-leb _ _ (c .before .before .before .before .before .before .before .before .before .if1 .left), ← c .before .before .before .before .before .before .before .before .module-size .ensures, le-leb _ _ (c .before .before .before .before .before .before .before .if2 .left), ← c .before .before .before .before .before .before .word .ensures, le-leb _ _ (c .before .before .before .before .before .if3 .left), ← c .before .before .before .before .word2 .ensures, le-leb _ _ (c .before .before .before .if4 .left), ← c .before .before .word3 .ensures, ← c .before .word4 .ensures) (c .name-ok .ensures)
+returns-5 c = simp (
+  length-words,
+  le-leb _ _ (c .before .before .before .before .before .before .before .before .before .if1 .left),
+  ← c .before .before .before .before .before .before .before .before .module-size .ensures,
+  le-leb _ _
+      (c .before .before .before .before .before .before .before .if2 .left),
+  ← c .before .before .before .before .before .before .word .ensures,
+  le-leb _ _ (c .before .before .before .before .before .if3 .left),
+  ← c .before .before .before .before .word2 .ensures,
+  le-leb _ _
+      (c .before .before .before .if4 .left),
+  ← c .before .before .word3 .ensures,
+  ← c .before .word4 .ensures,
+) (c .name-ok .ensures)
 
 pub fixed-ok-spec : {M : Type 1} → statement M
 fixed-ok-spec =

@@ -45,14 +45,17 @@ part-list-start c = search needs
 
 part-list-end : tie.Need-part-list-end
 part-list-end c = let w = wordsIn (c .before .before .before .before .before .before .args .bytes .now) in
-    let h = size-bytes (c .before .before .before .before .before .before .args .bytes .now) (fixed-size _ _ _ (c .before .before .before .fixed-ok .ensures) (not-false _ (c .before .before .if1 .left))) in
+    let h = size-bytes (c .before .before .before .before .before .before .args .bytes .now)
+    (fixed-size _ _ _ (c .before .before .before .fixed-ok .ensures) (not-false _ (c .before .before .if1 .left))) in
     omega (arith, c .before .word .ensures, c .word2 .ensures)
 
 distinct-exports-requires : tie.Need-distinct-exports-requires
 distinct-exports-requires c κs = search needs
 
 returns-2 : tie.Need-returns-2
-returns-2 c = module-twice _ _ _ _ (c .before .before .before .before .before .before .fixed-ok .ensures) (not-false _ (c .before .before .before .before .before .if1 .left)) (export-words _ _ (c .before .before .before .before .word .ensures) (c .before .before .before .word2 .ensures) refl)
+returns-2 c = module-twice _ _ _ _ (c .before .before .before .before .before .before .fixed-ok .ensures)
+    (not-false _ (c .before .before .before .before .before .if1 .left))
+    (export-words _ _ (c .before .before .before .before .word .ensures) (c .before .before .before .word2 .ensures) refl)
     (c .before .distinct-exports .ensures)
     (not-true _ (c .if2 .taken))
 
@@ -63,14 +66,19 @@ cast-exports-end : tie.Need-cast-exports-end
 cast-exports-end c = search needs
 
 add-exports-end : tie.Need-add-exports-end
-add-exports-end c = let h = fixed-name _ _ _ (c .before .before .before .before .before .before .before .fixed-ok .ensures) (not-false _ (c .before .before .before .before .before .before .if1 .left)) in
+add-exports-end c = let h =
+    fixed-name _ _ _ (c .before .before .before .before .before .before .before .fixed-ok .ensures)
+    (not-false _ (c .before .before .before .before .before .before .if1 .left)) in
     omega (arith, c .word3 .ensures)
 
 exports-end-requires : tie.Need-exports-end-requires
 exports-end-requires c κs = search needs
 
 returns-3 : tie.Need-returns-3
-returns-3 c = module-end _ _ _ _ (c .before .before .before .before .before .before .before .before .fixed-ok .ensures) (not-false _ (c .before .before .before .before .before .before .before .if1 .left)) (export-words _ _ (c .before .before .before .before .before .before .word .ensures) (c .before .before .before .before .before .word2 .ensures) refl)
+returns-3 c = module-end _ _ _ _ (c .before .before .before .before .before .before .before .before .fixed-ok .ensures)
+    (not-false _ (c .before .before .before .before .before .before .before .if1 .left))
+    (export-words _ _ (c .before .before .before .before .before .before .word .ensures)
+    (c .before .before .before .before .before .word2 .ensures) refl)
     (c .before .before .before .distinct-exports .ensures)
     (not-false _ (c .before .before .if2 .left))
     (c .before .word3 .ensures)

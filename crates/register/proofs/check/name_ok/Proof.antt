@@ -11,14 +11,14 @@ returns c = simp (ne-eqb _ _ (c .if1 .taken))
 
 returns-2 : tie.Need-returns-2
 unfolding nameOk
-returns-2 c = simp (eq-eqb _ _ (c .before .if1 .left), lt-leb _ _ (c .if2 .taken))
+returns-2 c = simp (eq-eqb _ _ (c .before .if1 .left), lt-leb _ 512 (c .if2 .taken))
 
 add-end : tie.Need-add-end
 add-end c = search needs
 
 returns-3 : tie.Need-returns-3
 unfolding nameOk
-returns-3 c = simp (eq-eqb _ _ (c .before .before .if1 .left), le-leb _ _ (c .before .if2 .left), lt-leb _ _ (c .if3 .taken))
+returns-3 c = simp (eq-eqb _ _ (c .before .before .if1 .left), le-leb _ 512 (c .before .if2 .left), lt-leb _ _ (c .if3 .taken))
 
 sub-no-zero : tie.Need-sub-no-zero
 sub-no-zero c = search needs
@@ -33,7 +33,8 @@ no-zero-requires : tie.Need-no-zero-requires
 no-zero-requires c κs = search needs
 
 returns-4 : tie.Need-returns-4
-returns-4 c = name-good _ _ _ _ (c .before .before .before .before .if1 .left) (c .before .before .before .if2 .left) (c .before .before .if3 .left) (c .no-zero .ensures)
+returns-4 c = name-good _ _ _ _ (c .before .before .before .before .if1 .left) (c .before .before .before .if2 .left) (c .before .before .if3 .left)
+    (c .no-zero .ensures)
 
 pub name-ok-spec : {M : Type 1} → statement M
 name-ok-spec =

@@ -53,7 +53,8 @@ zero-from-requires c κs = search needs
 
 returns-3 : tie.Need-returns-3
 unfolding slotLength
-returns-3 c = slot-rest _ refl (c .before .before .before .before .if1 .left) (c .before .before .no-zero .ensures) (not-false _ (c .before .if2 .left)) (c .zero-from .ensures)
+returns-3 c = slot-rest _ refl (c .before .before .before .before .if1 .left) (c .before .before .no-zero .ensures)
+    (not-false _ (c .before .if2 .left)) (c .zero-from .ensures)
 
 pub slot-ok-spec : {M : Type 1} → statement M
 slot-ok-spec =

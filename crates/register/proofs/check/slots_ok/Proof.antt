@@ -34,11 +34,15 @@ part-slot-ok-end c = omega arith
 slot-ok-requires : tie.Need-slot-ok-requires Inv-loop μ-loop
 slot-ok-requires c κs = let p = c .before .before .loop .place in
     let e : p + 514 - p ≡ 514 = omega arith in
-    let l : length (drop p (c .before .before .before .before .args .missing .now)) ≡ length (c .before .before .before .before .args .missing .now) - p = length-drop p (c .before .before .before .before .args .missing .now) in
+    let l : length (drop p (c .before .before .before .before .args .missing .now))
+    ≡ length (c .before .before .before .before .args .missing .now) - p = length-drop p
+    (c .before .before .before .before .args .missing .now) in
     rw e (length-take-le 514 (drop p (c .before .before .before .before .args .missing .now)) (omega arith))
 
 returns : tie.Need-returns Inv-loop μ-loop
-returns c = slot-bad (c .before .before .before .before .before .before .args .missing .now) _ _ (c .before .before .before .before .loop .place) (c .before .before .before .loop-test .taken) (c .before .slot-ok .ensures) (not-true _ (c .if1 .taken)) ∙ c .before .before .before .before .loop .inv .2
+returns c = slot-bad (c .before .before .before .before .before .before .args .missing .now) _ _ (c .before .before .before .before .loop .place)
+    (c .before .before .before .loop-test .taken) (c .before .slot-ok .ensures) (not-true _ (c .if1 .taken))
+    ∙ c .before .before .before .before .loop .inv .2
 
 add-k : tie.Need-add-k Inv-loop μ-loop
 add-k c = omega arith
@@ -50,7 +54,9 @@ loop-again : tie.Need-loop-again Inv-loop μ-loop
 loop-again c = (
   omega arith,
   omega arith,
-  slot-on (c .before .before .before .before .before .before .args .missing .now) _ _ (c .before .before .before .before .loop .place) (c .before .before .before .loop-test .taken) (c .before .slot-ok .ensures) (not-false _ (c .if1 .left)) ∙ c .before .before .before .before .loop .inv .2,
+  slot-on (c .before .before .before .before .before .before .args .missing .now) _ _ (c .before .before .before .before .loop .place)
+      (c .before .before .before .loop-test .taken) (c .before .slot-ok .ensures) (not-false _ (c .if1 .left))
+      ∙ c .before .before .before .before .loop .inv .2,
 )
 
 returns-2 : tie.Need-returns-2 Inv-loop μ-loop

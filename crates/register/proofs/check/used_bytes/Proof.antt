@@ -18,11 +18,13 @@ word-requires-2 : tie.Need-word-requires-2
 word-requires-2 c κs = search needs
 
 returns-2 : tie.Need-returns-2
-returns-2 c = let h : 3 < length (wordsIn (c .before .before .before .before .before .args .records .now)) = omega (arith, length-words (c .before .before .before .before .before .args .records .now)) in
+returns-2 c = let h : 3 < length (wordsIn (c .before .before .before .before .before .args .records .now)) =
+    omega (arith, length-words (c .before .before .before .before .before .args .records .now)) in
     used-none _ h (sym (c .before .before .before .word .ensures) ∙ c .before .before .if1 .left) (sym (c .before .word2 .ensures) ∙ c .if2 .taken)
 
 returns-3 : tie.Need-returns-3
-returns-3 c = used-zero _ (sym (c .before .before .before .word .ensures) ∙ c .before .before .if1 .left) (λ e. c .if2 .left (c .before .word2 .ensures ∙ e))
+returns-3 c = used-zero _ (sym (c .before .before .before .word .ensures) ∙ c .before .before .if1 .left)
+    (λ e. c .if2 .left (c .before .word2 .ensures ∙ e))
 
 pub used-bytes-spec : {M : Type 1} → statement M
 used-bytes-spec = tie.close (tie.spec word-requires returns word-requires-2 returns-2 returns-3)

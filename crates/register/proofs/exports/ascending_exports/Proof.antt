@@ -38,7 +38,9 @@ is-before-requires : tie.Need-is-before-requires Inv-loop μ-loop
 is-before-requires c κs = search needs
 
 returns : tie.Need-returns Inv-loop μ-loop
-returns c = ascending-stop _ _ _ _ _ _ _ (c .before .before .before .before .loop-test .taken) (c .before .before .before .export-name .ensures) (c .before .before .export-name2 .ensures) (c .before .is-before .ensures) (not-true _ (c .if1 .taken)) ∙ c .before .before .before .before .before .loop .inv .1
+returns c = ascending-stop _ _ _ _ _ _ _ (c .before .before .before .before .loop-test .taken) (c .before .before .before .export-name .ensures)
+    (c .before .before .export-name2 .ensures) (c .before .is-before .ensures) (not-true _ (c .if1 .taken))
+    ∙ c .before .before .before .before .before .loop .inv .1
 
 add-k : tie.Need-add-k Inv-loop μ-loop
 add-k c = omega arith
@@ -47,7 +49,12 @@ loop-less : tie.Need-loop-less Inv-loop μ-loop
 loop-less c = omega arith
 
 loop-again : tie.Need-loop-again Inv-loop μ-loop
-loop-again c = (omega arith, ascending-goes _ _ _ _ _ _ _ (c .before .before .before .before .loop-test .taken) (c .before .before .before .export-name .ensures) (c .before .before .export-name2 .ensures) (c .before .is-before .ensures) (not-false _ (c .if1 .left)) ∙ c .before .before .before .before .before .loop .inv .1)
+loop-again c = (
+  omega arith,
+  ascending-goes _ _ _ _ _ _ _ (c .before .before .before .before .loop-test .taken)
+      (c .before .before .before .export-name .ensures) (c .before .before .export-name2 .ensures) (c .before .is-before .ensures)
+      (not-false _ (c .if1 .left)) ∙ c .before .before .before .before .before .loop .inv .1,
+)
 
 returns-2 : tie.Need-returns-2 Inv-loop μ-loop
 returns-2 c = ascending-end _ _ _ _ (c .loop-test .left) ∙ c .before .loop .inv .1

@@ -44,7 +44,10 @@ is-absent-requires : tie.Need-is-absent-requires Inv-loop μ-loop
 is-absent-requires c κs = search needs
 
 returns : tie.Need-returns Inv-loop μ-loop
-returns c = distinct-stop _ _ _ _ _ _ (c .before .before .before .before .loop-test .taken) (c .before .before .export-name .ensures) (rest-of (c .before .before .before .before .before .before .before .before .args .exports .now) (12 * (c .before .before .before .before .before .loop .k + 1))) (c .before .is-absent .ensures) (not-true _ (c .if1 .taken)) ∙ c .before .before .before .before .before .loop .inv
+returns c = distinct-stop _ _ _ _ _ _ (c .before .before .before .before .loop-test .taken) (c .before .before .export-name .ensures)
+    (rest-of (c .before .before .before .before .before .before .before .before .args .exports .now)
+    (12 * (c .before .before .before .before .before .loop .k + 1))) (c .before .is-absent .ensures) (not-true _ (c .if1 .taken))
+    ∙ c .before .before .before .before .before .loop .inv
 
 add-k : tie.Need-add-k Inv-loop μ-loop
 add-k c = omega arith
@@ -53,7 +56,10 @@ loop-less : tie.Need-loop-less Inv-loop μ-loop
 loop-less c = omega arith
 
 loop-again : tie.Need-loop-again Inv-loop μ-loop
-loop-again c = distinct-goes _ _ _ _ _ _ (c .before .before .before .before .loop-test .taken) (c .before .before .export-name .ensures) (rest-of (c .before .before .before .before .before .before .before .before .args .exports .now) (12 * (c .before .before .before .before .before .loop .k + 1))) (c .before .is-absent .ensures) (not-false _ (c .if1 .left)) ∙ c .before .before .before .before .before .loop .inv
+loop-again c = distinct-goes _ _ _ _ _ _ (c .before .before .before .before .loop-test .taken) (c .before .before .export-name .ensures)
+    (rest-of (c .before .before .before .before .before .before .before .before .args .exports .now)
+    (12 * (c .before .before .before .before .before .loop .k + 1))) (c .before .is-absent .ensures) (not-false _ (c .if1 .left))
+    ∙ c .before .before .before .before .before .loop .inv
 
 returns-2 : tie.Need-returns-2 Inv-loop μ-loop
 returns-2 c = distinct-end _ _ _ _ (c .loop-test .left) ∙ c .before .loop .inv

@@ -19,7 +19,8 @@ abbrev μ-loop : tie.MeasureT-loop
 
 loop-holds : tie.Need-loop-holds Inv-loop μ-loop
 unfolding findExport
-loop-holds c = ap (λ xs. findFrom 0 xs (c .before .before .before .args .name .now)) (all-exports (c .before .before .before .args .exports .now) (c .before .before .before .args .names .now))
+loop-holds c = ap (λ xs. findFrom 0 xs (c .before .before .before .args .name .now))
+    (all-exports (c .before .before .before .args .exports .now) (c .before .before .before .args .names .now))
 
 export-name-requires : tie.Need-export-name-requires Inv-loop μ-loop
 export-name-requires c κs = omega arith
@@ -28,7 +29,8 @@ same-name-requires : tie.Need-same-name-requires Inv-loop μ-loop
 same-name-requires c κs = search needs
 
 returns : tie.Need-returns Inv-loop μ-loop
-returns c = find-hit _ _ _ _ _ _ (c .before .before .before .loop-test .taken) (c .before .before .export-name .ensures) (c .before .same-name .ensures) (c .if1 .taken) ∙ c .before .before .before .before .loop .inv
+returns c = find-hit _ _ _ _ _ _ (c .before .before .before .loop-test .taken) (c .before .before .export-name .ensures)
+    (c .before .same-name .ensures) (c .if1 .taken) ∙ c .before .before .before .before .loop .inv
 
 add-k : tie.Need-add-k Inv-loop μ-loop
 add-k c = omega arith
@@ -37,7 +39,8 @@ loop-less : tie.Need-loop-less Inv-loop μ-loop
 loop-less c = omega arith
 
 loop-again : tie.Need-loop-again Inv-loop μ-loop
-loop-again c = find-on _ _ _ _ _ _ (c .before .before .before .loop-test .taken) (c .before .before .export-name .ensures) (c .before .same-name .ensures) (c .if1 .left) ∙ c .before .before .before .before .loop .inv
+loop-again c = find-on _ _ _ _ _ _ (c .before .before .before .loop-test .taken) (c .before .before .export-name .ensures)
+    (c .before .same-name .ensures) (c .if1 .left) ∙ c .before .before .before .before .loop .inv
 
 returns-2 : tie.Need-returns-2 Inv-loop μ-loop
 returns-2 c = find-none _ _ _ _ _ (c .loop-test .left) ∙ c .before .loop .inv

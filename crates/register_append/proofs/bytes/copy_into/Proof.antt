@@ -36,7 +36,8 @@ loop-less c = omega arith
 loop-again : tie.Need-loop-again Inv-loop μ-loop
 loop-again c = (
   simp length-set (c .before .before .loop .inv .0),
-  copy-turn (c .before .before .loop .buffer) (c .before .before .before .args .source .now) (c .before .before .before .args .place) (c .before .before .loop .i) (c .before .loop-test .taken) ∙ c .before .before .loop .inv .1,
+  copy-turn (c .before .before .loop .buffer) (c .before .before .before .args .source .now) (c .before .before .before .args .place)
+      (c .before .before .loop .i) (c .before .loop-test .taken) ∙ c .before .before .loop .inv .1,
 )
 
 same-length : tie.Need-same-length Inv-loop μ-loop

@@ -22,13 +22,19 @@ add-if2 : tie.Need-add-if2
 add-if2 c = search needs
 
 returns-2 : tie.Need-returns-2
-returns-2 c = add-no-names _ _ _ _ _ (c .before .before .before .room .ensures) (c .before .room2 .ensures) (c .before .before .if1 .left) (c .if2 .taken)
+returns-2 c = add-no-names _ _ _ _ _ (c .before .before .before .room .ensures) (c .before .room2 .ensures) (c .before .before .if1 .left)
+    (c .if2 .taken)
 
 cast-store32 : tie.Need-cast-store32
 cast-store32 c = search needs
 
 store32-requires : tie.Need-store32-requires
-store32-requires c κs = omega (arith, room-inside (length (c .before .before .before .before .before .before .before .before .args .records .now)), c .before .before .before .before .room .ensures)
+store32-requires c κs =
+    omega (
+      arith,
+      room-inside (length (c .before .before .before .before .before .before .before .before .args .records .now)),
+      c .before .before .before .before .room .ensures,
+    )
 
 add-store32 : tie.Need-add-store32
 add-store32 c = search needs
@@ -37,19 +43,40 @@ cast-store32-2 : tie.Need-cast-store32-2
 cast-store32-2 c = search needs
 
 store32-requires-2 : tie.Need-store32-requires-2
-store32-requires-2 c κs = omega (arith, room-inside (length (c .before .before .before .before .before .before .before .before .before .before .before .before .args .records .now)), c .before .before .before .before .before .before .before .before .room .ensures, c .before .before .before .store32 .kept .0)
+store32-requires-2 c κs =
+    omega (
+      arith,
+      room-inside
+          (length (c .before .before .before .before .before .before .before .before .before .before .before .before .args .records .now)),
+      c .before .before .before .before .before .before .before .before .room .ensures,
+      c .before .before .before .store32 .kept .0,
+    )
 
 add-store32-2 : tie.Need-add-store32-2
 add-store32-2 c = search needs
 
 store32-requires-3 : tie.Need-store32-requires-3
-store32-requires-3 c κs = omega (arith, room-inside (length (c .before .before .before .before .before .before .before .before .before .before .before .before .before .before .before .before .args .records .now)), c .before .before .before .before .before .before .before .before .before .before .before .before .room .ensures, c .before .before .before .store322 .kept .0, c .before .before .before .before .before .before .before .store32 .kept .0)
+store32-requires-3 c κs =
+    omega (
+      arith,
+      room-inside
+          (length (c .before .before .before .before .before .before .before .before .before .before .before .before .before .before .before .before .args .records .now)),
+      c .before .before .before .before .before .before .before .before .before .before .before .before .room .ensures,
+      c .before .before .before .store322 .kept .0,
+      c .before .before .before .before .before .before .before .store32 .kept .0,
+    )
 
 count-up-requires : tie.Need-count-up-requires
 count-up-requires c κs = search needs
 
 copy-into-requires : tie.Need-copy-into-requires
-copy-into-requires c κs = omega (arith, room-inside (length (c .before .before .before .before .before .before .before .before .before .before .before .before .before .before .before .before .before .before .before .before .before .before .before .before .args .names .now)), c .before .before .before .before .before .before .before .before .before .before .before .before .before .before .before .before .before .before .room2 .ensures)
+copy-into-requires c κs =
+    omega (
+      arith,
+      room-inside
+          (length (c .before .before .before .before .before .before .before .before .before .before .before .before .before .before .before .before .before .before .before .before .before .before .before .before .args .names .now)),
+      c .before .before .before .before .before .before .before .before .before .before .before .before .before .before .before .before .before .before .room2 .ensures,
+    )
 
 add-t9 : tie.Need-add-t9
 add-t9 c = search needs
@@ -65,7 +92,8 @@ same-length-2 c = search needs
 
 returns-3 : tie.Need-returns-3
 unfolding addedTo
-returns-3 c = add-open _ _ _ _ _ (c .before .before .before .before .before .before .before .before .before .before .before .before .before .before .before .before .before .before .before .before .before .before .before .room .ensures) (c .before .before .before .before .before .before .before .before .before .before .before .before .before .before .before .before .before .before .before .before .before .room2 .ensures) (c .before .before .before .before .before .before .before .before .before .before .before .before .before .before .before .before .before .before .before .before .before .before .if1 .left) (c .before .before .before .before .before .before .before .before .before .before .before .before .before .before .before .before .before .before .before .before .if2 .left) (c .before .before .before .before .before .before .before .before .before .before .before .before .before .before .before .before .before .before .store32 .ensures) (c .before .before .before .before .before .before .before .before .before .before .before .before .before .before .store322 .ensures) (c .before .before .before .before .before .before .before .before .before .before .store323 .ensures)
+returns-3 c = add-open _ _ _ _ _
+    (c .before .before .before .before .before .before .before .before .before .before .before .before .before .before .before .before .before .before .before .before .before .before .before .room .ensures) (c .before .before .before .before .before .before .before .before .before .before .before .before .before .before .before .before .before .before .before .before .before .room2 .ensures) (c .before .before .before .before .before .before .before .before .before .before .before .before .before .before .before .before .before .before .before .before .before .before .if1 .left) (c .before .before .before .before .before .before .before .before .before .before .before .before .before .before .before .before .before .before .before .before .if2 .left) (c .before .before .before .before .before .before .before .before .before .before .before .before .before .before .before .before .before .before .store32 .ensures) (c .before .before .before .before .before .before .before .before .before .before .before .before .before .before .store322 .ensures) (c .before .before .before .before .before .before .before .before .before .before .store323 .ensures)
     (c .before .before .before .before .before .before .count-up .ensures)
     (c .before .before .copy-into .ensures)
 

@@ -38,7 +38,9 @@ same-length-2 c = search needs
 
 returns-2 : tie.Need-returns-2
 unfolding usedBytes usedNames
-returns-2 c = begin-no-words _ _ _ _ _ _ (c .before .before .before .before .before .before .before .word .ensures) (c .before .before .before .before .before .before .if1 .left) (c .before .before .before .before .used-bytes .ensures) (c .before .before .word2 .ensures) (c .before .room .ensures) (c .if2 .taken)
+returns-2 c = begin-no-words _ _ _ _ _ _ (c .before .before .before .before .before .before .before .word .ensures)
+    (c .before .before .before .before .before .before .if1 .left) (c .before .before .before .before .used-bytes .ensures)
+    (c .before .before .word2 .ensures) (c .before .room .ensures) (c .if2 .taken)
 
 room-requires-2 : tie.Need-room-requires-2
 room-requires-2 c κs = search needs
@@ -51,7 +53,10 @@ same-length-3 c = search needs
 
 returns-3 : tie.Need-returns-3
 unfolding usedBytes usedNames
-returns-3 c = begin-no-names _ _ _ _ _ _ (c .before .before .before .before .before .before .before .before .before .word .ensures) (c .before .before .before .before .before .before .before .before .if1 .left) (c .before .before .before .before .before .before .used-bytes .ensures) (c .before .before .before .before .word2 .ensures) (c .before .before .before .room .ensures) (c .before .room2 .ensures) (c .before .before .if2 .left) (c .if3 .taken)
+returns-3 c = begin-no-names _ _ _ _ _ _ (c .before .before .before .before .before .before .before .before .before .word .ensures)
+    (c .before .before .before .before .before .before .before .before .if1 .left)
+    (c .before .before .before .before .before .before .used-bytes .ensures) (c .before .before .before .before .word2 .ensures)
+    (c .before .before .before .room .ensures) (c .before .room2 .ensures) (c .before .before .if2 .left) (c .if3 .taken)
 
 flag-word-requires : tie.Need-flag-word-requires
 flag-word-requires c κs = search needs
@@ -60,10 +65,22 @@ cast-write-first : tie.Need-cast-write-first
 cast-write-first c = search needs
 
 write-first-requires : tie.Need-write-first-requires
-write-first-requires c κs = omega (arith, room-inside (length (c .before .before .before .before .before .before .before .before .before .before .before .before .before .before .before .before .args .records .now)), c .before .before .before .before .before .room .ensures)
+write-first-requires c κs =
+    omega (
+      arith,
+      room-inside
+          (length (c .before .before .before .before .before .before .before .before .before .before .before .before .before .before .before .before .args .records .now)),
+      c .before .before .before .before .before .room .ensures,
+    )
 
 copy-into-requires : tie.Need-copy-into-requires
-copy-into-requires c κs = omega (arith, room-inside (length (c .before .before .before .before .before .before .before .before .before .before .before .before .before .before .before .before .before .before .before .before .args .names .now)), c .before .before .before .before .before .before .before .room2 .ensures)
+copy-into-requires c κs =
+    omega (
+      arith,
+      room-inside
+          (length (c .before .before .before .before .before .before .before .before .before .before .before .before .before .before .before .before .before .before .before .before .args .names .now)),
+      c .before .before .before .before .before .before .before .room2 .ensures,
+    )
 
 add-t19 : tie.Need-add-t19
 add-t19 c = search needs
@@ -79,7 +96,8 @@ same-length-5 c = search needs
 
 returns-4 : tie.Need-returns-4
 unfolding usedBytes usedNames draftAt
-returns-4 c = begin-open _ _ _ _ _ _ (c .before .before .before .before .before .before .before .before .before .before .before .before .before .before .before .before .before .before .word .ensures) (c .before .before .before .before .before .before .before .before .before .before .before .before .before .before .before .before .before .if1 .left) (c .before .before .before .before .before .before .before .before .before .before .before .before .before .before .before .used-bytes .ensures) (c .before .before .before .before .before .before .before .before .before .before .before .before .before .word2 .ensures) (c .before .before .before .before .before .before .before .before .before .before .before .before .room .ensures) (c .before .before .before .before .before .before .before .before .before .before .room2 .ensures) (c .before .before .before .before .before .before .before .before .before .before .before .if2 .left) (c .before .before .before .before .before .before .before .before .before .if3 .left) (c .before .before .before .before .before .before .before .flag-word .ensures) (c .before .before .before .before .before .before .write-first .ensures) (c .before .before .copy-into .ensures)
+returns-4 c = begin-open _ _ _ _ _ _
+    (c .before .before .before .before .before .before .before .before .before .before .before .before .before .before .before .before .before .before .word .ensures) (c .before .before .before .before .before .before .before .before .before .before .before .before .before .before .before .before .before .if1 .left) (c .before .before .before .before .before .before .before .before .before .before .before .before .before .before .before .used-bytes .ensures) (c .before .before .before .before .before .before .before .before .before .before .before .before .before .word2 .ensures) (c .before .before .before .before .before .before .before .before .before .before .before .before .room .ensures) (c .before .before .before .before .before .before .before .before .before .before .room2 .ensures) (c .before .before .before .before .before .before .before .before .before .before .before .if2 .left) (c .before .before .before .before .before .before .before .before .before .if3 .left) (c .before .before .before .before .before .before .before .flag-word .ensures) (c .before .before .before .before .before .before .write-first .ensures) (c .before .before .copy-into .ensures)
 
 pub begin-record-spec : {M : Type 1} → statement M
 begin-record-spec =

@@ -24,7 +24,8 @@ same-length c = search needs
 
 returns : tie.Need-returns
 unfolding countUp
-returns c = c .before .before .store32 .ensures ∙ rw (c .before .before .before .wrapping-add-u32 .ensures, c .before .before .before .before .before .load32 .ensures)
+returns c = c .before .before .store32 .ensures
+    ∙ rw (c .before .before .before .wrapping-add-u32 .ensures, c .before .before .before .before .before .load32 .ensures)
 
 pub count-up-spec : {M : Type 1} → statement M
 count-up-spec =

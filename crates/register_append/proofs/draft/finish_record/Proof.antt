@@ -29,7 +29,13 @@ same-length c = search needs
 
 returns : tie.Need-returns
 unfolding finishRecord
-returns c = rw (c .before .before .store323 .ensures, c .before .before .before .before .before .before .before .store322 .ensures, c .before .before .before .before .before .before .before .before .before .before .before .before .store32 .ensures, c .before .before .before .before .before .before .before .before .before .before .before .before .before .wrapping-add-u32 .ensures, c .before .before .before .before .before .before .before .before .before .before .before .before .before .before .before .load32 .ensures)
+returns c = rw (
+  c .before .before .store323 .ensures,
+  c .before .before .before .before .before .before .before .store322 .ensures,
+  c .before .before .before .before .before .before .before .before .before .before .before .before .store32 .ensures,
+  c .before .before .before .before .before .before .before .before .before .before .before .before .before .wrapping-add-u32 .ensures,
+  c .before .before .before .before .before .before .before .before .before .before .before .before .before .before .before .load32 .ensures,
+)
 
 pub finish-record-spec : {M : Type 1} → statement M
 finish-record-spec =

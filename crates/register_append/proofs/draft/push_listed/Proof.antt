@@ -16,7 +16,12 @@ enum-known-next c = search needs
 count-up-requires : tie.Need-count-up-requires
 count-up-requires c κs = (
   c .before .before .before .before .before .before .before .before .before .pre .0,
-  omega (arith, open-start _ _ _ 0 (c .before .before .before .before .before .before .push-word .ensures) _ (c .before .before .next .given .1), c .before .before .before .before .before .before .push-word .kept .0, c .before .before .before .before .before .before .before .before .before .pre .1),
+  omega (
+    arith,
+    open-start _ _ _ 0 (c .before .before .before .before .before .before .push-word .ensures) _ (c .before .before .next .given .1),
+    c .before .before .before .before .before .before .push-word .kept .0,
+    c .before .before .before .before .before .before .before .before .before .pre .1,
+  ),
 )
 
 same-length : tie.Need-same-length
@@ -29,7 +34,9 @@ same-length-2 : tie.Need-same-length-2
 same-length-2 c = search needs
 
 returns-2 : tie.Need-returns-2
-returns-2 c = rw (c .before .before .count-up .ensures) (listed-open _ _ _ _ (c .before .before .before .before .before .before .before .before .before .push-word .ensures) _ (c .before .before .before .before .before .next .given .1))
+returns-2 c = rw (c .before .before .count-up .ensures)
+    (listed-open _ _ _ _ (c .before .before .before .before .before .before .before .before .before .push-word .ensures) _
+    (c .before .before .before .before .before .next .given .1))
 
 pub push-listed-spec : {M : Type 1} → statement M
 push-listed-spec =

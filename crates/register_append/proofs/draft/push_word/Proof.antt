@@ -16,7 +16,8 @@ returns-2 : tie.Need-returns-2
 returns-2 c = push-full _ _ _ (c .before .before .room .ensures) (omega arith)
 
 store32-requires : tie.Need-store32-requires
-store32-requires c κs = let g = room-inside (length (c .before .before .before .before .before .args .records .now)) in omega (arith, c .before .before .before .room .ensures)
+store32-requires c κs = let g =
+    room-inside (length (c .before .before .before .before .before .args .records .now)) in omega (arith, c .before .before .before .room .ensures)
 
 add-t6 : tie.Need-add-t6
 add-t6 c = search needs
@@ -26,7 +27,8 @@ same-length c = search needs
 
 returns-3 : tie.Need-returns-3
 unfolding longer
-returns-3 c = rw (c .before .before .store32 .ensures) (push-open _ _ _ (c .before .before .before .before .before .before .room .ensures) (omega arith))
+returns-3 c = rw (c .before .before .store32 .ensures)
+    (push-open _ _ _ (c .before .before .before .before .before .before .room .ensures) (omega arith))
 
 pub push-word-spec : {M : Type 1} → statement M
 push-word-spec =

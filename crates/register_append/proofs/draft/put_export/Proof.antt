@@ -46,7 +46,9 @@ part-find-export-start : tie.Need-part-find-export-start
 part-find-export-start c = search needs
 
 part-find-export-end : tie.Need-part-find-export-end
-part-find-export-end c = list-end _ (c .before .before .before .before .before .before .before .before .args .draft) (c .before .before .before .load32 .ensures) (c .before .load322 .ensures) (c .before .before .before .before .before .before .before .before .pre .4)
+part-find-export-end c =
+    list-end _ (c .before .before .before .before .before .before .before .before .args .draft) (c .before .before .before .load32 .ensures)
+    (c .before .load322 .ensures) (c .before .before .before .before .before .before .before .before .pre .4)
 
 find-export-requires : tie.Need-find-export-requires
 find-export-requires c κs = search needs
@@ -55,16 +57,32 @@ enum-known-k : tie.Need-enum-known-k
 enum-known-k c = search needs
 
 mul-store32 : tie.Need-mul-store32
-mul-store32 c = let h = found-fits _ _ (c .before .before .before .before .before .before .before .before .before .before .load32 .ensures) (c .before .before .before .before .before .before .before .before .load322 .ensures) _ _ _ (c .before .before .before .before .before .before .before .before .before .before .before .before .before .before .before .pre .4) (c .before .before .before .before .find-export .ensures) (c .before .before .k .given .1) in omega arith
+mul-store32 c = let h =
+    found-fits _ _ (c .before .before .before .before .before .before .before .before .before .before .load32 .ensures)
+    (c .before .before .before .before .before .before .before .before .load322 .ensures) _ _ _
+    (c .before .before .before .before .before .before .before .before .before .before .before .before .before .before .before .pre .4)
+    (c .before .before .before .before .find-export .ensures) (c .before .before .k .given .1) in omega arith
 
 add-store32 : tie.Need-add-store32
-add-store32 c = let h = found-fits _ _ (c .before .before .before .before .before .before .before .before .before .before .load32 .ensures) (c .before .before .before .before .before .before .before .before .load322 .ensures) _ _ _ (c .before .before .before .before .before .before .before .before .before .before .before .before .before .before .before .pre .4) (c .before .before .before .before .find-export .ensures) (c .before .before .k .given .1) in omega arith
+add-store32 c = let h =
+    found-fits _ _ (c .before .before .before .before .before .before .before .before .before .before .load32 .ensures)
+    (c .before .before .before .before .before .before .before .before .load322 .ensures) _ _ _
+    (c .before .before .before .before .before .before .before .before .before .before .before .before .before .before .before .pre .4)
+    (c .before .before .before .before .find-export .ensures) (c .before .before .k .given .1) in omega arith
 
 add-store32-2 : tie.Need-add-store32-2
-add-store32-2 c = let h = found-fits _ _ (c .before .before .before .before .before .before .before .before .before .before .load32 .ensures) (c .before .before .before .before .before .before .before .before .load322 .ensures) _ _ _ (c .before .before .before .before .before .before .before .before .before .before .before .before .before .before .before .pre .4) (c .before .before .before .before .find-export .ensures) (c .before .before .k .given .1) in omega arith
+add-store32-2 c = let h =
+    found-fits _ _ (c .before .before .before .before .before .before .before .before .before .before .load32 .ensures)
+    (c .before .before .before .before .before .before .before .before .load322 .ensures) _ _ _
+    (c .before .before .before .before .before .before .before .before .before .before .before .before .before .before .before .pre .4)
+    (c .before .before .before .before .find-export .ensures) (c .before .before .k .given .1) in omega arith
 
 store32-requires : tie.Need-store32-requires
-store32-requires c κs = let h = found-fits _ _ (c .before .before .before .before .before .before .before .before .before .before .load32 .ensures) (c .before .before .before .before .before .before .before .before .load322 .ensures) _ _ _ (c .before .before .before .before .before .before .before .before .before .before .before .before .before .before .before .pre .4) (c .before .before .before .before .find-export .ensures) (c .before .before .k .given .1) in omega arith
+store32-requires c κs = let h =
+    found-fits _ _ (c .before .before .before .before .before .before .before .before .before .before .load32 .ensures)
+    (c .before .before .before .before .before .before .before .before .load322 .ensures) _ _ _
+    (c .before .before .before .before .before .before .before .before .before .before .before .before .before .before .before .pre .4)
+    (c .before .before .before .before .find-export .ensures) (c .before .before .k .given .1) in omega arith
 
 enum-told : tie.Need-enum-told
 enum-told c = search needs
@@ -79,7 +97,8 @@ same-length-2 : tie.Need-same-length-2
 same-length-2 c = search needs
 
 returns : tie.Need-returns
-returns c = put-again _ _ _ _ _ _ (so-far _ (c .before .before .before .before .before .before .before .before .before .before .before .before .before .before .before .before .before .before .args .draft) (c .before .before .before .before .before .before .before .before .before .before .before .before .before .load32 .ensures) (c .before .before .before .before .before .before .before .before .before .before .before .load322 .ensures)) (c .before .before .before .before .before .before .before .find-export .ensures) _ (c .before .before .before .before .before .k .given .1) (c .before .before .store32 .ensures ∙ ap (λ t. setWordIn (c .before .before .before .before .before .before .before .before .before .before .before .before .before .before .before .before .before .before .args .records .now) t (c .before .before .before .before .before .before .before .before .before .before .before .before .before .before .before .before .before .before .args .address)) (put-place _ (c .before .before .before .before .before .before .before .before .before .before .before .before .before .before .before .before .before .before .args .draft) (c .before .before .before .before .before .before .before .before .before .before .before .before .before .load32 .ensures) (c .before .before .before .before .before .before .before .before .before .before .before .load322 .ensures) _))
+returns c = put-again _ _ _ _ _ _
+    (so-far _ (c .before .before .before .before .before .before .before .before .before .before .before .before .before .before .before .before .before .before .args .draft) (c .before .before .before .before .before .before .before .before .before .before .before .before .before .load32 .ensures) (c .before .before .before .before .before .before .before .before .before .before .before .load322 .ensures)) (c .before .before .before .before .before .before .before .find-export .ensures) _ (c .before .before .before .before .before .k .given .1) (c .before .before .store32 .ensures ∙ ap (λ t. setWordIn (c .before .before .before .before .before .before .before .before .before .before .before .before .before .before .before .before .before .before .args .records .now) t (c .before .before .before .before .before .before .before .before .before .before .before .before .before .before .before .before .before .before .args .address)) (put-place _ (c .before .before .before .before .before .before .before .before .before .before .before .before .before .before .before .before .before .before .args .draft) (c .before .before .before .before .before .before .before .before .before .before .before .before .before .load32 .ensures) (c .before .before .before .before .before .before .before .before .before .before .before .load322 .ensures) _))
 
 same-length-3 : tie.Need-same-length-3
 same-length-3 c = search needs
@@ -88,7 +107,8 @@ same-length-4 : tie.Need-same-length-4
 same-length-4 c = search needs
 
 returns-2 : tie.Need-returns-2
-returns-2 c = put-new _ _ _ _ _ _ (so-far _ (c .before .before .before .before .before .before .before .before .before .before .before .before .before .before .before .before .before .before .before .before .args .draft) (c .before .before .before .before .before .before .before .before .before .before .before .before .before .before .before .load32 .ensures) (c .before .before .before .before .before .before .before .before .before .before .before .before .before .load322 .ensures)) (c .before .before .before .before .before .before .before .before .before .find-export .ensures) (c .before .before .before .before .before .before .before .enum-told .given .1) (c .before .before .before .before .add-export .ensures)
+returns-2 c = put-new _ _ _ _ _ _
+    (so-far _ (c .before .before .before .before .before .before .before .before .before .before .before .before .before .before .before .before .before .before .before .before .args .draft) (c .before .before .before .before .before .before .before .before .before .before .before .before .before .before .before .load32 .ensures) (c .before .before .before .before .before .before .before .before .before .before .before .before .before .load322 .ensures)) (c .before .before .before .before .before .before .before .before .before .find-export .ensures) (c .before .before .before .before .before .before .before .enum-told .given .1) (c .before .before .before .before .add-export .ensures)
 
 pub put-export-spec : {M : Type 1} → statement M
 put-export-spec =

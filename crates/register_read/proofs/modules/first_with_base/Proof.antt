@@ -30,7 +30,8 @@ returns c =
     let l = c .before .before .before .before in
     let a = l .before .before .before .args in
     λ names e.
-    base-here (a .records .now) names (l .loop .place) (l .loop .k) (omega arith) (c .before .before .record-at .ensures) (a .base) (l .loop .inv names e)
+    base-here (a .records .now) names (l .loop .place) (l .loop .k) (omega arith) (c .before .before .record-at .ensures) (a .base)
+    (l .loop .inv names e)
     (c .if1 .taken)
 
 record-end-requires : tie.Need-record-end-requires Inv-loop μ-loop
@@ -53,7 +54,8 @@ loop-again c =
     let l = c .before .before .before .before .before in
     let a = l .before .before .before .args in
     λ names e.
-    base-on (a .records .now) names (l .loop .place) (l .loop .k) (omega arith) (c .before .before .before .record-at .ensures) (a .base) (l .loop .inv names e)
+    base-on (a .records .now) names (l .loop .place) (l .loop .k) (omega arith) (c .before .before .before .record-at .ensures) (a .base)
+    (l .loop .inv names e)
     (c .record-end .ensures) (c .before .if1 .left)
 
 returns-2 : tie.Need-returns-2 Inv-loop μ-loop

@@ -34,7 +34,8 @@ returns : tie.Need-returns Inv-loop μ-loop
 returns c =
     let l = c .before .before .before .before .before in
     let a = l .before .before .before .before .before .args in
-    name-here (a .records .now) (a .names .now) (l .loop .place) (l .loop .k) (omega arith) (c .before .before .before .record-at .ensures) (a .name .now) _
+    name-here (a .records .now) (a .names .now) (l .loop .place) (l .loop .k) (omega arith) (c .before .before .before .record-at .ensures)
+    (a .name .now) _
     (c .before .before .record-name .ensures) (c .before .same-name .ensures) (l .loop .inv) (c .if1 .taken)
 
 record-end-requires : tie.Need-record-end-requires Inv-loop μ-loop
@@ -42,7 +43,8 @@ record-end-requires c κs =
     let l = c .before .before .before .before .before in
     let a = l .before .before .before .before .before .args in
     let f =
-    end-fits (a .records .now) (a .names .now) (l .loop .place) (l .loop .k) (omega arith) (c .before .before .before .record-at .ensures) _ (l .loop .inv) in
+    end-fits (a .records .now) (a .names .now) (l .loop .place) (l .loop .k) (omega arith) (c .before .before .before .record-at .ensures) _
+    (l .loop .inv) in
     omega arith
 
 add-k : tie.Need-add-k Inv-loop μ-loop
@@ -55,8 +57,10 @@ loop-again : tie.Need-loop-again Inv-loop μ-loop
 loop-again c =
     let l = c .before .before .before .before .before .before in
     let a = l .before .before .before .before .before .args in
-    name-on (a .records .now) (a .names .now) (l .loop .place) (l .loop .k) (omega arith) (c .before .before .before .before .record-at .ensures) (a .name .now) _
-    (c .before .before .before .record-name .ensures) (c .before .before .same-name .ensures) (l .loop .inv) (c .record-end .ensures) (c .before .if1 .left)
+    name-on (a .records .now) (a .names .now) (l .loop .place) (l .loop .k) (omega arith) (c .before .before .before .before .record-at .ensures)
+    (a .name .now) _
+    (c .before .before .before .record-name .ensures) (c .before .before .same-name .ensures) (l .loop .inv) (c .record-end .ensures)
+    (c .before .if1 .left)
 
 returns-2 : tie.Need-returns-2 Inv-loop μ-loop
 returns-2 c = place-none _ _ ∙ walk-ends _ _ _ (c .before .loop .inv) (omega arith)

@@ -63,10 +63,12 @@ loop-again c =
     let r = c .before .before .before .record-at .ensures in
     ⊎-elim
     (λ w.
-    lookup-lacks (a .records .now) (a .names .now) (l .loop .place) (l .loop .k) (omega arith) r (a .name .now) (l .loop .inv) (c .record-end .ensures)
+    lookup-lacks (a .records .now) (a .names .now) (l .loop .place) (l .loop .k) (omega arith) r (a .name .now) (l .loop .inv)
+    (c .record-end .ensures)
     (w .0 .taken) (sym (w .1 .ensures) ∙ w .3 .given .1))
     (λ w.
-    lookup-skips (a .records .now) (a .names .now) (l .loop .place) (l .loop .k) (omega arith) r (a .name .now) (l .loop .inv) (c .record-end .ensures)
+    lookup-skips (a .records .now) (a .names .now) (l .loop .place) (l .loop .k) (omega arith) r (a .name .now) (l .loop .inv)
+    (c .record-end .ensures)
     (w .left))
     (c .before .if1 .came)
 
