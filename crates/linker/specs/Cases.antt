@@ -1,0 +1,79 @@
+-- The proved cases of document 01's table that live here, and the batch that never ends.
+use Prim.Native.Nat.{ℕ, zero, suc, _+_, _-_, _≤_}
+use mathlib.Core.Path.{_≡_, refl, _∙_}
+use mathlib.Core.List.{List}
+use mathlib.Core.Bool.{Bool, true, false}
+use native.Mathlib.Omega.{arith}
+use lib.Dec.{eqb}
+use Rattle.window.specs.Memory.{if_then_else_, _⊕_, byteAt, wordAt}
+use Rattle.window.specs.Access.{Prog, ret, _>>=_, run, run-bind, reads-same}
+use Rattle.layout.specs.Header.{segmentNum, relocationEntrySize}
+use Rattle.layout.specs.Format.{tagSegment}
+use Rattle.layout.specs.Segments.{segment-missing, tagToAddress, tag-missing, tagToAddress-reads}
+use Rattle.layout.specs.declared.format.Segment.{Segment}
+use Rattle.layout.specs.declared.format.SegmentType.the-variants.{Code, RoData, Data, Bss}
+use Rattle.layout.specs.declared.segments.Address.{Address}
+use Rattle.layout.specs.declared.segments.Address.the-variants.{At, Nowhere}
+use Rattle.linker.specs.Rebase.{Lent, Placed, refused, placed, at-offset, lentPlace, place}
+use Rattle.linker.specs.Relocation.{relocateAt, walk, batchLimit, applyRelocationBatch}
+use Rattle.linker.specs.Fix.{alignUp, fixedTo, fix}
+
+-- "Data size 16 / 17, lent 16": 0 / 2
+module _ (base size data-at bss-at bss-size offset old : ℕ) where
+  abbrev lent-16 : Lent
+  lent-16 =
+      record { base = base; size = size; data-at = data-at; data-size = 16; bss-at = bss-at; bss-size = bss-size }
+
+  abbrev data-of : ℕ → Segment
+  data-of n = record { offset = offset; size = n; kind = Data }
+
+  pub data-16 : place lent-16 (data-of 16) Data old ≡ placed (at-offset (data-of 16) data-at) (offset ⊕ base)
+  unfolding place lentPlace
+  data-16 = refl
+
+  pub data-17 : place lent-16 (data-of 17) Data old ≡ refused
+  unfolding place lentPlace
+  data-17 = refl
+
+-- "length 0x148, size 0x1000", "length 0x1001, size 0x1800", "level 4"
+pub length-0x148 : (base : ℕ) → fixedTo (base + 0x148) base 0x1000 ≡ 0x1000
+unfolding fixedTo alignUp
+length-0x148 base = let e : base + 0x148 - base ≡ 0x148 = omega arith in rw e
+
+pub length-0x1001 : (base : ℕ) → fixedTo (base + 0x1001) base 0x1800 ≡ 0x1800
+unfolding fixedTo alignUp
+length-0x1001 base = let e : base + 0x1001 - base ≡ 0x1001 = omega arith in rw e
+
+pub level-4 : (at base size : ℕ) (w : List ℕ) → run at (fix base size 4) w ≡ (0, w)
+unfolding fix run
+level-4 at base size w = refl
+
+-- A batch without an end mark: on a window of zeros, 0x1001 entries are walked, and nothing is written.
+module _ (at base symbol : ℕ) (w : List ℕ) (z : (x : ℕ) → byteAt at w x ≡ 0) where
+  word-0 : (x : ℕ) → wordAt at w x ≡ 0
+  unfolding wordAt
+  word-0 x = rw (z x, z (x + 1), z (x + 2), z (x + 3))
+
+  nowhere : (tag : ℕ) → run at (tagToAddress base tag) w .0 ≡ Nowhere
+  nowhere tag =
+      tag-missing at base tag w
+      (segment-missing at base (tagSegment tag) w (let e = word-0 (base ⊕ segmentNum) in omega (arith, e)))
+
+  walk-on
+      : (f entry n : ℕ)
+      → run at (walk (suc f) base symbol entry n) w ≡ run at (walk f base symbol (entry ⊕ relocationEntrySize) (suc n)) w
+  unfolding walk relocateAt run _>>=_
+  walk-on f entry n =
+      let t = wordAt at w entry in
+      let s : run at (tagToAddress base t) w .1 ≡ w = reads-same at (tagToAddress base t) w (tagToAddress-reads base t) in
+      run-bind at (tagToAddress base t) _ w ∙ rw (nowhere t, s, z (entry ⊕ 5))
+
+  walks : (f entry n : ℕ) → run at (walk f base symbol entry n) w ≡ (n + f, w)
+  unfolding walk run
+  walks zero entry n = let e : n + 0 ≡ n = omega arith in rw e
+  walks (suc f) entry n =
+      let e : suc n + f ≡ n + suc f = omega arith in
+      walk-on f entry n ∙ walks f (entry ⊕ relocationEntrySize) (suc n) ∙ rw e
+
+  pub endless-batch : (entry : ℕ) → run at (walk batchLimit base symbol entry 0) w ≡ (0x1001, w)
+  endless-batch entry = walks batchLimit entry 0

@@ -1,0 +1,1 @@
+// The linker: the port of cro/mod.rs. So far its steps are defined, in specs/; the code is to come.
