@@ -1,12 +1,13 @@
 -- The proved cases of document 01's table that live here, and the batch that never ends.
-use Prim.Native.Nat.{ℕ, zero, suc, _+_, _-_, _≤_}
+use Prim.Native.Nat.{ℕ, zero, suc, _+_, _-_, _%_, _^_, _≤_, _<_}
 use mathlib.Core.Path.{_≡_, refl, _∙_}
 use mathlib.Core.List.{List}
 use mathlib.Core.Bool.{Bool, true, false}
 use native.Mathlib.Omega.{arith}
 use lib.Dec.{eqb}
+use borrow.Author.Tests.{ne-eqb}
 use Rattle.window.specs.Memory.{if_then_else_, _⊕_, byteAt, wordAt}
-use Rattle.window.specs.Access.{Prog, ret, _>>=_, run, run-bind, reads-same}
+use Rattle.window.specs.Access.{Prog, ret, _>>=_, _>>_, put8, run, run-bind, reads-same}
 use Rattle.layout.specs.Header.{segmentNum, relocationEntrySize}
 use Rattle.layout.specs.Format.{tagSegment}
 use Rattle.layout.specs.Segments.{segment-missing, tagToAddress, tag-missing, tagToAddress-reads}
@@ -15,10 +16,11 @@ use Rattle.layout.specs.declared.format.SegmentType.the-variants.{Code, RoData,
 use Rattle.layout.specs.declared.segments.Address.{Address}
 use Rattle.layout.specs.declared.segments.Address.the-variants.{At, Nowhere}
 use Rattle.linker.specs.Rebase.{Lent, Placed, refused, placed, at-offset, lentPlace, place}
-use Rattle.linker.specs.Relocation.{relocateAt, walk, batchLimit, applyRelocationBatch}
-use Rattle.linker.specs.Fix.{alignUp, fixedTo, fix}
+use Rattle.linker.specs.Relocation.{relocateAt, resetEntry, walk, batchLimit, applyRelocationBatch, batchIsResolved}
+use Rattle.linker.specs.Resets.{reset}
+use Rattle.linker.specs.Fix.{alignUp, fixedTo, fixFrom, fix}
 
--- "Data size 16 / 17, lent 16": 0 / 2
+-- "Data size 16 / 17, lent 16": the segment gets its place / is refused, which is number 2 (`load-2`)
 module _ (base size data-at bss-at bss-size offset old : ℕ) where
   abbrev lent-16 : Lent
   lent-16 =
@@ -35,18 +37,46 @@ module _ (base size data-at bss-at bss-size offset old : ℕ) where
   unfolding place lentPlace
   data-17 = refl
 
--- "length 0x148, size 0x1000", "length 0x1001, size 0x1800", "level 4"
-pub length-0x148 : (base : ℕ) → fixedTo (base + 0x148) base 0x1000 ≡ 0x1000
+-- "length 0x148, size 0x1000", "length 0x1001, size 0x1800": the greatest end is so far above the base, below 2^32
+pub length-0x148 : (base : ℕ) → base + 0x148 < 2 ^ 32 → fixedTo (base ⊕ 0x148) base 0x1000 ≡ 0x1000
 unfolding fixedTo alignUp
-length-0x148 base = let e : base + 0x148 - base ≡ 0x148 = omega arith in rw e
+length-0x148 base h = let e : (base + 0x148) % 2 ^ 32 - base ≡ 0x148 = omega (arith, h) in rw e
 
-pub length-0x1001 : (base : ℕ) → fixedTo (base + 0x1001) base 0x1800 ≡ 0x1800
+pub length-0x1001 : (base : ℕ) → base + 0x1001 < 2 ^ 32 → fixedTo (base ⊕ 0x1001) base 0x1800 ≡ 0x1800
 unfolding fixedTo alignUp
-length-0x1001 base = let e : base + 0x1001 - base ≡ 0x1001 = omega arith in rw e
+length-0x1001 base h = let e : (base + 0x1001) % 2 ^ 32 - base ≡ 0x1001 = omega (arith, h) in rw e
 
+-- "level 4"
 pub level-4 : (at base size : ℕ) (w : List ℕ) → run at (fix base size 4) w ≡ (0, w)
 unfolding fix run
 level-4 at base size w = refl
+
+-- "Levels 1, 2, 3 cut from 0x120, 0x0F0, 0x0D0."
+module _ (base size : ℕ) where
+  pub level-1 : fix base size 1 ≡ fixFrom base size 0x120
+  unfolding fix
+  level-1 = refl
+
+  pub level-2 : fix base size 2 ≡ fixFrom base size 0xf0
+  unfolding fix
+  level-2 = refl
+
+  pub level-3 : fix base size 3 ≡ fixFrom base size 0xd0
+  unfolding fix
+  level-3 = refl
+
+-- a handler of 0 writes no relocation at `initialize` and `load`: the mark alone is cleared
+pub no-handler : (base entry : ℕ) → resetEntry base 0 entry ≡ put8 (entry ⊕ 6) 0
+unfolding resetEntry _>>=_
+no-handler base entry = refl
+
+-- and at an unload it is written like any other: a resolved batch is walked with symbol 0
+pub no-handler-unload
+    : (base batch : ℕ) → (batch ≡ 0 → ⊥)
+    → reset base 0 batch
+    ≡ (batchIsResolved batch >>= λ resolved. if resolved then applyRelocationBatch base batch 0 false >> ret tt else ret tt)
+unfolding reset
+no-handler-unload base batch n = rw (ne-eqb batch 0 n)
 
 -- A batch without an end mark: on a window of zeros, 0x1001 entries are walked, and nothing is written.
 module _ (at base symbol : ℕ) (w : List ℕ) (z : (x : ℕ) → byteAt at w x ≡ 0) where

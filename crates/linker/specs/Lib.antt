@@ -11,3 +11,5 @@ pub mod Calls
 pub mod Outcome
 pub mod Refusals
 pub mod Cases
+pub mod Gives
+pub mod Answers

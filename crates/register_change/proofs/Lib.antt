@@ -1,0 +1,2 @@
+-- What the proofs of `register_change` share.
+pub mod Laws

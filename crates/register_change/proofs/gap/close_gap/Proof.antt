@@ -1,0 +1,24 @@
+use mathlib.Core.Path.{_∙_}
+use borrow.Author.Needs.{needs}
+use Rattle.register_change.proofs.Laws.{closed-in-steps}
+use Rattle.register_change.proofs.gap.close_gap.Statement.{statement}
+use Rattle.register_change.proofs.gap.close_gap.Tie as tie
+
+move-down-requires : tie.Need-move-down-requires
+move-down-requires c κs = search needs
+
+sub-clear : tie.Need-sub-clear
+sub-clear c = search needs
+
+clear-requires : tie.Need-clear-requires
+clear-requires c κs = search needs
+
+same-length : tie.Need-same-length
+same-length c = search needs
+
+returns : tie.Need-returns
+returns c = c .before .before .clear .ensures ∙ closed-in-steps _ (c .before .before .before .before .before .before .before .before .before .args .from) (c .before .before .before .before .before .before .before .before .before .args .gap) (c .before .before .before .before .before .before .before .before .before .pre) (c .before .before .before .before .before .before .move-down .ensures) (c .before .before .before .before .before .before .move-down .kept .0)
+
+pub close-gap-spec : {M : Type 1} → statement M
+close-gap-spec =
+    tie.close (tie.spec move-down-requires sub-clear clear-requires same-length returns)

@@ -1,0 +1,180 @@
+-- The CRS made known, and a missing name more: the bytes then encode the changed register, and are a register again.
+use Prim.Native.Nat.{ℕ, _+_, _-_, _*_, _/_, _%_, _^_, _≤_, _<_}
+use mathlib.Core.Path.{_≡_, refl, sym, ap, _∙_}
+use mathlib.Core.List.{List, [], _∷_, _++_, append-assoc, append-nil}
+use mathlib.Core.Bool.{Bool, true, false}
+use native.Mathlib.Omega.{arith}
+use lib.ListN.{length, drop, replicate, length-append, length-replicate, replicate-append-replicate}
+use lib.Seq.{sets-eq, length-sets, take-append-seam, drop-append-add, drop-at}
+use lib.Dec.{leb, ltb}
+use borrow.Author.Tests.{leb-true, ltb-true}
+use Rattle.window.specs.Memory.{if_then_else_}
+use Rattle.window.specs.Name.{isName, noZero}
+use Rattle.window.specs.Word.{wordIn, setWordIn}
+use Rattle.window.specs.Tests.{both, also}
+use Rattle.register.specs.Words.{holds, wordsIn, word-row}
+use Rattle.register.specs.Module.{Register, proper, properNames}
+use Rattle.register.specs.Encode.{encodeWords, crsKnown, crsBase, slot, slots}
+use Rattle.register.specs.Decode.{settled-other, encodes, registerOf, isRegister}
+use Rattle.register.specs.Slots.{length-slot, length-slots}
+use Rattle.register.specs.CheckIs.{long, read-back, word₅}
+use Rattle.register.specs.Buffers.{padded, padded-holds, names-are}
+use Rattle.register.specs.Change.{withCrs, withMissing}
+use Rattle.register_change.specs.Bytes.{setCrs, putSlot, pushMissing}
+use Rattle.register_change.specs.Encoded.{Proper, proper-parts, parts-proper, is-register, register-parts, store-encodes}
+
+-- the CRS
+
+module _ (records names missing : List ℕ) (base : ℕ) (b : base < 2 ^ 32) where
+  pub crs-encodes : (r : Register) → encodes records names missing r ≡ true → encodes (setCrs records base) names missing (withCrs r base) ≡ true
+  unfolding setCrs encodeWords withCrs crsKnown crsBase
+  crs-encodes r e =
+      let m = names-are records names missing r e in
+      let h : holds missing (slots (r .missing)) ≡ true = rw (m .1) (padded-holds (length missing) (slots (r .missing))) in
+      store-encodes (setWordIn records 4 1) names missing missing (withCrs r (crsBase (r .crs))) (withCrs r base) 2 base
+      (store-encodes records names missing missing r (withCrs r (crsBase (r .crs))) 1 1 e (λ z. omega arith) (λ z. omega arith) (omega arith) (omega arith)
+      refl
+      refl
+      (m .2)
+      h)
+      (λ z. omega arith)
+      (λ z. omega arith)
+      (omega arith)
+      b
+      refl
+      refl
+      (m .2)
+      h
+
+  -- the register that is then read
+  pub crs-kept
+      : isRegister records names missing ≡ true
+      → (isRegister (setCrs records base) names missing ≡ true)
+      × (registerOf (setCrs records base) names missing ≡ withCrs (registerOf records names missing) base)
+  unfolding proper withCrs
+  crs-kept h =
+      let p = register-parts records names missing h in
+      let e = crs-encodes (registerOf records names missing) (p .1) in
+      let r = withCrs (registerOf records names missing) base in
+      (is-register (setCrs records base) names missing r (p .0) e, read-back (setCrs records base) names missing r (p .0) e)
+
+-- a missing name more
+
+drop-zeros : (n k : ℕ) → k ≤ n → drop k (replicate {A = ℕ} n 0) ≡ replicate (n - k) 0
+drop-zeros n k h =
+    let m : k + (n - k) ≡ n = omega arith in
+    let e : replicate {A = ℕ} n 0 ≡ replicate k 0 ++ replicate (n - k) 0 = sym (replicate-append-replicate k (n - k) 0 ∙ ap (λ t. replicate t 0) m) in
+    rw e (drop-at (replicate k 0) (replicate (n - k) 0) k (length-replicate k 0))
+
+slots-more : (ns : List (List ℕ)) (name : List ℕ) → slots (ns ++ (name ∷ [])) ≡ slots ns ++ slot name
+unfolding slots
+slots-more [] name = append-nil (slot name)
+slots-more (n ∷ ns) name = ap (λ t. slot n ++ t) (slots-more ns name) ∙ sym (append-assoc (slot n) (slots ns) (slot name))
+
+names-more : (ns : List (List ℕ)) (name : List ℕ) → properNames ns ≡ true → isName name ≡ true → properNames (ns ++ (name ∷ [])) ≡ true
+unfolding properNames
+names-more [] name p g = also g refl
+names-more (n ∷ ns) name p g = let a = both (isName n) (properNames ns) p in also (a .0) (names-more ns name (a .1) g)
+
+name-short : (name : List ℕ) → isName name ≡ true → length name ≤ 512
+unfolding isName
+name-short name g = leb-true (length name) 512 (both (leb (length name) 512) (noZero name) g .0)
+
+slot-put
+    : (ns : List (List ℕ)) (name : List ℕ) → properNames ns ≡ true → length ns < 64 → isName name ≡ true
+    → putSlot (padded 32896 (slots ns)) (514 * length ns) name ≡ padded 32896 (slots (ns ++ (name ∷ [])))
+unfolding putSlot padded slot
+slot-put ns name p few g =
+    let a = slots ns in
+    let v = length name % 256 ∷ length name / 256 ∷ name in
+    let z = 32896 - length a in
+    let k = 512 - length name in
+    let s : length name ≤ 512 = name-short name g in
+    let la : length a ≡ 514 * length ns = length-slots ns p in
+    let lz : length (a ++ replicate z 0) ≡ 32896 = length-append a (replicate z 0) ∙ rw (length-replicate) (omega arith) in
+    let ls : length (a ++ slot name) ≡ length a + 514 = length-append a (slot name) ∙ ap (λ n. length a + n) (length-slot name s) in
+    let d : drop (length a + length v) (a ++ replicate z 0) ≡ replicate (z - length v) 0 =
+    rw drop-append-add (drop-zeros z (length v) (omega arith)) in
+    let m : z - length v ≡ k + (32896 - length (a ++ slot name)) = omega arith in
+    rw (slots-more ns name, ← la)
+    (sets-eq v (a ++ replicate z 0) (length a) (omega arith)
+    ∙ rw (take-append-seam, d, m, ← replicate-append-replicate {A = ℕ} k (32896 - length (a ++ slot name)) 0) (simp append-assoc))
+
+push-proper : (r : Register) (name : List ℕ) → proper r ≡ true → isName name ≡ true → proper (withMissing r name) ≡ true
+unfolding withMissing
+push-proper r name p g = parts-proper (withMissing r name) (go (ltb (length (r .missing)) 64) refl)
+  where
+    a : Proper r
+    a = proper-parts r p
+
+    go
+        : (t : Bool) → ltb (length (r .missing)) 64 ≡ t
+        → Proper record { modules = r .modules; crs = r .crs; missing = if t then r .missing ++ (name ∷ []) else r .missing }
+    go true q =
+        let l = ltb-true (length (r .missing)) 64 q in
+        let n : length (r .missing ++ (name ∷ [])) ≡ length (r .missing) + 1 = length-append (r .missing) (name ∷ []) in
+        record { count = a .count; modules = a .modules; few = omega arith; kept = names-more (r .missing) name (a .kept) g }
+    go false q = a
+
+length-put : (missing : List ℕ) (place : ℕ) (name : List ℕ) → length (putSlot missing place name) ≡ length missing
+unfolding putSlot
+length-put missing place name = length-sets missing place (length name % 256 ∷ length name / 256 ∷ name)
+
+module _ (records names missing name : List ℕ) (g : isName name ≡ true) where
+  abbrev pushed : List ℕ × List ℕ
+  pushed = pushMissing records missing name
+
+  -- word 5 counts the missing names
+  count-word : (r : Register) → proper r ≡ true → encodes records names missing r ≡ true → wordIn records 20 ≡ length (r .missing)
+  count-word r p e =
+      word-row records 5 (omega (arith, long records names missing r p e .1))
+      ∙ sym (settled-other (wordsIn records) 5 (λ z. omega arith))
+      ∙ word₅ records names missing r p e
+
+  abbrev step : Bool → ℕ → List ℕ × List ℕ
+  step t n = if t then (setWordIn records 20 (n + 1), putSlot missing (514 * n) name) else (records, missing)
+
+  pub push-encodes
+      : (r : Register) → proper r ≡ true → encodes records names missing r ≡ true
+      → encodes (pushed .0) names (pushed .1) (withMissing r name) ≡ true
+  unfolding pushMissing withMissing encodeWords
+  push-encodes r p e =
+      rw (count-word r p e) (go (ltb (length (r .missing)) 64) refl)
+    where
+      ns : List (List ℕ)
+      ns = r .missing
+
+      go
+          : (t : Bool) → ltb (length ns) 64 ≡ t
+          → encodes (step t (length ns) .0) names (step t (length ns) .1)
+          record { modules = r .modules; crs = r .crs; missing = if t then ns ++ (name ∷ []) else ns }
+          ≡ true
+      go true q =
+          let few : length ns < 64 = ltb-true (length ns) 64 q in
+          let m = names-are records names missing r e in
+          let a : missing ≡ padded 32896 (slots ns) = m .1 ∙ ap (λ n. padded n (slots ns)) (m .2) in
+          let x : putSlot missing (514 * length ns) name ≡ padded 32896 (slots (ns ++ (name ∷ []))) =
+          ap (λ t. putSlot t (514 * length ns) name) a ∙ slot-put ns name (proper-parts r p .kept) few g in
+          let l : length (putSlot missing (514 * length ns) name) ≡ 32896 = length-put missing (514 * length ns) name ∙ m .2 in
+          let h : holds (putSlot missing (514 * length ns) name) (slots (ns ++ (name ∷ []))) ≡ true = rw x (padded-holds 32896 (slots (ns ++ (name ∷ [])))) in
+          let r′ : Register = record { modules = r .modules; crs = r .crs; missing = ns ++ (name ∷ []) } in
+          let n : length (ns ++ (name ∷ [])) ≡ length ns + 1 = length-append ns (name ∷ []) in
+          store-encodes records names missing (putSlot missing (514 * length ns) name) r r′ 5 (length ns + 1) e (λ z. omega arith) (λ z. omega arith)
+          (omega arith)
+          (omega arith)
+          (rw n)
+          refl
+          l
+          h
+      go false q = e
+
+  pub push-kept
+      : isRegister records names missing ≡ true
+      → (isRegister (pushed .0) names (pushed .1) ≡ true)
+      × (registerOf (pushed .0) names (pushed .1) ≡ withMissing (registerOf records names missing) name)
+  push-kept h =
+      let r = registerOf records names missing in
+      let p = register-parts records names missing h in
+      let e = push-encodes r (p .0) (p .1) in
+      let q = push-proper r name (p .0) g in
+      (is-register (pushed .0) names (pushed .1) (withMissing r name) q e, read-back (pushed .0) names (pushed .1) (withMissing r name) q e)

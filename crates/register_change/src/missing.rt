@@ -1,0 +1,30 @@
+// The missing list: 64 slots, each of a 16-bit length and 512 bytes.
+ghost use mathlib.Core.Path.{_≡_};
+ghost use Prim.Native.Nat.{_+_, _≤_};
+ghost use lib.ListN.{length};
+ghost use Rattle.register_change.specs.Bytes.{putSlot, pushMissing};
+use register_append::bytes;
+
+// Writes a name's length and bytes from `place` on.
+fn put_slot(missing: &mut [u8], place: usize, name: &[u8])
+    requires { ⌜ (place + 514 ≤ length (now missing)) × (length (now name) ≤ 512) ⌝ }
+    ensures { λ _. ⌜ now (missing .exit) ≡ putSlot (now (missing .entry)) place (now (name .entry)) ⌝ }
+{
+    missing[place] = (name.len() % 256) as u8;
+    missing[place + 1] = (name.len() / 256) as u8;
+    bytes::copy_into(missing, place + 2, name);
+}
+
+// Adds a missing name; past 64 of them nothing changes.
+pub fn push_missing(records: &mut [u8], missing: &mut [u8], name: &[u8])
+    requires { ⌜ (32 ≤ length (now records)) × (length (now missing) ≡ 32896) × (length (now name) ≤ 512) ⌝ }
+    ensures { λ _. ⌜ (now (records .exit), now (missing .exit))
+        ≡ pushMissing (now (records .entry)) (now (missing .entry)) (now (name .entry)) ⌝ }
+{
+    let count = window::load32(records, 20);
+    if 64 <= count {
+        return;
+    }
+    put_slot(missing, 514 * (count as usize), name);
+    window::store32(records, 20, count + 1);
+}
