@@ -32,7 +32,8 @@ module _ (records names missing : List ℕ) (base : ℕ) (b : base < 2 ^ 32) whe
       let m = names-are records names missing r e in
       let h : holds missing (slots (r .missing)) ≡ true = rw (m .1) (padded-holds (length missing) (slots (r .missing))) in
       store-encodes (setWordIn records 4 1) names missing missing (withCrs r (crsBase (r .crs))) (withCrs r base) 2 base
-      (store-encodes records names missing missing r (withCrs r (crsBase (r .crs))) 1 1 e (λ z. omega arith) (λ z. omega arith) (omega arith) (omega arith)
+      (store-encodes records names missing missing r (withCrs r (crsBase (r .crs))) 1 1 e (λ z. omega arith) (λ z. omega arith) (omega arith)
+      (omega arith)
       refl
       refl
       (m .2)
@@ -156,7 +157,8 @@ module _ (records names missing name : List ℕ) (g : isName name ≡ true) wher
           let x : putSlot missing (514 * length ns) name ≡ padded 32896 (slots (ns ++ (name ∷ []))) =
           ap (λ t. putSlot t (514 * length ns) name) a ∙ slot-put ns name (proper-parts r p .kept) few g in
           let l : length (putSlot missing (514 * length ns) name) ≡ 32896 = length-put missing (514 * length ns) name ∙ m .2 in
-          let h : holds (putSlot missing (514 * length ns) name) (slots (ns ++ (name ∷ []))) ≡ true = rw x (padded-holds 32896 (slots (ns ++ (name ∷ [])))) in
+          let h : holds (putSlot missing (514 * length ns) name) (slots (ns ++ (name ∷ []))) ≡ true =
+          rw x (padded-holds 32896 (slots (ns ++ (name ∷ [])))) in
           let r′ : Register = record { modules = r .modules; crs = r .crs; missing = ns ++ (name ∷ []) } in
           let n : length (ns ++ (name ∷ [])) ≡ length ns + 1 = length-append ns (name ∷ []) in
           store-encodes records names missing (putSlot missing (514 * length ns) name) r r′ 5 (length ns + 1) e (λ z. omega arith) (λ z. omega arith)

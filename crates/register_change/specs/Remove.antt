@@ -384,7 +384,8 @@ module _ (ps bs : List Module) (x : Module) (c : Crs) (ns : List (List ℕ)) whe
         cut-here = cut-is
 
 carry
-    : {records records′ names names′ : List ℕ} {place place′ : ℕ} {left left′ : List ℕ × List ℕ} → records ≡ records′ → names ≡ names′ → place ≡ place′
+    : {records records′ names names′ : List ℕ} {place place′ : ℕ} {left left′ : List ℕ × List ℕ} → records ≡ records′ → names ≡ names′ → place
+    ≡ place′
     → left ≡ left′ → Leaving records′ names′ place′ left′ → Leaving records names place left
 carry {records} {records′} {names} {names′} {place} {place′} {left} {left′} er en ep el l =
     subst (λ t. Leaving t names place left) (sym er)

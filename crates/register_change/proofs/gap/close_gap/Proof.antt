@@ -17,7 +17,11 @@ same-length : tie.Need-same-length
 same-length c = search needs
 
 returns : tie.Need-returns
-returns c = c .before .before .clear .ensures ∙ closed-in-steps _ (c .before .before .before .before .before .before .before .before .before .args .from) (c .before .before .before .before .before .before .before .before .before .args .gap) (c .before .before .before .before .before .before .before .before .before .pre) (c .before .before .before .before .before .before .move-down .ensures) (c .before .before .before .before .before .before .move-down .kept .0)
+returns c = c .before .before .clear .ensures
+    ∙ closed-in-steps _ (c .before .before .before .before .before .before .before .before .before .args .from)
+    (c .before .before .before .before .before .before .before .before .before .args .gap)
+    (c .before .before .before .before .before .before .before .before .before .pre)
+    (c .before .before .before .before .before .before .move-down .ensures) (c .before .before .before .before .before .before .move-down .kept .0)
 
 pub close-gap-spec : {M : Type 1} → statement M
 close-gap-spec =

@@ -43,8 +43,10 @@ loop-again : tie.Need-loop-again Inv-loop μ-loop
 loop-again c = (
   omega arith,
   simp length-set (c .before .before .loop .inv .1),
-  move-rest (c .before .before .loop .buffer) (c .before .before .before .args .buffer .now) (c .before .before .loop .i) _ (c .before .before .loop .inv .2),
-  move-turn (c .before .before .loop .buffer) (c .before .before .before .args .buffer .now) (c .before .before .before .args .gap) (c .before .before .loop .i) (omega arith) (c .before .before .loop .inv .2) ∙ c .before .before .loop .inv .3,
+  move-rest (c .before .before .loop .buffer) (c .before .before .before .args .buffer .now) (c .before .before .loop .i) _
+      (c .before .before .loop .inv .2),
+  move-turn (c .before .before .loop .buffer) (c .before .before .before .args .buffer .now) (c .before .before .before .args .gap)
+      (c .before .before .loop .i) (omega arith) (c .before .before .loop .inv .2) ∙ c .before .before .loop .inv .3,
 )
 
 same-length : tie.Need-same-length Inv-loop μ-loop

@@ -39,14 +39,18 @@ loop-again c = (
   omega arith,
   omega arith,
   omega (arith, c .before .before .lower-word .kept .0, c .before .before .before .before .before .loop .inv .2),
-  rw (c .before .before .lower-word .ensures) (exports-turn (c .before .before .before .before .before .before .before .args .count) (c .before .before .before .before .before .loop .k) _ (c .before .before .before .before .before .loop .next) (c .before .before .before .before .before .before .before .args .d) (c .before .before .before .before .loop-test .taken)) ∙ c .before .before .before .before .before .loop .inv .3,
+  rw (c .before .before .lower-word .ensures)
+      (exports-turn (c .before .before .before .before .before .before .before .args .count) (c .before .before .before .before .before .loop .k) _
+      (c .before .before .before .before .before .loop .next) (c .before .before .before .before .before .before .before .args .d)
+      (c .before .before .before .before .loop-test .taken)) ∙ c .before .before .before .before .before .loop .inv .3,
 )
 
 same-length : tie.Need-same-length Inv-loop μ-loop
 same-length c = search needs
 
 returns : tie.Need-returns Inv-loop μ-loop
-returns c = exports-end (c .before .before .before .args .count) (c .before .loop .k) _ _ (c .before .before .before .args .d) (c .loop-test .left) ∙ c .before .loop .inv .3
+returns c = exports-end (c .before .before .before .args .count) (c .before .loop .k) _ _ (c .before .before .before .args .d) (c .loop-test .left)
+    ∙ c .before .loop .inv .3
 
 pub lower-exports-spec : {M : Type 1} → statement M
 lower-exports-spec =

@@ -41,7 +41,12 @@ same-length c = search needs
 
 returns : tie.Need-returns
 unfolding lowerRecord
-returns c = rw (c .before .before .lower-exports .ensures, c .before .before .before .before .before .before .lower-word .ensures, c .before .before .before .before .before .before .before .before .load322 .ensures, c .before .before .before .before .before .before .before .before .before .before .load32 .ensures)
+returns c = rw (
+  c .before .before .lower-exports .ensures,
+  c .before .before .before .before .before .before .lower-word .ensures,
+  c .before .before .before .before .before .before .before .before .load322 .ensures,
+  c .before .before .before .before .before .before .before .before .before .before .load32 .ensures,
+)
 
 pub lower-record-spec : {M : Type 1} → statement M
 lower-record-spec =

@@ -33,27 +33,44 @@ module-size-requires : tie.Need-module-size-requires Inv-loop μ-loop
 module-size-requires c κs = search needs
 
 mul-size : tie.Need-mul-size Inv-loop μ-loop
-mul-size c = let n = walk-next (c .before .before .before .before .loop .inv .1 (c .before .before .before .before .before .before .pre)) (c .before .before .before .loop-test .taken) in
+mul-size c = let n = walk-next (c .before .before .before .before .loop .inv .1 (c .before .before .before .before .before .before .pre))
+    (c .before .before .before .loop-test .taken) in
     let s = size-part (c .before .before .before .before .loop .bytes) (c .before .before .before .before .loop .place) (c .module-size .ensures) in
     omega (arith, n .inside)
 
 lower-record-requires : tie.Need-lower-record-requires Inv-loop μ-loop
-lower-record-requires c κs = walk-next (c .before .before .before .before .before .loop .inv .1 (c .before .before .before .before .before .before .before .pre)) (c .before .before .before .before .loop-test .taken) .fits
+lower-record-requires c κs =
+    walk-next (c .before .before .before .before .before .loop .inv .1 (c .before .before .before .before .before .before .before .pre))
+    (c .before .before .before .before .loop-test .taken) .fits
 
 add-place : tie.Need-add-place Inv-loop μ-loop
-add-place c = let n = walk-next (c .before .before .before .before .before .before .before .before .loop .inv .1 (c .before .before .before .before .before .before .before .before .before .before .pre)) (c .before .before .before .before .before .before .before .loop-test .taken) in
-    let s = size-part (c .before .before .before .before .before .before .before .before .loop .bytes) (c .before .before .before .before .before .before .before .before .loop .place) (c .before .before .before .before .module-size .ensures) in
+add-place c = let n =
+    walk-next (c .before .before .before .before .before .before .before .before .loop .inv .1
+    (c .before .before .before .before .before .before .before .before .before .before .pre))
+    (c .before .before .before .before .before .before .before .loop-test .taken) in
+    let s = size-part (c .before .before .before .before .before .before .before .before .loop .bytes)
+    (c .before .before .before .before .before .before .before .before .loop .place) (c .before .before .before .before .module-size .ensures) in
     omega (arith, n .inside)
 
 loop-less : tie.Need-loop-less Inv-loop μ-loop
-loop-less c = let n = walk-next (c .before .before .before .before .before .before .before .before .loop .inv .1 (c .before .before .before .before .before .before .before .before .before .before .pre)) (c .before .before .before .before .before .before .before .loop-test .taken) in
-    let s = size-part (c .before .before .before .before .before .before .before .before .loop .bytes) (c .before .before .before .before .before .before .before .before .loop .place) (c .before .before .before .before .module-size .ensures) in
+loop-less c = let n =
+    walk-next (c .before .before .before .before .before .before .before .before .loop .inv .1
+    (c .before .before .before .before .before .before .before .before .before .before .pre))
+    (c .before .before .before .before .before .before .before .loop-test .taken) in
+    let s = size-part (c .before .before .before .before .before .before .before .before .loop .bytes)
+    (c .before .before .before .before .before .before .before .before .loop .place) (c .before .before .before .before .module-size .ensures) in
     omega (arith, n .inside, n .some)
 
 loop-again : tie.Need-loop-again Inv-loop μ-loop
 loop-again c = (
   omega (arith, c .before .before .lower-record .kept .0, c .before .before .before .before .before .before .before .before .loop .inv .0),
-  λ s. rw (c .before .before .lower-record .ensures, size-part (c .before .before .before .before .before .before .before .before .loop .bytes) (c .before .before .before .before .before .before .before .before .loop .place) (c .before .before .before .before .module-size .ensures)) (walk-next (c .before .before .before .before .before .before .before .before .loop .inv .1 s) (c .before .before .before .before .before .before .before .loop-test .taken) .walked),
+  λ s. rw (
+    c .before .before .lower-record .ensures,
+    size-part (c .before .before .before .before .before .before .before .before .loop .bytes)
+        (c .before .before .before .before .before .before .before .before .loop .place) (c .before .before .before .before .module-size .ensures),
+  )
+      (walk-next (c .before .before .before .before .before .before .before .before .loop .inv .1 s)
+      (c .before .before .before .before .before .before .before .loop-test .taken) .walked),
 )
 
 same-length : tie.Need-same-length Inv-loop μ-loop

@@ -20,7 +20,8 @@ same-length c = search needs
 
 returns : tie.Need-returns
 unfolding lowerWord
-returns c = let e : c .before .before .before .wrapping-sub-u32 .result ≡ c .before .before .before .before .before .load32 .result ⊖ c .before .before .before .before .before .before .before .before .args .d = omega arith in
+returns c = let e : c .before .before .before .wrapping-sub-u32 .result
+    ≡ c .before .before .before .before .before .load32 .result ⊖ c .before .before .before .before .before .before .before .before .args .d = omega arith in
     rw (c .before .before .store32 .ensures, e, c .before .before .before .before .before .load32 .ensures)
 
 pub lower-word-spec : {M : Type 1} → statement M

@@ -37,7 +37,13 @@ same-length-3 c = search needs
 
 returns-2 : tie.Need-returns-2
 unfolding pushMissing
-returns-2 c = rw (c .before .before .store32 .ensures, c .before .before .before .before .before .before .put-slot .ensures, ← c .before .before .before .before .before .before .before .before .before .load32 .ensures, lt-ltb _ _ (c .before .before .before .before .before .before .before .before .if1 .left))
+returns-2 c = rw (
+  c .before .before .store32 .ensures,
+  c .before .before .before .before .before .before .put-slot .ensures,
+  ← c .before .before .before .before .before .before .before .before .before .load32 .ensures,
+  lt-ltb _ _
+      (c .before .before .before .before .before .before .before .before .if1 .left),
+)
 
 pub push-missing-spec : {M : Type 1} → statement M
 push-missing-spec =

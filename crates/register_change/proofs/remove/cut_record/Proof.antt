@@ -40,7 +40,14 @@ same-length : tie.Need-same-length
 same-length c = search needs
 
 returns : tie.Need-returns
-returns c = cut-in-steps _ (c .before .before .before .before .before .before .before .before .before .before .before .before .before .before .before .args .place) (c .before .before .before .before .before .before .before .before .before .before .before .before .before .before .before .args .size) (c .before .before .before .before .before .before .before .before .before .before .before .before .before .before .before .args .gap) (c .before .before .before .before .before .before .before .before .before .before .before .before .load32 .result) (c .before .before .before .before .before .before .before .before .before .before .before .before .load32 .ensures) (omega arith) (c .before .before .before .before .before .before .before .before .before .before .lower-records .ensures) (c .before .before .before .before .before .before .close-gap .ensures) (c .before .before .lower-header .ensures)
+returns c = cut-in-steps _
+    (c .before .before .before .before .before .before .before .before .before .before .before .before .before .before .before .args .place)
+    (c .before .before .before .before .before .before .before .before .before .before .before .before .before .before .before .args .size)
+    (c .before .before .before .before .before .before .before .before .before .before .before .before .before .before .before .args .gap)
+    (c .before .before .before .before .before .before .before .before .before .before .before .before .load32 .result)
+    (c .before .before .before .before .before .before .before .before .before .before .before .before .load32 .ensures) (omega arith)
+    (c .before .before .before .before .before .before .before .before .before .before .lower-records .ensures)
+    (c .before .before .before .before .before .before .close-gap .ensures) (c .before .before .lower-header .ensures)
 
 pub cut-record-spec : {M : Type 1} → statement M
 cut-record-spec =

@@ -17,7 +17,11 @@ same-length c = search needs
 
 returns : tie.Need-returns
 unfolding lowerHeader
-returns c = rw (c .before .before .lower-word3 .ensures, c .before .before .before .before .before .before .lower-word2 .ensures, c .before .before .before .before .before .before .before .before .before .before .lower-word .ensures)
+returns c = rw (
+  c .before .before .lower-word3 .ensures,
+  c .before .before .before .before .before .before .lower-word2 .ensures,
+  c .before .before .before .before .before .before .before .before .before .before .lower-word .ensures,
+)
 
 pub lower-header-spec : {M : Type 1} → statement M
 lower-header-spec =
