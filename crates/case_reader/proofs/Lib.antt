@@ -1,0 +1,2 @@
+-- What the proofs of `case_reader` share.
+pub mod Laws

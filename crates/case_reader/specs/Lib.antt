@@ -1,0 +1,2 @@
+-- The definitions that the contracts of `case_reader` cite.
+pub mod Pieces

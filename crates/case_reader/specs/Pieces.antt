@@ -1,0 +1,40 @@
+-- Pieces of a stored buffer: what they leave in it, and the place after them.
+use Prim.Native.Nat.{ℕ, zero, suc, _+_, _*_, _/_, _<_, _≤_}
+use mathlib.Core.Path.{_≡_, refl}
+use mathlib.Core.List.{List}
+use lib.ListN.{length, getD}
+use lib.Dec.{leb}
+use borrow.Author.Tests.{le-leb, lt-leb}
+use Rattle.window.specs.Memory.{if_then_else_}
+use Rattle.register.specs.Words.{wordsIn, part}
+use Rattle.header_text.specs.Text.{appended}
+use Rattle.header_text.specs.declared.text.Next.{Next}
+use Rattle.header_text.specs.declared.text.Next.the-variants.{At, Full}
+
+-- the bytes of the piece at a place, as its second word says, and the words that it takes
+unfoldable pub pieceLength : List ℕ → ℕ → ℕ
+pieceLength file at = getD (wordsIn file) (at + 1) 0
+
+unfoldable pub pieceSize : ℕ → ℕ
+pieceSize n = 2 + (n + 3) / 4
+
+-- the place after a piece that was laid
+unfoldable pub placed : ℕ → Next × List ℕ → Next × List ℕ
+placed e (At i, b) = (At e, b)
+placed e (Full, b) = (Full, b)
+
+unfoldable pub piece : List ℕ → ℕ → List ℕ → Next × List ℕ
+piece file at b =
+    if leb (at + pieceSize (pieceLength file at)) (length file / 4)
+    then placed (at + pieceSize (pieceLength file at))
+    (appended (part file (4 * (at + 2)) (pieceLength file at)) (getD (wordsIn file) at 0) b)
+    else (Full, b)
+
+-- what comes after a piece that was laid
+unfoldable pub andThen : Next × List ℕ → (ℕ → List ℕ → Next × List ℕ) → Next × List ℕ
+andThen (At e, b) f = f e b
+andThen (Full, b) f = (Full, b)
+
+unfoldable pub pieces : ℕ → List ℕ → ℕ → List ℕ → Next × List ℕ
+pieces zero file at b = (At at, b)
+pieces (suc k) file at b = andThen (piece file at b) (pieces k file)

@@ -1,0 +1,2 @@
+-- What the proofs of `register_cases` share.
+pub mod Laws
