@@ -90,26 +90,34 @@ module _ (n : ℕ) (ws : List ℕ) where
       ∙ sets-zeros (flat ws) (flat vs) (n - length (flat ws)) (omega arith)
       ∙ rw (flat-append ws vs, d)
 
--- one module more: its words after the others', its names after theirs
+-- modules after others: their words after the others', their names after theirs
 
-pub recordNames-more : (ms : List Module) (m : Module) → recordNames (ms ++ (m ∷ [])) ≡ recordNames ms ++ moduleNames m
+pub names-append : (ps bs : List Module) → recordNames (ps ++ bs) ≡ recordNames ps ++ recordNames bs
 unfolding recordNames
-recordNames-more [] m = append-nil (moduleNames m)
-recordNames-more (x ∷ ms) m =
-    ap (λ t. moduleNames x ++ t) (recordNames-more ms m) ∙ sym (append-assoc (moduleNames x) (recordNames ms) (moduleNames m))
+names-append [] bs = refl
+names-append (m ∷ ps) bs =
+    ap (λ t. moduleNames m ++ t) (names-append ps bs) ∙ sym (append-assoc (moduleNames m) (recordNames ps) (recordNames bs))
 
-pub recordWords-more
-    : (q : ℕ) (ms : List Module) (m : Module) → recordWords q (ms ++ (m ∷ [])) ≡ recordWords q ms ++ moduleWords (q + length (recordNames ms)) m
+pub words-append
+    : (q : ℕ) (ps bs : List Module) → recordWords q (ps ++ bs) ≡ recordWords q ps ++ recordWords (q + length (recordNames ps)) bs
 unfolding recordWords recordNames
-recordWords-more q [] m = let z : q + 0 ≡ q = omega arith in rw z (append-nil (moduleWords q m))
-recordWords-more q (x ∷ ms) m =
-    let n : length (moduleNames x ++ recordNames ms) ≡ length (moduleNames x) + length (recordNames ms) =
-    length-append (moduleNames x) (recordNames ms) in
-    let e : q + (length (moduleNames x) + length (recordNames ms)) ≡ q + length (moduleNames x) + length (recordNames ms) = omega arith in
-    rw (n, e)
-    (ap (λ t. moduleWords q x ++ t) (recordWords-more (q + length (moduleNames x)) ms m)
-    ∙ sym (append-assoc (moduleWords q x) (recordWords (q + length (moduleNames x)) ms)
-    (moduleWords (q + length (moduleNames x) + length (recordNames ms)) m)))
+words-append q [] bs = let z : q + 0 ≡ q = omega arith in rw z
+words-append q (m ∷ ps) bs =
+    let g = length (moduleNames m) in
+    let l : length (moduleNames m ++ recordNames ps) ≡ g + length (recordNames ps) = length-append (moduleNames m) (recordNames ps) in
+    let e : q + length (moduleNames m ++ recordNames ps) ≡ q + g + length (recordNames ps) = omega arith in
+    ap (λ t. moduleWords q m ++ t) (words-append (q + g) ps bs)
+    ∙ rw e (sym (append-assoc (moduleWords q m) (recordWords (q + g) ps) (recordWords (q + g + length (recordNames ps)) bs)))
+
+recordNames-more : (ms : List Module) (m : Module) → recordNames (ms ++ (m ∷ [])) ≡ recordNames ms ++ moduleNames m
+unfolding recordNames
+recordNames-more ms m = names-append ms (m ∷ []) ∙ ap (λ t. recordNames ms ++ t) (append-nil (moduleNames m))
+
+recordWords-more
+    : (q : ℕ) (ms : List Module) (m : Module) → recordWords q (ms ++ (m ∷ [])) ≡ recordWords q ms ++ moduleWords (q + length (recordNames ms)) m
+unfolding recordWords
+recordWords-more q ms m =
+    words-append q ms (m ∷ []) ∙ ap (λ t. recordWords q ms ++ t) (append-nil (moduleWords (q + length (recordNames ms)) m))
 
 -- the header of the register with m, by three changes of the header without
 pub words-appended

@@ -18,6 +18,7 @@ use Rattle.register.specs.Buffers.{Below, padded, length-padded, length-flat, n
 use Rattle.register.specs.declared.words.Crs.{Crs}
 use Rattle.register_append.specs.Sets.{flat-append}
 use Rattle.register_append.specs.Held.{words-long, below-set}
+use Rattle.register_append.specs.Append.{names-append, words-append}
 use Rattle.register_append.specs.Stands.{encoded-small}
 use Rattle.register_change.specs.Bytes.{closed, namesEnd, lowerHeader, cutRecord}
 use Rattle.register_change.specs.Lower.{Records, word-amid, lower-amid, group, length-group, below-left, below-right, length-records, size-amid}
@@ -52,21 +53,6 @@ split (m ∷ ms) zero h = record { found = m; after = ms; all = refl; others = r
 split (m ∷ ms) (suc k) h =
     let i = split ms k (omega arith) in
     record { found = i .found; after = i .after; all = ap (λ t. m ∷ t) (i .all); others = ap (λ t. m ∷ t) (i .others) }
-
-names-append : (ps bs : List Module) → recordNames (ps ++ bs) ≡ recordNames ps ++ recordNames bs
-unfolding recordNames
-names-append [] bs = refl
-names-append (m ∷ ps) bs = ap (λ t. moduleNames m ++ t) (names-append ps bs) ∙ sym (append-assoc (moduleNames m) (recordNames ps) (recordNames bs))
-
-words-append : (q : ℕ) (ps bs : List Module) → recordWords q (ps ++ bs) ≡ recordWords q ps ++ recordWords (q + length (recordNames ps)) bs
-unfolding recordWords recordNames
-words-append q [] bs = let z : q + 0 ≡ q = omega arith in rw z
-words-append q (m ∷ ps) bs =
-    let g = length (moduleNames m) in
-    let l : length (moduleNames m ++ recordNames ps) ≡ g + length (recordNames ps) = length-append (moduleNames m) (recordNames ps) in
-    let e : q + length (moduleNames m ++ recordNames ps) ≡ q + g + length (recordNames ps) = omega arith in
-    ap (λ t. moduleWords q m ++ t) (words-append (q + g) ps bs)
-    ∙ rw e (sym (append-assoc (moduleWords q m) (recordWords (q + g) ps) (recordWords (q + g + length (recordNames ps)) bs)))
 
 pad-flat : (n : ℕ) (us vs : List ℕ) → padded n (flat (us ++ vs)) ≡ flat us ++ (flat vs ++ replicate (n - length (flat (us ++ vs))) 0)
 unfolding padded
