@@ -7,7 +7,7 @@ use Rattle.register.proofs.check.name_ok.Tie as tie
 
 returns : tie.Need-returns
 unfolding nameOk
-returns c = simp (ne-eqb _ _ (c .if1 .taken))
+returns c = simp (ne-eqb _ (c .before .before .args .q) (c .if1 .taken))
 
 returns-2 : tie.Need-returns-2
 unfolding nameOk
