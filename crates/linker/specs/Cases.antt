@@ -1,41 +1,86 @@
 -- The proved cases of document 01's table that live here, and the batch that never ends.
 use Prim.Native.Nat.{ℕ, zero, suc, _+_, _-_, _%_, _^_, _≤_, _<_}
-use mathlib.Core.Path.{_≡_, refl, _∙_}
+use mathlib.Core.Path.{_≡_, refl, ap, _∙_}
 use mathlib.Core.List.{List}
 use mathlib.Core.Bool.{Bool, true, false}
 use native.Mathlib.Omega.{arith}
 use lib.Dec.{eqb}
 use borrow.Author.Tests.{ne-eqb}
-use Rattle.window.specs.Memory.{if_then_else_, _⊕_, byteAt, wordAt}
+use borrow.Fn.Enter.{pair≡}
+use Rattle.window.specs.Memory.{if_then_else_, _⊕_, goodWindow, byteAt, wordAt}
 use Rattle.window.specs.Access.{Prog, ret, _>>=_, _>>_, put8, run, run-bind, reads-same}
-use Rattle.layout.specs.Header.{segmentNum, relocationEntrySize}
+use Rattle.window.specs.Loop.{loop, loop-more}
+use Rattle.layout.specs.Header.{magic, segmentNum, relocationEntrySize}
 use Rattle.layout.specs.Format.{tagSegment}
-use Rattle.layout.specs.Segments.{segment-missing, tagToAddress, tag-missing, tagToAddress-reads}
+use Rattle.layout.specs.Segments.{field, segment, segmentAt, segmentPlace, segment-found, segment-reads, segment-missing, tagToAddress, tag-missing, tagToAddress-reads}
 use Rattle.layout.specs.declared.format.Segment.{Segment}
 use Rattle.layout.specs.declared.format.SegmentType.the-variants.{Code, RoData, Data, Bss}
 use Rattle.layout.specs.declared.segments.Address.{Address}
 use Rattle.layout.specs.declared.segments.Address.the-variants.{At, Nowhere}
-use Rattle.linker.specs.Rebase.{Lent, Placed, refused, placed, at-offset, lentPlace, place}
+use Rattle.layout.specs.declared.segments.FoundSegment.the-variants.{Found}
+use Rattle.linker.specs.Rebase.{isMagic, moveHeader, Lent, Placed, refused, placed, lentPlace, place, Moved, bad, old-place, writeBack, moveFound, moveSegment, moveSegments}
 use Rattle.linker.specs.Relocation.{relocateAt, resetEntry, walk, batchLimit, applyRelocationBatch, batchIsResolved}
 use Rattle.linker.specs.Resets.{reset}
+use Rattle.register.specs.Decode.{isRegister}
+use Rattle.linker.specs.Outcome.{Bytes, loadOutcome}
+use Rattle.linker.specs.Outcome as Outcome
+use Rattle.linker.specs.Refusals.{windowed, load-2}
 use Rattle.linker.specs.Fix.{alignUp, fixedTo, fixFrom, fix}
 
--- "Data size 16 / 17, lent 16": the segment gets its place / is refused, which is number 2 (`load-2`)
+-- "Data size 16 / 17, lent 16": the segment gets its place / is refused
+abbrev pub lent-16 : ℕ → ℕ → ℕ → ℕ → ℕ → Lent
+lent-16 base size data-at bss-at bss-size =
+    record { base = base; size = size; data-at = data-at; data-size = 16; bss-at = bss-at; bss-size = bss-size }
+
+abbrev pub data-of : ℕ → ℕ → Segment
+data-of offset n = record { offset = offset; size = n; kind = Data }
+
 module _ (base size data-at bss-at bss-size offset old : ℕ) where
-  abbrev lent-16 : Lent
-  lent-16 =
-      record { base = base; size = size; data-at = data-at; data-size = 16; bss-at = bss-at; bss-size = bss-size }
-
-  abbrev data-of : ℕ → Segment
-  data-of n = record { offset = offset; size = n; kind = Data }
-
-  pub data-16 : place lent-16 (data-of 16) Data old ≡ placed (at-offset (data-of 16) data-at) (offset ⊕ base)
+  pub data-16
+      : place (lent-16 base size data-at bss-at bss-size) (data-of offset 16) Data old ≡ placed (data-of data-at 16) (offset ⊕ base)
   unfolding place lentPlace
   data-16 = refl
 
-  pub data-17 : place lent-16 (data-of 17) Data old ≡ refused
+  pub data-17 : place (lent-16 base size data-at bss-at bss-size) (data-of offset 17) Data old ≡ refused
   unfolding place lentPlace
   data-17 = refl
+
+-- a load whose first segment is refused answers 2, and its segments are as they were
+module _ (at : ℕ) (l : Lent) (w : List ℕ) where
+  stays-bad : (n i : ℕ) → run at (loop (moveSegment l) i n bad) w ≡ (bad, w)
+  unfolding loop moveSegment run _>>=_
+  stays-bad zero i = refl
+  stays-bad (suc n) i = stays-bad n (suc i)
+
+  module _ (n : ℕ) (c : wordAt at w (l .base ⊕ segmentNum) ≡ suc n) (s : Segment)
+      (e : segmentAt at w (segmentPlace at w (l .base) 0) ≡ s) (f : place l s (s .kind) 0 ≡ refused) where
+    first-found : run at (segment (l .base) 0) w ≡ (Found s, w)
+    first-found =
+        pair≡ (segment-found at (l .base) 0 w (omega (arith, c)) ∙ ap Found e)
+        (reads-same at (segment (l .base) 0) w (segment-reads (l .base) 0))
+
+    first-bad : run at (moveSegment l 0 (old-place 0)) w ≡ (bad, w)
+    unfolding moveSegment moveFound writeBack run
+    first-bad = run-bind at (segment (l .base) 0) _ w ∙ rw (first-found, f)
+
+    pub first-refused : run at (moveSegments l) w ≡ (bad, w)
+    unfolding moveSegments field run _>>=_
+    first-refused =
+        ap (λ k. run at (loop (moveSegment l) 0 k (old-place 0)) w) c
+        ∙ loop-more at (moveSegment l) 0 n (old-place 0) w
+        ∙ rw first-bad (stays-bad n 1)
+
+-- "Data size 17, lent 16": number 2, the window as the header's move left it
+pub load-17
+    : (base size data-at bss-at bss-size offset auto level at n : ℕ) (b : Bytes) → goodWindow at (b .window) ≡ true
+    → isRegister (b .records) (b .names) (b .missing) ≡ true → isMagic (wordAt at (b .window) (base ⊕ magic)) ≡ true
+    → (w : List ℕ) → run at (moveHeader true base) (b .window) .1 ≡ w → wordAt at w (base ⊕ segmentNum) ≡ suc n
+    → segmentAt at w (segmentPlace at w base 0) ≡ data-of offset 17
+    → loadOutcome (lent-16 base size data-at bss-at bss-size) auto level at b ≡ Outcome.refused 2 (windowed b w)
+load-17 base size data-at bss-at bss-size offset auto level at n b g v m w h c e =
+    let l = lent-16 base size data-at bss-at bss-size in
+    let f = data-17 base size data-at bss-at bss-size offset 0 in
+    load-2 at b g v l auto level m (ap (λ t. run at (moveSegments l) t) h ∙ first-refused at l w n c _ e f)
 
 -- "length 0x148, size 0x1000", "length 0x1001, size 0x1800": the greatest end is so far above the base, below 2^32
 pub length-0x148 : (base : ℕ) → base + 0x148 < 2 ^ 32 → fixedTo (base ⊕ 0x148) base 0x1000 ≡ 0x1000
