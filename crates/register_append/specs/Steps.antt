@@ -24,7 +24,7 @@ use Rattle.register_append.specs.declared.draft.Draft.{Draft}
 use Rattle.register_append.specs.declared.draft.Drafted.{Drafted}
 use Rattle.register_append.specs.declared.draft.Drafted.the-variants.{Open, Full}
 use Rattle.register_append.specs.Sets.{change-laid, sets-append}
-use Rattle.register_append.specs.Draft.{roomIn, room-inside, room-word, longer, pushListed, addedTo, exportWritten, addExport, exportPlace, exportsSoFar, putAt, putExport}
+use Rattle.register_append.specs.Draft.{roomIn, room-inside, room-word, longer, pushListed, addedTo, exportWritten, addExport, exportPlace, exportCount, exportsSoFar, putAt, putExport}
 use Rattle.register_append.specs.Laid.{listed-laid, export-laid, so-far-laid, below-append, below-one, below-three}
 use Rattle.register_append.specs.Held.{Held, found-inside, words-indexed, words-segment, words-export, words-again, names-again, names-export, words-long, below-set}
 
@@ -95,6 +95,38 @@ module _ (l n : List ℕ) (d : Draft) (m : Module) (records names : List ℕ) (h
   step-indexed a k g =
       listed 7 a (withIndexed m a) (omega (arith, words-long (d .names) m)) k (omega (arith, words-long (d .names) m))
       (words-indexed (d .names) m a) refl g
+
+-- what the steps require of places and lengths, all of it true of buffers that hold a module
+
+pub record Ready (d : Draft) (records names : List ℕ) : Type 0 where
+  pub first-words : d .start + 32 ≤ length records
+  pub inside : d .end ≤ length records
+  pub name-order : d .names ≤ d .last
+  pub names-inside : d .last ≤ length names
+  pub end-word : d .end < 2 ^ 32
+  pub last-word : d .last < 2 ^ 32
+  pub exports-inside : exportPlace records d + 12 * exportCount records d ≤ length records
+
+pub held-ready : (l n : List ℕ) (d : Draft) (m : Module) (records names : List ℕ) → Held l n d m records names → Ready d records names
+unfolding moduleWords
+held-ready l n d m records names h =
+    let q = d .names in
+    let w = words-long q m in
+    let g : d .start + 4 * length (moduleWords q m) ≤ length l = omega (arith, h .end, h .room, room-inside (length l)) in
+    let p = so-far-laid l d (moduleWords q m) (h .end) (h .small) (omega arith) g (omega arith) in
+    let e : exportPlace records d ≡ d .start + 4 * (8 + length (m .segments)) = rw (h .words) (p .0) in
+    let c : exportCount records d ≡ length (m .named) = rw (h .words) (p .1) in
+    let lr : length records ≡ length l = ap length (h .words) ∙ length-sets l (d .start) (flat (moduleWords q m)) in
+    let ln : length names ≡ length n = ap length (h .bytes) ∙ length-sets n q (moduleNames m) in
+    record {
+      first-words = omega (arith, g, w, lr);
+      inside = omega (arith, h .room, room-inside (length l), lr);
+      name-order = omega (arith, h .last);
+      names-inside = omega (arith, h .name-room, room-inside (length n), ln);
+      end-word = omega (arith, h .room, room-word (length l));
+      last-word = omega (arith, h .name-room, room-word (length n));
+      exports-inside = omega (arith, e, c, g, w, lr);
+    }
 
 -- exports: those so far are the module's
 
