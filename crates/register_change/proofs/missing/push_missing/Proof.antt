@@ -12,7 +12,7 @@ same-length c = search needs
 
 returns : tie.Need-returns
 unfolding pushMissing
-returns c = rw (← c .before .load32 .ensures, le-ltb _ _ (c .if1 .taken))
+returns c = rw (← c .before .load32 .ensures, le-ltb _ 64 (c .if1 .taken))
 
 cast-put-slot : tie.Need-cast-put-slot
 cast-put-slot c = search needs
