@@ -1,4 +1,4 @@
--- A module as it came: the call that brought it and the bytes just before that call; where its segments, exports and areas are.
+-- An image in its place: the call that brought it and its own bytes; where its segments, exports and areas are.
 use Prim.Native.Nat.{ℕ, zero, suc, _+_, _<_}
 use mathlib.Core.List.{List}
 use mathlib.Core.Bool.{Bool, true, false}
@@ -27,11 +27,6 @@ pub data Coming : Type 0 where
   initialized : ℕ → ℕ → Coming
   loaded : Lent → ℕ → ℕ → Coming
 
--- "Bytes when loaded are those just before that call."
-pub record Arrival : Type 0 where
-  pub coming : Coming
-  pub bytes : ℕ → ℕ
-
 abbrev pub baseOf : Coming → ℕ
 baseOf (initialized base size) = base
 baseOf (loaded l auto level) = l .base
@@ -44,9 +39,10 @@ abbrev pub isCrs : Coming → Bool
 isCrs (initialized base size) = true
 isCrs (loaded l auto level) = false
 
--- the image's own bytes, 0 past its size
-unfoldable pub image : Arrival → ℕ → ℕ
-image a o = if ltb o (sizeOf (a .coming)) then a .bytes (baseOf (a .coming) + o) else 0
+-- the image's bytes by offset, 0 past its size, as they were just before the call
+pub record Image : Type 0 where
+  pub coming : Coming
+  pub file : ℕ → ℕ
 
 -- "Other segments with offset above 0 move by the base"
 unfoldable pub movedOffset : ℕ → ℕ → ℕ
@@ -83,15 +79,15 @@ laterExport true (At p) earlier = At p
 laterExport true Nowhere earlier = earlier
 laterExport false x earlier = earlier
 
-module _ (a : Arrival) where
+module _ (m : Image) where
   abbrev F : ℕ → ℕ
-  F = image a
+  F = m .file
 
   unfoldable pub segmentPlace : ℕ → ℕ
-  segmentPlace i = placeOf (a .coming) (fileSegment F i)
+  segmentPlace i = placeOf (m .coming) (fileSegment F i)
 
   unfoldable pub oldPlace : ℕ
-  oldPlace = oldAmong (count F segments) (a .coming) (fileSegment F)
+  oldPlace = oldAmong (count F segments) (m .coming) (fileSegment F)
 
   -- segment i in its place
   unfoldable pub placedSegment : ℕ → FoundSegment
@@ -111,7 +107,7 @@ module _ (a : Arrival) where
   Lent-area (loaded l auto level) q = In (l .data-at) (l .data-size) q ⊎ In (l .bss-at) (l .bss-size) q
 
   unfoldable pub Area : ℕ → Type 0
-  Area q = In (baseOf (a .coming)) (sizeOf (a .coming)) q ⊎ Lent-area (a .coming) q
+  Area q = In (baseOf (m .coming)) (sizeOf (m .coming)) q ⊎ Lent-area (m .coming) q
 
   -- named export i: its name, and its address if the tag is usable
   unfoldable pub exportName : ℕ → List ℕ
@@ -136,3 +132,14 @@ module _ (a : Arrival) where
   -- "An anonymous export exists if its segment does, and is that segment's address + offset, size untested."
   unfoldable pub anonymousOf : ℕ → Address
   anonymousOf t = if ltb (tagSegment t) (count F segments) then At (segmentPlace (tagSegment t) ⊕ tagOffset t) else Nowhere
+
+-- "Bytes when loaded are those just before that call."
+pub record Arrival : Type 0 where
+  pub coming : Coming
+  pub bytes : ℕ → ℕ
+
+unfoldable pub cut : Coming → (ℕ → ℕ) → ℕ → ℕ
+cut c M o = if ltb o (sizeOf c) then M (baseOf c + o) else 0
+
+abbrev pub imageOf : Arrival → Image
+imageOf a = record { coming = a .coming; file = cut (a .coming) (a .bytes) }

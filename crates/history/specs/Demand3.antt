@@ -2,7 +2,7 @@
 use Prim.Native.Nat.{ℕ, _<_}
 use mathlib.Core.Path.{_≡_}
 use mathlib.Core.Logic.{_≢_}
-use mathlib.Core.List.{List, [], _∷_}
+use mathlib.Core.List.{List, [], _∷_, map}
 use mathlib.Core.Bool.{Bool, true, false}
 use lib.ListN.{length}
 use Rattle.window.specs.Memory.{byteAt}
@@ -12,7 +12,7 @@ use Rattle.layout.specs.declared.segments.Address.the-variants.{At}
 use Rattle.linker.specs.Rebase.{Lent}
 use Rattle.linker.specs.Outcome.{Bytes, Outcome}
 use Rattle.history.specs.Image.{namedExports, count, moduleName}
-use Rattle.history.specs.Arrival.{Coming, initialized, loaded, Arrival, baseOf, isCrs, image, handler, Area, exportName, exportAddress, exportOf}
+use Rattle.history.specs.Arrival.{Coming, initialized, loaded, Image, Arrival, imageOf, baseOf, isCrs, handler, Area, exportName, exportAddress, exportOf}
 use Rattle.history.specs.Imports.{Import, IsImport, Exports, Exporter, Holds}
 use Rattle.history.specs.WellLaid.{WellLaid}
 use Rattle.history.specs.Sessions.{Call, initialize, load, unload, Turn, after, expected, done, arrived, standing, Session}
@@ -45,19 +45,19 @@ abbrev pub BaseNot0 : Coming → Type 0
 BaseNot0 c = baseOf c ≢ 0
 
 -- "areas never overlap", not even those of modules that left
-unfoldable pub Apart : Arrival → Arrival → Type 0
+unfoldable pub Apart : Image → Image → Type 0
 Apart a b = (q : ℕ) → Area a q → Area b q → ⊥
 
 -- "no module or export name comes twice": not in two modules, nor twice in one table
-unfoldable pub OtherName : Arrival → Arrival → Type 0
-OtherName a b = moduleName (image a) ≢ moduleName (image b)
+unfoldable pub OtherName : Image → Image → Type 0
+OtherName a b = moduleName (a .file) ≢ moduleName (b .file)
 
-unfoldable pub OtherExports : Arrival → Arrival → Type 0
+unfoldable pub OtherExports : Image → Image → Type 0
 OtherExports a b = (name : List ℕ) (p q : ℕ) → exportOf a name ≡ At p → exportOf b name ≡ At q → ⊥
 
-unfoldable pub ExportsOnce : Arrival → Type 0
+unfoldable pub ExportsOnce : Image → Type 0
 ExportsOnce a =
-    (i j : ℕ) → i < count (image a) namedExports → j < count (image a) namedExports → exportName a i ≡ exportName a j
+    (i j : ℕ) → i < count (a .file) namedExports → j < count (a .file) namedExports → exportName a i ≡ exportName a j
     → (p q : ℕ) → exportAddress a i ≡ At p → exportAddress a j ≡ At q → i ≡ j
 
 module _ (at : ℕ) where
@@ -70,39 +70,43 @@ module _ (at : ℕ) where
   CrsFirst (t ∷ ts) = (done at t ≡ true → InOrder (t .call) (arrived at ts)) × CrsFirst ts
 
   -- the window never changes its length: that of the last call is any call's
-  unfoldable pub InWindow : List Turn → Arrival → Type 0
+  unfoldable pub InWindow : List Turn → Image → Type 0
   InWindow [] a = Unit {0}
   InWindow (t ∷ ts) a = (q : ℕ) → Area a q → In at (length (t .before .window)) q
+
+  -- the images that came
+  abbrev pub images : List Turn → List Image
+  images ts = map imageOf (arrived at ts)
 
   pub record Premises (ts : List Turn) : Type 0 where
     pub harmless : Each Harmless ts
     pub crs-first : CrsFirst ts
-    pub auto-linked : Each (λ a. AutoLinked (a .coming)) (arrived at ts)
-    pub imports-kept : Each (λ a. ImportsKept (a .coming)) (arrived at ts)
-    pub base-not-0 : Each (λ a. BaseNot0 (a .coming)) (arrived at ts)
-    pub in-window : Each (InWindow ts) (arrived at ts)
-    pub areas-apart : Pairs Apart (arrived at ts)
-    pub other-names : Pairs OtherName (arrived at ts)
-    pub other-exports : Pairs OtherExports (arrived at ts)
-    pub exports-once : Each ExportsOnce (arrived at ts)
-    pub well-laid : Each WellLaid (arrived at ts)
+    pub auto-linked : Each (λ m. AutoLinked (m .coming)) (images ts)
+    pub imports-kept : Each (λ m. ImportsKept (m .coming)) (images ts)
+    pub base-not-0 : Each (λ m. BaseNot0 (m .coming)) (images ts)
+    pub in-window : Each (InWindow ts) (images ts)
+    pub areas-apart : Pairs Apart (images ts)
+    pub other-names : Pairs OtherName (images ts)
+    pub other-exports : Pairs OtherExports (images ts)
+    pub exports-once : Each ExportsOnce (images ts)
+    pub well-laid : Each WellLaid (images ts)
 
 -- "every import .. holds its exporter's address if that stands and has the export, else the handler's": M are the bytes, S stands
-unfoldable pub ImportClause : List Arrival → (ℕ → ℕ) → Arrival → Type 0
+unfoldable pub ImportClause : List Image → (ℕ → ℕ) → Image → Type 0
 ImportClause S M m =
-    (i : Import) → IsImport (image m) i
+    (i : Import) → IsImport (m .file) i
     → Each (λ x. (p : ℕ) → Exporter x m i p → Holds M m i p) S
     × (Each (λ x. (p : ℕ) → Exporter x m i p → ⊥) S → Holds M m i (handler m))
 
 -- "the CRS's imports from itself keep the handler's"
-unfoldable pub CrsClause : (ℕ → ℕ) → Arrival → Type 0
+unfoldable pub CrsClause : (ℕ → ℕ) → Image → Type 0
 CrsClause M m =
-    isCrs (m .coming) ≡ true → (i : Import) → IsImport (image m) i → (p : ℕ) → Exports m m i p → Holds M m i (handler m)
+    isCrs (m .coming) ≡ true → (i : Import) → IsImport (m .file) i → (p : ℕ) → Exports m m i p → Holds M m i (handler m)
 
 -- "the same CRS and modules standing, loaded in the same order, places and parameters, with equal bytes when loaded"
 unfoldable pub SameStanding : List Arrival → List Arrival → Type 0
 SameStanding [] [] = Unit {0}
-SameStanding (a ∷ S) (b ∷ T) = (a .coming ≡ b .coming) × Agree (Area a) (a .bytes) (b .bytes) × SameStanding S T
+SameStanding (a ∷ S) (b ∷ T) = (a .coming ≡ b .coming) × Agree (Area (imageOf a)) (a .bytes) (b .bytes) × SameStanding S T
 SameStanding [] (b ∷ T) = ⊥
 SameStanding (a ∷ S) [] = ⊥
 
@@ -111,16 +115,18 @@ unfoldable pub ends : ℕ → List Turn → ℕ → ℕ
 ends at [] q = 0
 ends at (t ∷ ts) q = byteAt at (after t .window) q
 
--- after every call, of every module then standing
+-- M are the bytes, S stands: of every module in S
+unfoldable pub AllHold : List Image → (ℕ → ℕ) → Type 0
+AllHold S M = Each (λ m. ImportClause S M m × CrsClause M m) S
+
+-- after every call
 unfoldable pub Linked : ℕ → List Turn → Type 0
 Linked at [] = Unit {0}
-Linked at (t ∷ ts) =
-    Each (λ m. ImportClause (standing at (t ∷ ts)) (ends at (t ∷ ts)) m × CrsClause (ends at (t ∷ ts)) m) (standing at (t ∷ ts))
-    × Linked at ts
+Linked at (t ∷ ts) = AllHold (map imageOf (standing at (t ∷ ts))) (ends at (t ∷ ts)) × Linked at ts
 
 -- "no byte of the CRS's or a standing module's areas differs"
 unfoldable pub NoByteDiffers : ℕ → List Turn → ℕ → List Turn → Type 0
-NoByteDiffers at ts bt us = Each (λ a. Agree (Area a) (ends at ts) (ends bt us)) (standing at ts)
+NoByteDiffers at ts bt us = Each (λ a. Agree (Area (imageOf a)) (ends at ts) (ends bt us)) (standing at ts)
 
 -- each call of a session gives the definition's outcome (`Session`, by `Follows`); of any two sessions under the premises:
 pub Demand3 : Type 0

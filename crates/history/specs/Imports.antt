@@ -13,7 +13,7 @@ use Rattle.layout.specs.declared.segments.Address.{Address}
 use Rattle.layout.specs.declared.segments.Address.the-variants.{At}
 use Rattle.linker.specs.Relocation.{batchLimit}
 use Rattle.history.specs.Image.{Table, namedImports, indexedImports, anonymousImports, moduleEntries, externals, count, entry, nameOf, moduleName, tag, kind, endMark, addend}
-use Rattle.history.specs.Arrival.{Arrival, isCrs, image, address, exportOf, indexedOf, anonymousOf}
+use Rattle.history.specs.Arrival.{Image, isCrs, address, exportOf, indexedOf, anonymousOf}
 
 -- an entry of one of the header's three tables of imports
 pub data Import : Type 0 where
@@ -80,20 +80,20 @@ module _ (F : ℕ → ℕ) where
     pub short : f < e + batchLimit
 
 -- x has the export that import i of m asks for, at the address p
-unfoldable pub Exports : Arrival → Arrival → Import → ℕ → Type 0
-Exports x m (named i) p = exportOf x (nameOf (image m) (wanted (image m) (named i))) ≡ At p
+unfoldable pub Exports : Image → Image → Import → ℕ → Type 0
+Exports x m (named i) p = exportOf x (nameOf (m .file) (wanted (m .file) (named i))) ≡ At p
 Exports x m (indexed i) p =
-    From (image m) (indexed i) (moduleName (image x)) × (indexedOf x (wanted (image m) (indexed i)) ≡ At p)
+    From (m .file) (indexed i) (moduleName (x .file)) × (indexedOf x (wanted (m .file) (indexed i)) ≡ At p)
 Exports x m (anonymous i) p =
-    From (image m) (anonymous i) (moduleName (image x)) × (anonymousOf x (wanted (image m) (anonymous i)) ≡ At p)
+    From (m .file) (anonymous i) (moduleName (x .file)) × (anonymousOf x (wanted (m .file) (anonymous i)) ≡ At p)
 
 -- x is the exporter: the CRS is none of its own imports'
-unfoldable pub Exporter : Arrival → Arrival → Import → ℕ → Type 0
+unfoldable pub Exporter : Image → Image → Import → ℕ → Type 0
 Exporter x m i p = Exports x m i p × (isCrs (m .coming) ≡ true → isCrs (x .coming) ≡ true → ⊥)
 
 -- "An import holds an address if each batch entry of kind 2, 3 or 10 with a usable tag has the word that this address as symbol gives."
-unfoldable pub Holds : (ℕ → ℕ) → Arrival → Import → ℕ → Type 0
+unfoldable pub Holds : (ℕ → ℕ) → Image → Import → ℕ → Type 0
 Holds M m i symbol =
-    (e f j : ℕ) → BatchOf (image m) i e f → e ≤ j → j ≤ f → (p v : ℕ) → address m (tag (image m) externals j) ≡ At p
-    → relocatedWord (relocationType (kind (image m) externals j)) (addend (image m) externals j) symbol p ≡ Word v
+    (e f j : ℕ) → BatchOf (m .file) i e f → e ≤ j → j ≤ f → (p v : ℕ) → address m (tag (m .file) externals j) ≡ At p
+    → relocatedWord (relocationType (kind (m .file) externals j)) (addend (m .file) externals j) symbol p ≡ Word v
     → word M p ≡ v

@@ -1,16 +1,14 @@
 -- "Sessions in demand 3": calls, what stands after them, and the premises, each under its own name.
 use Prim.Native.Nat.{ℕ, _+_, _^_, _<_}
 use mathlib.Core.Path.{_≡_}
-use mathlib.Core.Logic.{_≢_, _⊎_}
+use mathlib.Core.Logic.{_⊎_}
 use mathlib.Core.List.{List, [], _∷_, _++_}
 use mathlib.Core.Bool.{Bool, true, false, not, _||_}
 use lib.ListN.{length}
 use lib.Dec.{eqb}
 use Rattle.window.specs.Memory.{if_then_else_, byteAt}
 use Rattle.window.specs.Small as small
-use Rattle.window.specs.Within.{In, Agree}
-use Rattle.layout.specs.declared.segments.Address.{Address}
-use Rattle.layout.specs.declared.segments.Address.the-variants.{At, Nowhere}
+use Rattle.window.specs.Within.{Agree}
 use Rattle.register.specs.declared.words.Crs.{Crs}
 use Rattle.register.specs.declared.words.Crs.the-variants.{Unknown, Known}
 use Rattle.register.specs.Module.{Export, Module, Register}
@@ -19,9 +17,7 @@ use Rattle.register_read.specs.Read.{addressOf}
 use Rattle.linker.specs.Rebase.{Lent}
 use Rattle.linker.specs.Outcome.{Bytes, Outcome, initializeOutcome, loadOutcome, unloadOutcome}
 use Rattle.linker.specs.Refusals.{lentRegister}
-use Rattle.history.specs.Image.{namedExports, count, moduleName}
-use Rattle.history.specs.Arrival.{Coming, initialized, loaded, Arrival, baseOf, isCrs, image, Area, exportName, exportAddress, exportOf}
-use Rattle.history.specs.WellLaid.{WellLaid}
+use Rattle.history.specs.Arrival.{Coming, initialized, loaded, Arrival, imageOf, baseOf, isCrs, Area}
 
 -- "a list of initialize, load and unload calls"
 pub data Call : Type 0 where
@@ -146,7 +142,7 @@ module _ (at : ℕ) where
   -- the address lies in an area of one of them
   unfoldable pub Areas : List Arrival → ℕ → Type 0
   Areas [] q = ⊥
-  Areas (a ∷ S) q = Area a q ⊎ Areas S q
+  Areas (a ∷ S) q = Area (imageOf a) q ⊎ Areas S q
 
   -- "Each call gets window and register as the last left them, save window bytes outside all areas loaded so far"
   pub record Between (ts : List Turn) (left got : Bytes) : Type 0 where

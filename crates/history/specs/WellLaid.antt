@@ -16,7 +16,7 @@ use Rattle.layout.specs.declared.segments.Address.{Address}
 use Rattle.layout.specs.declared.segments.Address.the-variants.{At}
 use Rattle.linker.specs.Relocation.{writePlace}
 use Rattle.history.specs.Image.{Table, tables, segments, namedExports, moduleEntries, externals, namedImports, internals, start, count, entry, fileSegment, tag, kind, symbolSegment}
-use Rattle.history.specs.Arrival.{Coming, initialized, loaded, Arrival, baseOf, sizeOf, image, oldPlace, address, handler, Area}
+use Rattle.history.specs.Arrival.{Coming, initialized, loaded, Image, baseOf, sizeOf, oldPlace, address, handler, Area}
 use Rattle.history.specs.Imports.{Import, named, indexed, anonymous, importTable, IsImport, batch, runStart, runCount, InRun, BatchOf}
 
 -- what must lie in the image apart from each other: the header, table number n, the string that a pointer gives
@@ -77,7 +77,7 @@ pub data Relocated : Type 0 where
   external : ℕ → Relocated
   internal : ℕ → Relocated
 
-module _ (a : Arrival) where
+module _ (a : Image) where
   -- kinds 2, 3 and 10 write a word, whatever the addend, symbol and place
   abbrev pub Writes : ℕ → Type 0
   Writes k = (v : ℕ) × (relocatedWord (relocationType k) 0 0 0 ≡ Word v)
@@ -85,16 +85,16 @@ module _ (a : Arrival) where
   -- where a relocated word stands: "every relocated word"; an internal one into Data "at the old place"
   unfoldable pub WordAt : Relocated → ℕ → Type 0
   WordAt (external i) p =
-      (i < count (image a) externals) × Writes (kind (image a) externals i) × (address a (tag (image a) externals i) ≡ At p)
+      (i < count (a .file) externals) × Writes (kind (a .file) externals i) × (address a (tag (a .file) externals i) ≡ At p)
   WordAt (internal i) p =
-      (i < count (image a) internals) × Writes (kind (image a) internals i) × (symbolSegment (image a) i < count (image a) segments)
-      × (q : ℕ) × (address a (tag (image a) internals i) ≡ At q)
+      (i < count (a .file) internals) × Writes (kind (a .file) internals i) × (symbolSegment (a .file) i < count (a .file) segments)
+      × (q : ℕ) × (address a (tag (a .file) internals i) ≡ At q)
       × (p
-      ≡ writePlace (fileSegment (image a) (tagSegment (tag (image a) internals i)) .kind) (oldPlace a) (tagOffset (tag (image a) internals i)) q)
+      ≡ writePlace (fileSegment (a .file) (tagSegment (tag (a .file) internals i)) .kind) (oldPlace a) (tagOffset (tag (a .file) internals i)) q)
 
   -- "its words at 0x088 and 0x08C are 0 before `initialize`"
   unfoldable pub NoList : Coming → Type 0
-  NoList (initialized base size) = (word (image a) nextCro ≡ 0) × (word (image a) previousCro ≡ 0)
+  NoList (initialized base size) = (word (a .file) nextCro ≡ 0) × (word (a .file) previousCro ≡ 0)
   NoList (loaded l auto level) = Unit {0}
 
   pub record LaidInPlace : Type 0 where
@@ -104,7 +104,7 @@ module _ (a : Arrival) where
     pub words-apart : (r s : Relocated) → r ≢ s → (p q : ℕ) → WordAt r p → WordAt s q → (x : ℕ) → In p 4 x → In q 4 x → ⊥
     -- "or anything else the linker reads or writes, the whole header included"
     pub words-off
-        : (r : Relocated) (p : ℕ) → WordAt r p → (s : Part) (o : ℕ) → InPart (image a) (sizeOf (a .coming)) s o
+        : (r : Relocated) (p : ℕ) → WordAt r p → (s : Part) (o : ℕ) → InPart (a .file) (sizeOf (a .coming)) s o
         → In p 4 (baseOf (a .coming) + o) → ⊥
     -- "Its handler address is not 0."
     pub handler-there : handler a ≢ 0
@@ -112,5 +112,5 @@ module _ (a : Arrival) where
     pub no-list : NoList (a .coming)
 
   pub record WellLaid : Type 0 where
-    pub alone : LaidAlone (image a) (sizeOf (a .coming))
+    pub alone : LaidAlone (a .file) (sizeOf (a .coming))
     pub in-place : LaidInPlace
