@@ -20,7 +20,7 @@ use Rattle.layout.specs.declared.segments.Address.the-variants.{At, Nowhere}
 use Rattle.register.specs.Words.{same}
 use Rattle.linker.specs.Rebase.{Lent, at-offset}
 use Rattle.linker.specs.Relocation.{addressOr0}
-use Rattle.history.specs.Image.{segments, namedExports, indexedExports, start, count, entry, nameOf, fileSegment}
+use Rattle.history.specs.Image.{segments, namedExports, indexedExports, count, entry, nameOf, fileSegment}
 
 -- the two calls that bring a module, with their arguments: "Its places and parameters are that call's arguments."
 pub data Coming : Type 0 where
@@ -39,7 +39,7 @@ abbrev pub isCrs : Coming → Bool
 isCrs (initialized base size) = true
 isCrs (loaded l auto level) = false
 
--- the image's bytes by offset, 0 past its size, as they were just before the call
+-- the call's arguments, and the image's bytes by offset
 pub record Image : Type 0 where
   pub coming : Coming
   pub file : ℕ → ℕ
@@ -138,6 +138,7 @@ pub record Arrival : Type 0 where
   pub coming : Coming
   pub bytes : ℕ → ℕ
 
+-- the image's own bytes, 0 past its size
 unfoldable pub cut : Coming → (ℕ → ℕ) → ℕ → ℕ
 cut c M o = if ltb o (sizeOf c) then M (baseOf c + o) else 0
 

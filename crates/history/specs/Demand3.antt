@@ -3,14 +3,11 @@ use Prim.Native.Nat.{ℕ, _<_}
 use mathlib.Core.Path.{_≡_}
 use mathlib.Core.Logic.{_≢_}
 use mathlib.Core.List.{List, [], _∷_, map}
-use mathlib.Core.Bool.{Bool, true, false}
+use mathlib.Core.Bool.{true, false}
 use lib.ListN.{length}
 use Rattle.window.specs.Memory.{byteAt}
 use Rattle.window.specs.Within.{In, Agree}
-use Rattle.layout.specs.declared.segments.Address.{Address}
 use Rattle.layout.specs.declared.segments.Address.the-variants.{At}
-use Rattle.linker.specs.Rebase.{Lent}
-use Rattle.linker.specs.Outcome.{Bytes, Outcome}
 use Rattle.history.specs.Image.{namedExports, count, moduleName}
 use Rattle.history.specs.Arrival.{Coming, initialized, loaded, Image, Arrival, imageOf, baseOf, isCrs, handler, Area, exportName, exportAddress, exportOf}
 use Rattle.history.specs.Imports.{Import, IsImport, Exports, Exporter, Holds}
@@ -48,7 +45,7 @@ BaseNot0 c = baseOf c ≢ 0
 unfoldable pub Apart : Image → Image → Type 0
 Apart a b = (q : ℕ) → Area a q → Area b q → ⊥
 
--- "no module or export name comes twice": not in two modules, nor twice in one table
+-- "no module or export name comes twice": not in two modules, nor, of exports with a usable tag, twice in one table
 unfoldable pub OtherName : Image → Image → Type 0
 OtherName a b = moduleName (a .file) ≢ moduleName (b .file)
 

@@ -1,7 +1,6 @@
 -- An image by itself: F gives its byte at each offset from the base, as the bytes were when it was loaded.
 use Prim.Native.Nat.{ℕ, _+_, _*_}
 use mathlib.Core.List.{List, [], _∷_}
-use lib.ListN.{getD}
 use Rattle.window.specs.Mirror.{word, runM}
 use Rattle.window.specs.Name.{nameAt}
 use Rattle.layout.specs.Header.{segmentTableOffset, exportNamedSymbolTableOffset, exportIndexedSymbolTableOffset, exportTreeTableOffset, importModuleTableOffset, externalRelocationTableOffset, importNamedSymbolTableOffset, importIndexedSymbolTableOffset, importAnonymousSymbolTableOffset, staticAnonymousSymbolTableOffset, internalRelocationTableOffset, staticRelocationTableOffset, moduleNameOffset, segmentEntrySize, exportNamedSymbolEntrySize, exportIndexedSymbolEntrySize, exportTreeEntrySize, importModuleEntrySize, importNamedSymbolEntrySize, importIndexedSymbolEntrySize, importAnonymousSymbolEntrySize, staticAnonymousSymbolEntrySize, relocationEntrySize}

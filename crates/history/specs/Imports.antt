@@ -7,9 +7,7 @@ use mathlib.Core.Bool.{true}
 use Rattle.window.specs.Mirror.{word}
 use Rattle.layout.specs.Format.{relocationType}
 use Rattle.layout.specs.Relocation.{relocatedWord}
-use Rattle.layout.specs.declared.relocation.Patch.{Patch}
 use Rattle.layout.specs.declared.relocation.Patch.the-variants.{Word}
-use Rattle.layout.specs.declared.segments.Address.{Address}
 use Rattle.layout.specs.declared.segments.Address.the-variants.{At}
 use Rattle.linker.specs.Relocation.{batchLimit}
 use Rattle.history.specs.Image.{Table, namedImports, indexedImports, anonymousImports, moduleEntries, externals, count, entry, nameOf, moduleName, tag, kind, endMark, addend}

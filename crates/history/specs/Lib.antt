@@ -4,4 +4,5 @@ pub mod Arrival
 pub mod Imports
 pub mod WellLaid
 pub mod Sessions
+pub mod Windows
 pub mod Demand3

@@ -1,23 +1,22 @@
--- "Sessions in demand 3": calls, what stands after them, and the premises, each under its own name.
-use Prim.Native.Nat.{ℕ, _+_, _^_, _<_}
+-- "Sessions in demand 3": calls, what they gave, and what came and stands after them.
+use Prim.Native.Nat.{ℕ, _^_, _<_}
 use mathlib.Core.Path.{_≡_}
 use mathlib.Core.Logic.{_⊎_}
 use mathlib.Core.List.{List, [], _∷_, _++_}
-use mathlib.Core.Bool.{Bool, true, false, not, _||_}
-use lib.ListN.{length}
+use mathlib.Core.Bool.{Bool, true, not, _||_}
+use lib.ListN.{length, take}
 use lib.Dec.{eqb}
 use Rattle.window.specs.Memory.{if_then_else_, byteAt}
 use Rattle.window.specs.Small as small
 use Rattle.window.specs.Within.{Agree}
-use Rattle.register.specs.declared.words.Crs.{Crs}
-use Rattle.register.specs.declared.words.Crs.the-variants.{Unknown, Known}
-use Rattle.register.specs.Module.{Export, Module, Register}
+use Rattle.register.specs.declared.words.Crs.the-variants.{Unknown}
+use Rattle.register.specs.Module.{Module, Register}
 use Rattle.register.specs.Decode.{isRegister}
 use Rattle.register_read.specs.Read.{addressOf}
 use Rattle.linker.specs.Rebase.{Lent}
 use Rattle.linker.specs.Outcome.{Bytes, Outcome, initializeOutcome, loadOutcome, unloadOutcome}
 use Rattle.linker.specs.Refusals.{lentRegister}
-use Rattle.history.specs.Arrival.{Coming, initialized, loaded, Arrival, imageOf, baseOf, isCrs, Area}
+use Rattle.history.specs.Arrival.{initialized, loaded, Arrival, imageOf, baseOf, isCrs, Area}
 
 -- "a list of initialize, load and unload calls"
 pub data Call : Type 0 where
@@ -65,11 +64,13 @@ pub record SameRegister (r s : Register) : Type 0 where
 abbrev pub valid : Bytes → Bool
 valid b = isRegister (b .records) (b .names) (b .missing)
 
--- the same register bytes, or encodings of one register in buffers of the same lengths: "One thing is left free"
+-- the same register bytes
 abbrev pub SameBytes : Bytes → Bytes → Type 0
 SameBytes b c = (b .records ≡ c .records) × (b .names ≡ c .names) × (b .missing ≡ c .missing)
 
+-- encodings of one register but for that order, in buffers of the same lengths and with the same header words
 pub record SameEncoded (b c : Bytes) : Type 0 where
+  pub header : take 32 (b .records) ≡ take 32 (c .records)
   pub records : length (b .records) ≡ length (c .records)
   pub names : length (b .names) ≡ length (c .names)
   pub valid-both : (valid b ≡ true) × (valid c ≡ true)
@@ -78,18 +79,19 @@ pub record SameEncoded (b c : Bytes) : Type 0 where
 abbrev pub expected : ℕ → Turn → Outcome
 expected at t = given (t .call) at (t .before)
 
--- the call gave what the definition gives
+-- the call gave what the definition gives: "One thing is left free", and only where the definition changes the register
 pub record Follows (at : ℕ) (t : Turn) : Type 0 where
   pub number : t .gave .number ≡ expected at t .number
   pub value : t .gave .value ≡ expected at t .value
   pub window : after t .window ≡ expected at t .left .window
   pub register : SameBytes (expected at t .left) (after t) ⊎ SameEncoded (expected at t .left) (after t)
+  pub kept : SameBytes (t .before) (expected at t .left) → SameBytes (t .before) (after t)
 
 -- "The register starts with no module and no CRS."
 unfoldable pub Fresh : Bytes → Type 0
 Fresh b = valid b ≡ true → (lentRegister b .modules ≡ []) × (lentRegister b .crs ≡ Unknown)
 
--- arguments are 32-bit numbers, and what is lent are bytes
+-- arguments are 32-bit numbers
 unfoldable pub Words : Call → Type 0
 Words (initialize base size) = (base < 2 ^ 32) × (size < 2 ^ 32)
 Words (load l auto level) =
@@ -97,12 +99,9 @@ Words (load l auto level) =
     × (l .bss-size < 2 ^ 32) × (auto < 2 ^ 32) × (level < 2 ^ 32)
 Words (unload base) = base < 2 ^ 32
 
-pub record Typed (t : Turn) : Type 0 where
-  pub arguments : Words (t .call)
-  pub window : small.Bytes (t .before .window)
-  pub records : small.Bytes (t .before .records)
-  pub names : small.Bytes (t .before .names)
-  pub missing : small.Bytes (t .before .missing)
+-- and the window's bytes are bytes
+abbrev pub Typed : Turn → Type 0
+Typed t = Words (t .call) × small.Bytes (t .before .window)
 
 module _ (at : ℕ) where
   -- "Which calls are refused .. [is] read from this document"

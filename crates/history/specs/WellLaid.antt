@@ -2,22 +2,18 @@
 use Prim.Native.Nat.{ℕ, _+_, _*_, _≤_, _<_}
 use mathlib.Core.Path.{_≡_}
 use mathlib.Core.Logic.{_≢_, _⊎_}
-use mathlib.Core.List.{List}
 use lib.ListN.{length, getD}
 use Rattle.window.specs.Within.{In}
 use Rattle.window.specs.Mirror.{word}
 use Rattle.layout.specs.Header.{headerSize, nextCro, previousCro, moduleNameOffset}
 use Rattle.layout.specs.Format.{relocationType, tagSegment, tagOffset}
 use Rattle.layout.specs.Relocation.{relocatedWord}
-use Rattle.layout.specs.declared.format.Segment.{Segment}
-use Rattle.layout.specs.declared.relocation.Patch.{Patch}
 use Rattle.layout.specs.declared.relocation.Patch.the-variants.{Word}
-use Rattle.layout.specs.declared.segments.Address.{Address}
 use Rattle.layout.specs.declared.segments.Address.the-variants.{At}
 use Rattle.linker.specs.Relocation.{writePlace}
 use Rattle.history.specs.Image.{Table, tables, segments, namedExports, moduleEntries, externals, namedImports, internals, start, count, entry, fileSegment, tag, kind, symbolSegment}
 use Rattle.history.specs.Arrival.{Coming, initialized, loaded, Image, baseOf, sizeOf, oldPlace, address, handler, Area}
-use Rattle.history.specs.Imports.{Import, named, indexed, anonymous, importTable, IsImport, batch, runStart, runCount, InRun, BatchOf}
+use Rattle.history.specs.Imports.{Import, importTable, IsImport, batch, runStart, runCount, InRun, BatchOf}
 
 -- what must lie in the image apart from each other: the header, table number n, the string that a pointer gives
 pub data Part : Type 0 where
@@ -31,7 +27,7 @@ noTable = record { field = 0; width = 0 }
 abbrev pub tableNumber : ℕ → Table
 tableNumber n = getD tables n noTable
 
-module _ (F : ℕ → ℕ) (size : ℕ) where
+module _ (F : ℕ → ℕ) where
   -- the pointers of names: the module's, and those in named exports, named imports and module entries
   pub data Pointer : ℕ → Type 0 where
     of-module : Pointer (word F moduleNameOffset)
@@ -49,7 +45,13 @@ module _ (F : ℕ → ℕ) (size : ℕ) where
   InPart (table n) o = (n < length tables) × In (start F (tableNumber n)) (count F (tableNumber n) * tableNumber n .width) o
   InPart (string p) o = Pointer p × (p ≢ 0) × InString p o
 
-  pub record LaidAlone : Type 0 where
+  -- what of a part the linker reads or writes: of the tables not the export tree and the two static ones, of a string at most 512 bytes
+  unfoldable pub Touched : Part → ℕ → Type 0
+  Touched header o = Unit {0}
+  Touched (table n) o = (n ≢ 3) × (n ≢ 9) × (n ≢ 11)
+  Touched (string p) o = o < p + 512
+
+  pub record LaidAlone (size : ℕ) : Type 0 where
     -- "header .. lie in the image"
     pub header-inside : headerSize ≤ size
     -- "tables .. lie in the image"; an empty one has no bytes, and its offset is free
@@ -92,7 +94,7 @@ module _ (a : Image) where
       × (p
       ≡ writePlace (fileSegment (a .file) (tagSegment (tag (a .file) internals i)) .kind) (oldPlace a) (tagOffset (tag (a .file) internals i)) q)
 
-  -- "its words at 0x088 and 0x08C are 0 before `initialize`"
+  -- a CRS's list words
   unfoldable pub NoList : Coming → Type 0
   NoList (initialized base size) = (word (a .file) nextCro ≡ 0) × (word (a .file) previousCro ≡ 0)
   NoList (loaded l auto level) = Unit {0}
@@ -104,11 +106,11 @@ module _ (a : Image) where
     pub words-apart : (r s : Relocated) → r ≢ s → (p q : ℕ) → WordAt r p → WordAt s q → (x : ℕ) → In p 4 x → In q 4 x → ⊥
     -- "or anything else the linker reads or writes, the whole header included"
     pub words-off
-        : (r : Relocated) (p : ℕ) → WordAt r p → (s : Part) (o : ℕ) → InPart (a .file) (sizeOf (a .coming)) s o
+        : (r : Relocated) (p : ℕ) → WordAt r p → (s : Part) (o : ℕ) → InPart (a .file) s o → Touched (a .file) s o
         → In p 4 (baseOf (a .coming) + o) → ⊥
     -- "Its handler address is not 0."
     pub handler-there : handler a ≢ 0
-    -- "For a CRS the same"
+    -- "For a CRS the same, and its words at 0x088 and 0x08C are 0 before `initialize`"
     pub no-list : NoList (a .coming)
 
   pub record WellLaid : Type 0 where

@@ -1,0 +1,61 @@
+-- The window that a call leaves is that of a run: it keeps its length, and bytes stay bytes.
+use Prim.Native.Nat.{ℕ}
+use mathlib.Core.Path.{_≡_, refl}
+use mathlib.Core.List.{List}
+use mathlib.Core.Bool.{Bool, true, false, not}
+use lib.ListN.{length}
+use lib.Dec.{eqb}
+use Rattle.window.specs.Memory.{goodWindow}
+use Rattle.window.specs.Access.{Prog, ret, run, length-run}
+use Rattle.window.specs.Small as small
+use Rattle.window.specs.Small.{run-bytes}
+use Rattle.register.specs.Module.{Register}
+use Rattle.linker.specs.Calls as calls
+use Rattle.linker.specs.Calls.{Answer, NotACro, BadSegment, NoRoom, Kept, Done}
+use Rattle.linker.specs.Outcome.{Bytes, registerAfter, settle, chain, outcome, initializeOutcome, loadOutcome, unloadOutcome}
+use Rattle.linker.specs.Refusals.{lentRegister}
+use Rattle.history.specs.Sessions.{Call, initialize, load, unload, given, valid}
+
+-- a run that leaves such a window
+abbrev pub Ran : ℕ → List ℕ → List ℕ → Type 0
+Ran at w v = (m : Prog Answer) × (v ≡ run at m w .1)
+
+after-window : (b : Bytes) (w : List ℕ) (a : Answer) → registerAfter b w a .window ≡ w
+unfolding registerAfter
+after-window b w NotACro = refl
+after-window b w BadSegment = refl
+after-window b w NoRoom = refl
+after-window b w Kept = refl
+after-window b w (Done v r) = refl
+
+unchanged : (at : ℕ) (w : List ℕ) → Ran at w w
+unfolding run
+unchanged at w = (ret NotACro, refl)
+
+settled : (at : ℕ) (b : Bytes) (m : Prog Answer) → Ran at (b .window) (settle b (run at m (b .window)) .left .window)
+unfolding settle
+settled at b m = (m, after-window b (run at m (b .window) .1) (run at m (b .window) .0))
+
+chained
+    : (at : ℕ) (b : Bytes) (g r : Bool) (m : Prog Answer) → Ran at (b .window) (chain g r b (settle b (run at m (b .window))) .left .window)
+chained at b true true m = settled at b m
+chained at b true false m = unchanged at (b .window)
+chained at b false r m = unchanged at (b .window)
+
+outcome-ran : (call : ℕ → ℕ → Register → Prog Answer) (at : ℕ) (b : Bytes) → Ran at (b .window) (outcome call at b .left .window)
+unfolding outcome
+outcome-ran call at b =
+    chained at b (goodWindow at (b .window)) (valid b) (call (length (b .records)) (length (b .names)) (lentRegister b))
+
+pub given-ran : (c : Call) (at : ℕ) (b : Bytes) → Ran at (b .window) (given c at b .left .window)
+unfolding given initializeOutcome loadOutcome unloadOutcome
+given-ran (initialize base size) at b = outcome-ran (calls.initialize base size) at b
+given-ran (load l auto level) at b = outcome-ran (calls.load l (not (eqb auto 0)) level) at b
+given-ran (unload base) at b = outcome-ran (λ records names. calls.unload base) at b
+
+module _ (c : Call) (at : ℕ) (b : Bytes) where
+  pub given-length : length (given c at b .left .window) ≡ length (b .window)
+  given-length = let g = given-ran c at b in rw (g .1) (length-run at (g .0) (b .window))
+
+  pub given-bytes : small.Bytes (b .window) → small.Bytes (given c at b .left .window)
+  given-bytes h = let g = given-ran c at b in rw (g .1) (run-bytes at (g .0) (b .window) h)
