@@ -13,3 +13,5 @@ pub mod Refusals
 pub mod Cases
 pub mod Gives
 pub mod Answers
+pub mod Room
+pub mod Reads
