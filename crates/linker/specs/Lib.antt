@@ -15,3 +15,4 @@ pub mod Gives
 pub mod Answers
 pub mod Room
 pub mod Reads
+pub mod Valid

@@ -17,6 +17,7 @@ use Rattle.window.specs.Tests.{both, also}
 use Rattle.layout.specs.Header.{exportNamedSymbolTableOffset, exportNamedSymbolNum, exportNamedSymbolEntrySize, exportIndexedSymbolTableOffset, exportIndexedSymbolNum, exportIndexedSymbolEntrySize, segmentNum, segmentTableOffset, segmentEntrySize, moduleNameOffset}
 use Rattle.layout.specs.Format.{tagSegment, tagOffset}
 use Rattle.layout.specs.Segments.{field, entryAt, segment, segmentEntry, addressIn, tagToAddress}
+use Rattle.layout.specs.declared.format.Segment.{Segment}
 use Rattle.layout.specs.declared.segments.FoundSegment.{FoundSegment}
 use Rattle.layout.specs.declared.segments.FoundSegment.the-variants.{Found, Missing}
 use Rattle.layout.specs.declared.segments.Address.{Address}
@@ -88,3 +89,132 @@ put-kept (x ∷ xs) name a g s k = go (same name (x .name)) refl (put-kept xs na
           differ = also (absent-stays xs name (x .name) a 0 (same-turned name (x .name) e) (d .0)) (i .differ);
           small = (k .small .0, i .small);
         }
+
+-- addresses wrap, so they are 32-bit numbers
+address-small : (s : FoundSegment) (x : ℕ) → addressOr0 (addressIn s x) < 2 ^ 32
+unfolding addressIn
+address-small (Found s) x = go (ltb x (s .size))
+  where
+    go : (t : Bool) → addressOr0 (if t then At (s .offset ⊕ x) else Nowhere) < 2 ^ 32
+    go true = omega arith
+    go false = omega arith
+address-small Missing x = omega arith
+
+abbrev SmallAddress : Address → Type 0
+SmallAddress a = addressOr0 a < 2 ^ 32
+
+usable-kept : (xs : List Export) (name : List ℕ) (a : Address) → isName name ≡ true → SmallAddress a → Kept xs → Kept (putUsable xs name a)
+unfolding putUsable
+usable-kept xs name (At a) g s k = put-kept xs name a g s k
+usable-kept xs name Nowhere g s k = k
+
+-- a segment taken whole, cut at 16
+take-short : (n : ℕ) (l : List ℕ) → length (take n l) ≤ n
+take-short zero l = omega arith
+take-short (suc n) [] = omega arith
+take-short (suc n) (x ∷ l) = let h = take-short n l in omega arith
+
+take-below : (n b : ℕ) (l : List ℕ) → 0 < b → Below b l → Below b (take n l)
+take-below zero b l h s i = h
+take-below (suc n) b [] h s i = h
+take-below (suc n) b (x ∷ l) h s zero = s 0
+take-below (suc n) b (x ∷ l) h s (suc i) = take-below n b l h (λ k. s (suc k)) i
+
+module _ (at : ℕ) where
+  pub name-yields : (p : ℕ) → Yields at (λ name. isName name ≡ true) (nameAt p)
+  name-yields p w b = nameAt-isName at p w
+
+  address-yields : (base tag : ℕ) → Yields at SmallAddress (tagToAddress base tag)
+  unfolding tagToAddress
+  address-yields base tag =
+      yields-then at SmallAddress (segment base (tagSegment tag)) _
+      (λ s. yields-ret at SmallAddress (addressIn s (tagOffset tag)) (address-small s (tagOffset tag)))
+
+  abbrev Word : ℕ → Type 0
+  Word v = v < 2 ^ 32
+
+  word-yields : (p : ℕ) → Yields at Word (get32 p)
+  unfolding run
+  word-yields p w b = wordAt-small at w p b
+
+  module _ (base : ℕ) where
+    namedExports-yields : Yields at Kept (namedExports base)
+    unfolding namedExports namedExport
+    namedExports-yields =
+        yields-then at Kept (field base exportNamedSymbolTableOffset) _
+        (λ table. yields-then at Kept (field base exportNamedSymbolNum) _
+        (λ count. yields-loop at Kept _ (λ i xs k.
+        yields-then at Kept (get32 (entryAt table i exportNamedSymbolEntrySize)) _
+        (λ p. yields-bind at (λ name. isName name ≡ true) Kept (nameAt p) _ (name-yields p)
+        (λ name g. yields-then at Kept (get32 (entryAt table i exportNamedSymbolEntrySize ⊕ 4)) _
+        (λ tag. yields-bind at SmallAddress Kept (tagToAddress base tag) _ (address-yields base tag)
+        (λ a s. yields-ret at Kept (putUsable xs name a) (usable-kept xs name a g s k))))))
+        0 count [] none-kept))
+
+    abbrev Words : List ℕ → Type 0
+    Words xs = Below (2 ^ 32) xs
+
+    one-more : (xs : List ℕ) (v : ℕ) → Words xs → v < 2 ^ 32 → Words (xs ++ (v ∷ []))
+    one-more xs v h s = below-append xs (v ∷ []) (2 ^ 32) h (below-one v s)
+
+    indexedExports-yields : Yields at Words (indexedExports base)
+    unfolding indexedExports indexedExport
+    indexedExports-yields =
+        yields-then at Words (field base exportIndexedSymbolTableOffset) _
+        (λ table. yields-then at Words (field base exportIndexedSymbolNum) _
+        (λ count. yields-loop at Words _ (λ i xs k.
+        yields-then at Words (get32 (entryAt table i exportIndexedSymbolEntrySize)) _
+        (λ tag. yields-bind at SmallAddress Words (tagToAddress base tag) _ (address-yields base tag)
+        (λ a s. yields-ret at Words (xs ++ (addressOr0 a ∷ [])) (one-more xs (addressOr0 a) k s))))
+        0 count [] (λ i. omega arith)))
+
+    abbrev SmallStart : Segment → Type 0
+    SmallStart s = s .offset < 2 ^ 32
+
+    abbrev SmallOffset : FoundSegment → Type 0
+    SmallOffset s = offsetOr0 s < 2 ^ 32
+
+    segment-yields : (i : ℕ) → Yields at SmallOffset (segment base i)
+    unfolding segment segmentEntry
+    segment-yields i =
+        yields-then at SmallOffset (field base segmentNum) _
+        (λ count. yields-if at SmallOffset (ltb i count) _ _
+        (λ _. yields-then at SmallOffset (field base segmentTableOffset) _
+        (λ table. yields-bind at SmallStart SmallOffset _ _
+        (yields-bind at Word SmallStart (get32 (entryAt table i segmentEntrySize)) _ (word-yields _)
+        (λ offset h. yields-then at SmallStart (get32 (entryAt table i segmentEntrySize ⊕ 4)) _
+        (λ size. yields-then at SmallStart (get32 (entryAt table i segmentEntrySize ⊕ 8)) _
+        (λ kind. yields-ret at SmallStart _ h))))
+        (λ s h. yields-ret at SmallOffset (Found s) h)))
+        (λ _. yields-ret at SmallOffset Missing (omega arith)))
+
+    abbrev Segments : List ℕ → Type 0
+    Segments xs = (length xs ≤ 16) × Words xs
+
+    readSegments-yields : Yields at Segments (readSegments base)
+    unfolding readSegments
+    readSegments-yields =
+        yields-then at Segments (field base segmentNum) _
+        (λ count. yields-bind at Words Segments _ _
+        (yields-loop at Words _ (λ i xs k. yields-bind at SmallOffset Words (segment base i) _ (segment-yields i)
+        (λ s h. yields-ret at Words (xs ++ (offsetOr0 s ∷ [])) (one-more xs (offsetOr0 s) k h)))
+        0 count [] (λ i. omega arith))
+        (λ xs h. yields-ret at Segments (take 16 xs) (take-short 16 xs, take-below 16 (2 ^ 32) xs (omega arith) h)))
+
+  -- the record that a load or an `initialize` reads
+  abbrev pub Readable : Module → Type 0
+  Readable m = (properModule m ≡ true) × Small m
+
+  pub readModule-yields : (base size : ℕ) (auto : Bool) → base < 2 ^ 32 → size < 2 ^ 32 → Yields at Readable (readModule base size auto)
+  unfolding readModule properModule
+  readModule-yields base size auto hb hs =
+      yields-bind at Kept Readable (namedExports base) _ (namedExports-yields base)
+      (λ named k. yields-bind at (Below (2 ^ 32)) Readable (indexedExports base) _ (indexedExports-yields base)
+      (λ indexed x. yields-bind at (λ xs. (length xs ≤ 16) × Below (2 ^ 32) xs) Readable (readSegments base) _ (readSegments-yields base)
+      (λ segments s. yields-then at Readable (field base moduleNameOffset) _
+      (λ p. yields-bind at (λ name. isName name ≡ true) Readable (nameAt p) _ (name-yields p)
+      (λ name g. yields-ret at Readable
+      (record { base = base; size = size; auto = auto; name = name; segments = segments; named = named; indexed = indexed }) (
+        also g (also (le-leb (length segments) 16 (s .0)) (also (k .names) (k .differ))),
+        record { base = hb; size = hs; segments = s .1; named = k .small; indexed = x },
+      ))))))

@@ -1,13 +1,15 @@
 -- A module more, where it fits: the register with it is one that its bytes encode.
-use Prim.Native.Nat.{ℕ, zero, suc, _+_, _*_, _^_, _≤_, _<_}
+use Prim.Native.Nat.{ℕ, zero, suc, _+_, _-_, _*_, _^_, _≤_, _<_}
 use mathlib.Core.Path.{_≡_, refl, sym, ap, _∙_, subst}
 use mathlib.Core.List.{List, [], _∷_, _++_, append-nil}
 use mathlib.Core.Bool.{Bool, true, false, _&&_}
 use native.Mathlib.Omega.{arith}
-use lib.ListN.{length, length-append}
+use lib.ListN.{length, replicate, length-append}
 use lib.Dec.{ltb, leb}
 use borrow.Author.Tests.{ltb-true, leb-true}
+use Rattle.window.specs.Bytes.{byteOf-small}
 use Rattle.window.specs.Tests.{both}
+use Rattle.register.specs.Words.{bytesOf, flat}
 use Rattle.register.specs.declared.words.Crs.{Crs}
 use Rattle.register.specs.declared.words.Crs.the-variants.{Unknown, Known}
 use Rattle.register.specs.Module.{Export, Module, Register, proper, properModule, properNames}
@@ -15,7 +17,7 @@ use Rattle.register.specs.Encode.{exportWords, exportNames, moduleNames, module
 use Rattle.register.specs.Decode.{isRegister}
 use Rattle.register.specs.Slots.{length-slots}
 use Rattle.register.specs.Change.{appended}
-use Rattle.register.specs.Buffers.{Below, encodeRecords, encodeNames, encodeMissing, encode-encodes}
+use Rattle.register.specs.Buffers.{Below, padded, encodeRecords, encodeNames, encodeMissing, encode-encodes}
 use Rattle.register_append.specs.Draft.{roomIn, room-inside, room-word}
 use Rattle.register_append.specs.Laid.{below-append}
 use Rattle.register_append.specs.Held.{words-long}
@@ -35,6 +37,25 @@ stored records names r p h s =
     let a = proper-parts r p in
     is-register (encodeRecords records r) (encodeNames names r) (encodeMissing r) r p
     (encode-encodes records names r h s (omega (arith, a .few, length-slots (r .missing) (a .kept))))
+
+-- and bytes again
+flat-bytes : (ws : List ℕ) → Below 256 (flat ws)
+unfolding flat bytesOf
+flat-bytes [] i = omega arith
+flat-bytes (v ∷ vs) zero = byteOf-small 0 v
+flat-bytes (v ∷ vs) (suc zero) = byteOf-small 1 v
+flat-bytes (v ∷ vs) (suc (suc zero)) = byteOf-small 2 v
+flat-bytes (v ∷ vs) (suc (suc (suc zero))) = byteOf-small 3 v
+flat-bytes (v ∷ vs) (suc (suc (suc (suc i)))) = flat-bytes vs i
+
+zero-bytes : (n : ℕ) → Below 256 (replicate n 0)
+zero-bytes zero i = omega arith
+zero-bytes (suc n) zero = omega arith
+zero-bytes (suc n) (suc i) = zero-bytes n i
+
+pub records-bytes : (n : ℕ) (r : Register) → Below 256 (encodeRecords n r)
+unfolding encodeRecords padded
+records-bytes n r = below-append (flat (encodeWords r)) _ 256 (flat-bytes (encodeWords r)) (zero-bytes (n - length (flat (encodeWords r))))
 
 -- all that a record keeps of a module but names and counts is 32-bit numbers
 unfoldable pub Addressed : List Export → Type 0
