@@ -10,9 +10,11 @@ pub mod Unrebase
 pub mod Calls
 pub mod Outcome
 pub mod Refusals
-pub mod Cases
 pub mod Gives
 pub mod Answers
 pub mod Room
 pub mod Reads
 pub mod Valid
+pub mod Fit
+pub mod Numbers
+pub mod Cases

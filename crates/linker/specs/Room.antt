@@ -133,6 +133,18 @@ unfolding crsKnown
 crsKnown-small Unknown = omega arith
 crsKnown-small (Known base) = omega arith
 
+-- the words and the names with a module more
+module _ (ms : List Module) (m : Module) where
+  pub words-with : recordWords 0 (ms ++ (m ∷ [])) ≡ recordWords 0 ms ++ moduleWords (length (recordNames ms)) m
+  unfolding recordWords
+  words-with =
+      let z : 0 + length (recordNames ms) ≡ length (recordNames ms) = omega arith in
+      words-append 0 ms (m ∷ []) ∙ rw (z, append-nil)
+
+  pub names-with : length (recordNames (ms ++ (m ∷ []))) ≡ length (recordNames ms) + length (moduleNames m)
+  unfolding recordNames
+  names-with = ap length (names-append ms (m ∷ [])) ∙ rw append-nil (length-append (recordNames ms) (moduleNames m))
+
 -- a module more that fits, with another CRS and other missing names
 module _ (records names : ℕ) (r : Register) (m : Module) (p : proper r ≡ true) (s : Below (2 ^ 32) (encodeWords r)) (f : Fits records names r m)
     (pm : properModule m ≡ true) (sm : Small m) where
@@ -142,19 +154,6 @@ module _ (records names : ℕ) (r : Register) (m : Module) (p : proper r ≡ tru
   abbrev q : ℕ
   q = length (recordNames (r .modules))
 
-  their-words : recordWords 0 ms ≡ recordWords 0 (r .modules) ++ moduleWords q m
-  unfolding recordWords
-  their-words =
-      let z : 0 + q ≡ q = omega arith in
-      words-append 0 (r .modules) (m ∷ []) ∙ rw (z, append-nil)
-
-  their-names : length (recordNames ms) ≡ q + length (moduleNames m)
-  unfolding recordNames
-  their-names =
-      ap length (names-append (r .modules) (m ∷ []))
-      ∙ length-append (recordNames (r .modules)) (moduleNames m ++ [])
-      ∙ ap (λ t. q + length t) (append-nil (moduleNames m))
-
   their-room : (4 * (8 + length (recordWords 0 ms)) ≤ roomIn records) × (length (recordNames ms) ≤ roomIn names)
   unfolding encodeWords appended
   their-room = (let h = f .words in omega arith, f .bytes)
@@ -163,11 +162,11 @@ module _ (records names : ℕ) (r : Register) (m : Module) (p : proper r ≡ tru
   unfolding encodeWords
   records-small =
       let l = length-append (recordWords 0 (r .modules)) (moduleWords q m) in
-      let k = ap length their-words in
-      subst (Below (2 ^ 32)) (sym their-words)
+      let k = ap length (words-with (r .modules) m) in
+      subst (Below (2 ^ 32)) (sym (words-with (r .modules) m))
       (below-append (recordWords 0 (r .modules)) (moduleWords q m) (2 ^ 32)
       (λ i. s (suc (suc (suc (suc (suc (suc (suc (suc i)))))))))
-      (module-small q m sm (omega (arith, their-names, their-room .1, room-word names)) (omega (arith, their-room .0, room-word records))))
+      (module-small q m sm (omega (arith, names-with (r .modules) m, their-room .1, room-word names)) (omega (arith, their-room .0, room-word records))))
 
   module _ (c : Crs) (missing : List (List ℕ)) (hc : crsBase c < 2 ^ 32) where
     abbrev pub with : Register
