@@ -1,5 +1,5 @@
 -- Number 5's rule: when a record fits, and what counts.
-use Prim.Native.Nat.{ℕ, zero, suc, _+_, _*_, _≤_, _<_}
+use Prim.Native.Nat.{ℕ, zero, suc, _+_, _*_, _≤_}
 use mathlib.Core.Path.{_≡_, refl, sym, ap, _∙_}
 use mathlib.Core.List.{List, [], _∷_}
 use mathlib.Core.Bool.{Bool, true, false, _&&_, and-false}
@@ -46,8 +46,11 @@ module _ (r : Register) (m : Module) where
   pub none-in-32 : (names : ℕ) → fits 32 names r m ≡ false
   unfolding fits encodeWords
   none-in-32 names =
-      rw (lt-leb (4 * length (encodeWords (appended r m))) (roomIn 32)
-      (let h : 8 ≤ length (encodeWords r) = omega arith in omega (arith, words-of, room-inside 32)), and-false)
+      rw (
+        lt-leb (4 * length (encodeWords (appended r m))) (roomIn 32)
+            (let h : 8 ≤ length (encodeWords r) = omega arith in omega (arith, words-of, room-inside 32)),
+        and-false,
+      )
 
   -- in no name bytes, only a module without them; none stand before it then
   pub in-no-names

@@ -20,7 +20,7 @@ use Rattle.linker.specs.Exports.{readModule}
 use Rattle.linker.specs.Imports.{applyImportNamedSymbols, applyModuleImports, applyExportsToLoaded}
 use Rattle.linker.specs.Fix.{fix}
 use Rattle.linker.specs.Calls.{Answer, number, Rebased, rebased, relocate, rebaseWith, rebase, rebaseStatic, fits, enter, initialized, initialize, listed, linked, load}
-use Rattle.linker.specs.Outcome.{Bytes, Outcome, settle, chain, outcome, initializeOutcome, loadOutcome}
+use Rattle.linker.specs.Outcome.{Bytes, settle, chain, outcome, initializeOutcome, loadOutcome}
 use Rattle.linker.specs.Refusals.{lentRegister, run-then, enters-1, enters-2}
 use Rattle.linker.specs.Gives.{Gives, gives-run, gives-then}
 

@@ -1,16 +1,15 @@
 -- What a module's record holds, whatever its image: names, distinct exports, at most 16 segments, 32-bit numbers. And that missing
 -- names are names, at most 64.
-use Prim.Native.Nat.{ℕ, zero, suc, _+_, _%_, _^_, _≤_, _<_}
-use mathlib.Core.Path.{_≡_, refl, sym, ap, _∙_, subst}
+use Prim.Native.Nat.{ℕ, zero, suc, _+_, _^_, _≤_, _<_}
+use mathlib.Core.Path.{_≡_, refl, sym, _∙_, subst}
 use mathlib.Core.List.{List, [], _∷_, _++_}
-use mathlib.Core.Bool.{Bool, true, false, _&&_}
+use mathlib.Core.Bool.{Bool, true, false}
 use native.Mathlib.Omega.{arith}
-use lib.ListN.{length, take, getD, length-append}
-use lib.Dec.{ltb, leb}
-use borrow.Author.Tests.{le-leb, ltb-true}
+use lib.ListN.{length, take}
+use lib.Dec.{ltb}
+use borrow.Author.Tests.{le-leb}
 use Rattle.window.specs.Memory.{if_then_else_, _⊕_}
-use Rattle.window.specs.Access.{Prog, ret, _>>=_, get32, run}
-use Rattle.window.specs.Loop.{loop}
+use Rattle.window.specs.Access.{get32, run}
 use Rattle.window.specs.Name.{isName, nameAt, nameAt-isName}
 use Rattle.window.specs.Small.{wordAt-small}
 use Rattle.window.specs.Tests.{both, also}
@@ -25,12 +24,12 @@ use Rattle.layout.specs.declared.segments.Address.the-variants.{At, Nowhere}
 use Rattle.register.specs.Words.{same}
 use Rattle.register.specs.Lists.{same-true, same-refl}
 use Rattle.register.specs.declared.exports.Found.the-variants as found
-use Rattle.register.specs.Module.{Export, Module, named-ok, findFrom, findExport, isNothing, distinct, properModule, properNames}
+use Rattle.register.specs.Module.{Export, Module, named-ok, findFrom, findExport, isNothing, distinct, properModule}
 use Rattle.register.specs.Change.{putNamed}
 use Rattle.register.specs.Buffers.{Below}
 use Rattle.register_append.specs.Laid.{below-append, below-one}
 use Rattle.linker.specs.Relocation.{addressOr0}
-use Rattle.linker.specs.Exports.{putUsable, namedExport, namedExports, indexedExport, indexedExports, offsetOr0, readSegments, readModule}
+use Rattle.linker.specs.Exports.{putUsable, namedExport, namedExports, indexedExport, indexedExports, offsetOr0, mostSegments, readSegments, readModule}
 use Rattle.linker.specs.Room.{Addressed, Small}
 use Rattle.linker.specs.Gives.{Yields, yields-ret, yields-bind, yields-then, yields-if, yields-loop}
 
@@ -191,6 +190,9 @@ module _ (at : ℕ) where
     abbrev Segments : List ℕ → Type 0
     Segments xs = (length xs ≤ 16) × Words xs
 
+    cut : (n : ℕ) (xs : List ℕ) → n ≤ 16 → Words xs → Segments (take n xs)
+    cut n xs l h = (let k = take-short n xs in omega arith, take-below n (2 ^ 32) xs (omega arith) h)
+
     readSegments-yields : Yields at Segments (readSegments base)
     unfolding readSegments
     readSegments-yields =
@@ -199,7 +201,7 @@ module _ (at : ℕ) where
         (yields-loop at Words _ (λ i xs k. yields-bind at SmallOffset Words (segment base i) _ (segment-yields i)
         (λ s h. yields-ret at Words (xs ++ (offsetOr0 s ∷ [])) (one-more xs (offsetOr0 s) k h)))
         0 count [] (λ i. omega arith))
-        (λ xs h. yields-ret at Segments (take 16 xs) (take-short 16 xs, take-below 16 (2 ^ 32) xs (omega arith) h)))
+        (λ xs h. yields-ret at Segments (take mostSegments xs) (cut mostSegments xs (omega arith) h)))
 
   -- the record that a load or an `initialize` reads
   abbrev pub Readable : Module → Type 0

@@ -1,6 +1,6 @@
 -- A module more, where it fits: the register with it is one that its bytes encode.
 use Prim.Native.Nat.{ℕ, zero, suc, _+_, _-_, _*_, _^_, _≤_, _<_}
-use mathlib.Core.Path.{_≡_, refl, sym, ap, _∙_, subst}
+use mathlib.Core.Path.{_≡_, sym, ap, _∙_, subst}
 use mathlib.Core.List.{List, [], _∷_, _++_, append-nil}
 use mathlib.Core.Bool.{Bool, true, false, _&&_}
 use native.Mathlib.Omega.{arith}
@@ -23,7 +23,7 @@ use Rattle.register_append.specs.Laid.{below-append}
 use Rattle.register_append.specs.Held.{words-long}
 use Rattle.register_append.specs.Append.{names-append, words-append}
 use Rattle.register_append.specs.Stands.{appended-proper}
-use Rattle.register_change.specs.Encoded.{Proper, proper-parts, parts-proper, is-register}
+use Rattle.register_change.specs.Encoded.{proper-parts, parts-proper, is-register}
 use Rattle.linker.specs.Calls.{fits}
 
 -- the bytes that a call leaves of r, in buffers of given lengths, are an encoding

@@ -1,29 +1,27 @@
 -- Every call on a valid register leaves a valid register, whatever the lent bytes and the arguments: number 4's rule stays met.
-use Prim.Native.Nat.{ℕ, zero, suc, _+_, _*_, _^_, _≤_, _<_}
-use mathlib.Core.Path.{_≡_, refl, sym, ap, _∙_, subst}
+use Prim.Native.Nat.{ℕ, suc, _+_, _*_, _^_, _≤_, _<_}
+use mathlib.Core.Path.{_≡_, refl, ap, _∙_, subst}
 use mathlib.Core.List.{List, [], _∷_, _++_}
-use mathlib.Core.Bool.{Bool, true, false, not, _&&_}
+use mathlib.Core.Bool.{Bool, true, false, not}
 use native.Mathlib.Omega.{arith}
 use lib.ListN.{length, take, length-append}
-use lib.Dec.{eqb, ltb, leb}
+use lib.Dec.{eqb, ltb}
 use borrow.Author.Tests.{ltb-true}
 use Rattle.window.specs.Memory.{if_then_else_, _⊕_, goodWindow}
-use Rattle.window.specs.Access.{Prog, ret, _>>=_, _>>_, get32, run}
-use Rattle.window.specs.Loop.{loop}
+use Rattle.window.specs.Access.{Prog, get32, run}
 use Rattle.window.specs.Name.{isName, nameAt}
 use Rattle.window.specs.Small.{run-bytes}
 use Rattle.window.specs.Tests.{both, also}
 use Rattle.layout.specs.Header.{importNamedSymbolTableOffset, importNamedSymbolNum, importNamedSymbolEntrySize, nextCro, previousCro}
 use Rattle.layout.specs.Segments.{field, setField, entryAt}
-use Rattle.register.specs.declared.words.Crs.{Crs}
-use Rattle.register.specs.declared.words.Crs.the-variants.{Unknown, Known}
+use Rattle.register.specs.declared.words.Crs.the-variants.{Known}
 use Rattle.register.specs.Module.{Module, Register, proper, properNames}
 use Rattle.register.specs.Encode.{recordWords, encodeWords, crsBase, slots}
-use Rattle.register.specs.Decode.{registerOf, isRegister}
+use Rattle.register.specs.Decode.{isRegister}
 use Rattle.register.specs.Change.{appended, removed, without, withCrs}
 use Rattle.register.specs.Buffers.{Below, padded, names-are, encodeRecords, encodeNames, encodeMissing}
 use Rattle.register_append.specs.Stands.{encoded-small}
-use Rattle.register_change.specs.Encoded.{Proper, proper-parts, register-parts}
+use Rattle.register_change.specs.Encoded.{proper-parts, register-parts}
 use Rattle.register_change.specs.Remove.{Stands, remaining}
 use Rattle.register_change.specs.Left.{remove-kept}
 use Rattle.register_read.specs.Read.{lookupIn}
@@ -32,12 +30,12 @@ use Rattle.register_read.specs.declared.Symbol.the-variants.{At, Nothing}
 use Rattle.linker.specs.Rebase.{Lent}
 use Rattle.linker.specs.Relocation.{resetExternalRelocations}
 use Rattle.linker.specs.Exports.{readModule}
-use Rattle.linker.specs.Imports.{isUnresolved, resolve, noted, importNamed, applyImportNamedSymbols, applyModuleImports, applyExportsToLoaded}
+use Rattle.linker.specs.Imports.{isUnresolved, resolve, mostMissing, noted, importNamed, applyImportNamedSymbols, applyModuleImports, applyExportsToLoaded}
 use Rattle.linker.specs.Resets.{resetImporters}
 use Rattle.linker.specs.Fix.{fix}
 use Rattle.linker.specs.Unrebase.{unrebase}
 use Rattle.linker.specs.Calls.{Answer, NotACro, BadSegment, NoRoom, Kept, Done, Rebased, not-a-cro, bad-segment, rebased, rebase, rebaseStatic, fits, enter, initialized, initialize, listed, missingNow, linked, load, Standing, unknown, stands, firstWithBase, unlisted, leave, unload}
-use Rattle.linker.specs.Outcome.{Bytes, Outcome, registerAfter, settle, chain, outcome, initializeOutcome, loadOutcome, unloadOutcome}
+use Rattle.linker.specs.Outcome.{Bytes, registerAfter, settle, chain, outcome, initializeOutcome, loadOutcome, unloadOutcome}
 use Rattle.linker.specs.Refusals.{lentRegister}
 use Rattle.linker.specs.Gives.{Yields, yields-ret, yields-bind, yields-then, yields-if, yields-loop}
 use Rattle.linker.specs.Room.{Stored, records-bytes, Fits, fits-means, with-stored}
@@ -68,11 +66,11 @@ names-more (n ∷ ns) name p g = let a = both (isName n) (properNames ns) p in a
 noted-names : (s : Symbol) (name : List ℕ) (ns : List (List ℕ)) → isName name ≡ true → Names ns → Names (noted s name ns)
 unfolding noted
 noted-names (At a) name ns g h = h
-noted-names Nothing name ns g h = go (ltb (length ns) 64) refl
+noted-names Nothing name ns g h = go (ltb (length ns) mostMissing) refl
   where
-    go : (t : Bool) → ltb (length ns) 64 ≡ t → Names (if t then ns ++ (name ∷ []) else ns)
+    go : (t : Bool) → ltb (length ns) mostMissing ≡ t → Names (if t then ns ++ (name ∷ []) else ns)
     go true e =
-        let l = ltb-true (length ns) 64 e in
+        let l = ltb-true (length ns) mostMissing e in
         let n = length-append ns (name ∷ []) in
         (omega arith, names-more ns name (h .1) g)
     go false e = h
