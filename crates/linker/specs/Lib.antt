@@ -8,6 +8,7 @@ pub mod Lists
 pub mod Fix
 pub mod Unrebase
 pub mod Calls
+pub mod Shape
 pub mod Outcome
 pub mod Refusals
 pub mod Gives
