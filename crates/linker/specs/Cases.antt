@@ -2,17 +2,17 @@
 use Prim.Native.Nat.{ℕ, zero, suc, _+_, _-_, _%_, _^_, _≤_, _<_}
 use mathlib.Core.Path.{_≡_, refl, ap, _∙_}
 use mathlib.Core.List.{List}
-use mathlib.Core.Bool.{Bool, true, false}
+use mathlib.Core.Bool.{Bool, true, false, not}
 use native.Mathlib.Omega.{arith}
 use lib.Dec.{eqb}
 use borrow.Author.Tests.{ne-eqb}
 use borrow.Fn.Enter.{pair≡}
 use Rattle.window.specs.Memory.{if_then_else_, _⊕_, goodWindow, byteAt, wordAt}
 use Rattle.window.specs.Access.{Prog, ret, _>>=_, _>>_, put8, run, run-bind, reads-same}
-use Rattle.window.specs.Loop.{loop, loop-more}
+use Rattle.window.specs.Loop.{loop, loop-none, loop-more}
 use Rattle.layout.specs.Header.{magic, segmentNum, relocationEntrySize}
 use Rattle.layout.specs.Format.{tagSegment}
-use Rattle.layout.specs.Segments.{field, segment, segmentAt, segmentPlace, segment-found, segment-reads, segment-missing, tagToAddress, tag-missing, tagToAddress-reads}
+use Rattle.layout.specs.Segments.{field, segment, setSegment, segmentAt, segmentPlace, segment-found, segment-reads, segment-missing, tagToAddress, tag-missing, tagToAddress-reads}
 use Rattle.layout.specs.declared.format.Segment.{Segment}
 use Rattle.layout.specs.declared.format.SegmentType.the-variants.{Code, RoData, Data, Bss}
 use Rattle.layout.specs.declared.segments.Address.{Address}
@@ -25,6 +25,7 @@ use Rattle.register.specs.Decode.{isRegister}
 use Rattle.linker.specs.Outcome.{Bytes, loadOutcome}
 use Rattle.linker.specs.Outcome as Outcome
 use Rattle.linker.specs.Refusals.{windowed, load-2}
+use Rattle.linker.specs.Numbers.{fitsIn, loadedModule, load-0}
 use Rattle.linker.specs.Fix.{alignUp, fixedTo, fixFrom, fix}
 
 -- "Data size 16 / 17, lent 16": the segment gets its place / is refused
@@ -53,22 +54,34 @@ module _ (at : ℕ) (l : Lent) (w : List ℕ) where
   stays-bad (suc n) i = stays-bad n (suc i)
 
   module _ (n : ℕ) (c : wordAt at w (l .base ⊕ segmentNum) ≡ suc n) (s : Segment)
-      (e : segmentAt at w (segmentPlace at w (l .base) 0) ≡ s) (f : place l s (s .kind) 0 ≡ refused) where
+      (e : segmentAt at w (segmentPlace at w (l .base) 0) ≡ s) where
     first-found : run at (segment (l .base) 0) w ≡ (Found s, w)
     first-found =
         pair≡ (segment-found at (l .base) 0 w (omega (arith, c)) ∙ ap Found e)
         (reads-same at (segment (l .base) 0) w (segment-reads (l .base) 0))
 
-    first-bad : run at (moveSegment l 0 (old-place 0)) w ≡ (bad, w)
-    unfolding moveSegment moveFound writeBack run
-    first-bad = run-bind at (segment (l .base) 0) _ w ∙ rw (first-found, f)
+    first-turn : run at (moveSegment l 0 (old-place 0)) w ≡ run at (writeBack (l .base) 0 (place l s (s .kind) 0)) w
+    unfolding moveSegment moveFound
+    first-turn = run-bind at (segment (l .base) 0) _ w ∙ rw first-found
 
-    pub first-refused : run at (moveSegments l) w ≡ (bad, w)
-    unfolding moveSegments field run _>>=_
-    first-refused =
+    pub first-refused : place l s (s .kind) 0 ≡ refused → run at (moveSegments l) w ≡ (bad, w)
+    unfolding moveSegments writeBack field run _>>=_
+    first-refused f =
         ap (λ k. run at (loop (moveSegment l) 0 k (old-place 0)) w) c
         ∙ loop-more at (moveSegment l) 0 n (old-place 0) w
-        ∙ rw first-bad (stays-bad n 1)
+        ∙ rw (first-turn, f) (stays-bad n 1)
+
+  -- and one whose only segment gets its place goes on, with the old place of Data
+  pub only-placed
+      : wordAt at w (l .base ⊕ segmentNum) ≡ 1 → (s : Segment) → segmentAt at w (segmentPlace at w (l .base) 0) ≡ s → {t : Segment} {old : ℕ}
+      → place l s (s .kind) 0 ≡ placed t old → run at (moveSegments l) w .0 ≡ old-place old
+  unfolding moveSegments writeBack field run _>>=_
+  only-placed c s e {t} {old} f =
+      ap (λ k. run at (loop (moveSegment l) 0 k (old-place 0)) w .0) c
+      ∙ ap (λ (x : Moved × List ℕ). x .0) (loop-more at (moveSegment l) 0 0 (old-place 0) w)
+      ∙ ap (λ (x : Moved × List ℕ). x .0) (loop-none at (moveSegment l) 1 _ _)
+      ∙ ap (λ (x : Moved × List ℕ). x .0)
+      (first-turn 0 c s e ∙ ap (λ p. run at (writeBack (l .base) 0 p) w) f ∙ run-bind at (setSegment (l .base) 0 t) _ w)
 
 -- "Data size 17, lent 16": number 2, the window as the header's move left it
 pub load-17
@@ -81,6 +94,19 @@ load-17 base size data-at bss-at bss-size offset auto level at n b g v m w h c e
     let l = lent-16 base size data-at bss-at bss-size in
     let f = data-17 base size data-at bss-at bss-size offset 0 in
     load-2 at b g v l auto level m (ap (λ t. run at (moveSegments l) t) h ∙ first-refused at l w n c _ e f)
+
+-- "Data size 16, lent 16": number 0, for a module of that one segment whose record fits
+pub load-16
+    : (base size data-at bss-at bss-size offset auto level at : ℕ) (b : Bytes) → goodWindow at (b .window) ≡ true
+    → isRegister (b .records) (b .names) (b .missing) ≡ true → isMagic (wordAt at (b .window) (base ⊕ magic)) ≡ true
+    → (w : List ℕ) → run at (moveHeader true base) (b .window) .1 ≡ w → wordAt at w (base ⊕ segmentNum) ≡ 1
+    → segmentAt at w (segmentPlace at w base 0) ≡ data-of offset 16
+    → fitsIn at b (loadedModule at (lent-16 base size data-at bss-at bss-size) (not (eqb auto 0)) (b .window)) ≡ true
+    → loadOutcome (lent-16 base size data-at bss-at bss-size) auto level at b .number ≡ 0
+load-16 base size data-at bss-at bss-size offset auto level at b g v m w h c e f =
+    let l = lent-16 base size data-at bss-at bss-size in
+    let p = data-16 base size data-at bss-at bss-size offset 0 in
+    load-0 at b g v l auto level m (offset ⊕ base) (ap (λ t. run at (moveSegments l) t .0) h ∙ only-placed at l w c _ e p) f
 
 -- "length 0x148, size 0x1000", "length 0x1001, size 0x1800": the greatest end is so far above the base, below 2^32
 pub length-0x148 : (base : ℕ) → base + 0x148 < 2 ^ 32 → fixedTo (base ⊕ 0x148) base 0x1000 ≡ 0x1000

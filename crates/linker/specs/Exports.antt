@@ -54,11 +54,14 @@ offsetOr0 (Found s) = s .offset
 offsetOr0 Missing = 0
 
 -- "segments (at most 16, all a tag can reach)": all are read, the first 16 are kept
+abbrev pub mostSegments : ℕ
+mostSegments = 16
+
 unfoldable pub readSegments : ℕ → Prog (List ℕ)
 readSegments base = do
   count ← field base segmentNum
   xs ← loop (λ i xs. segment base i >>= λ s. ret (xs ++ (offsetOr0 s ∷ []))) 0 count []
-  ret (take 16 xs)
+  ret (take mostSegments xs)
 
 -- the record of a module: exports, segments, then its name
 unfoldable pub readModule : ℕ → ℕ → Bool → Prog Module

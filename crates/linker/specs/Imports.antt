@@ -39,9 +39,12 @@ resolve base batch (At a) = applyRelocationBatch base batch a true >> ret tt
 resolve base batch Nothing = ret tt
 
 -- "Missing names stop at 64 and are never cleared."
+abbrev pub mostMissing : ℕ
+mostMissing = 64
+
 unfoldable pub noted : Symbol → List ℕ → List (List ℕ) → List (List ℕ)
 noted (At a) name missing = missing
-noted Nothing name missing = if ltb (length missing) 64 then missing ++ (name ∷ []) else missing
+noted Nothing name missing = if ltb (length missing) mostMissing then missing ++ (name ∷ []) else missing
 
 -- a named import of the new module: the batch, its mark, then the name
 unfoldable pub importNamed : List Module → ℕ → ℕ → List (List ℕ) → Prog (List (List ℕ))

@@ -8,8 +8,14 @@ pub mod Lists
 pub mod Fix
 pub mod Unrebase
 pub mod Calls
+pub mod Shape
 pub mod Outcome
 pub mod Refusals
-pub mod Cases
 pub mod Gives
 pub mod Answers
+pub mod Room
+pub mod Reads
+pub mod Valid
+pub mod Fit
+pub mod Numbers
+pub mod Cases

@@ -46,7 +46,7 @@ module _ (call : ℕ → ℕ → Register → Prog Answer) (at : ℕ) (b : Bytes
 
 -- a test whose value is known
 module _ {A : Type 0} (at : ℕ) (p q : Prog A) (w : List ℕ) (b : Bool) where
-  run-then : b ≡ true → run at (if b then p else q) w ≡ run at p w
+  pub run-then : b ≡ true → run at (if b then p else q) w ≡ run at p w
   run-then e = rw e
 
   run-else : b ≡ false → run at (if b then p else q) w ≡ run at q w
