@@ -1,12 +1,15 @@
 // External relocations: single entries, batches, and the handler for what nothing provides.
 ghost use mathlib.Core.Path.{_≡_};
 ghost use Rattle.window.specs.Access.{run};
-ghost use Rattle.linker.specs.Relocation.{unresolvedSymbol, applyRelocationBatch, batchIsResolved};
+ghost use Rattle.linker.specs.Relocation.{unresolvedSymbol, resetEntry, resetExternalRelocations, applyRelocationBatch, batchIsResolved};
 ghost use Rattle.linker_relocation.specs.Entry.{applyEntry};
+use layout::fields::entry_address;
 use layout::fields::field;
 use layout::format::RELOCATION_ENTRY_SIZE;
 use layout::format::RelocationType;
 use layout::format::SegmentTag;
+use layout::header::EXTERNAL_RELOCATION_NUM;
+use layout::header::EXTERNAL_RELOCATION_TABLE_OFFSET;
 use layout::header::ON_UNRESOLVED_SEGMENT_TAG;
 use layout::relocation::apply_relocation;
 use layout::segments::Address;
@@ -79,4 +82,27 @@ pub fn unresolved_symbol(at: u32, w: &[u8], base: u32) -> u32
         return 0;
     };
     handler
+}
+
+// Points one import at the handler, unless that is 0, and clears its mark.
+fn reset_entry(at: u32, w: &mut [u8], base: u32, handler: u32, entry: u32)
+    ensures { λ _. ⌜ now (w .exit) ≡ run at (resetEntry base handler entry) (now (w .entry)) .1 ⌝ }
+{
+    if handler != 0 {
+        apply_entry(at, w, base, handler, entry);
+    }
+    window::write8(at, w, std::num::wrapping_add_u32(entry, 6), 0);
+}
+
+// Points every import at the module's handler and marks it unresolved, which is the state a freshly loaded module starts in.
+pub fn reset_external_relocations(at: u32, w: &mut [u8], base: u32)
+    ensures { λ _. ⌜ now (w .exit) ≡ run at (resetExternalRelocations base) (now (w .entry)) .1 ⌝ }
+{
+    let handler = unresolved_symbol(at, w, base);
+    let table = field(at, w, base, EXTERNAL_RELOCATION_TABLE_OFFSET);
+    let count = field(at, w, base, EXTERNAL_RELOCATION_NUM);
+    for index in 0..count {
+        let entry = entry_address(table, index, RELOCATION_ENTRY_SIZE);
+        reset_entry(at, w, base, handler, entry);
+    }
 }
