@@ -1,5 +1,5 @@
 -- From the code's calls and branches to the programs of `Relocation`.
-use Prim.Native.Nat.{ℕ, zero, suc, _+_, _-_, _<_, _≤_}
+use Prim.Native.Nat.{ℕ, suc, _+_, _-_, _<_, _≤_}
 use mathlib.Core.Path.{_≡_, refl, sym, ap, _∙_}
 use mathlib.Core.List.{List}
 use mathlib.Core.Bool.{Bool, true, false, not}
@@ -8,7 +8,7 @@ use lib.Dec.{eqb}
 use mir.Val.{boolByte}
 use borrow.Author.Tests.{eq-eqb, ne-eqb, lt-ltb, le-ltb}
 use Rattle.window.specs.Memory.{if_then_else_, _⊕_, byteAt, wordAt, putByte}
-use Rattle.window.specs.Access.{Prog, ret, _>>=_, _>>_, put8, run, run-bind, Reads, reads-bind}
+use Rattle.window.specs.Access.{ret, _>>=_, _>>_, put8, run, run-bind, Reads, reads-bind}
 use Rattle.window.specs.Loop.{loop}
 use Rattle.layout.specs.Header.{internalRelocationTableOffset, internalRelocationNum, externalRelocationTableOffset, externalRelocationNum, relocationEntrySize, onUnresolvedSegmentTag}
 use Rattle.layout.specs.Format.{relocationType, tagSegment, tagOffset}
@@ -17,7 +17,6 @@ use Rattle.layout.specs.Relocation.{applyRelocation}
 use Rattle.layout.specs.declared.format.RelocationType.{RelocationType}
 use Rattle.layout.specs.declared.format.Segment.{Segment}
 use Rattle.layout.specs.declared.segments.FoundSegment.the-variants.{Found, Missing}
-use Rattle.layout.specs.declared.segments.Address.{Address}
 use Rattle.layout.specs.declared.segments.Address.the-variants.{At, Nowhere}
 use Rattle.linker.specs.Relocation.{writePlace, relocateFrom, relocateInto, applyInternalRelocation, applyInternalRelocations, addressOr0, unresolvedSymbol, relocateAt, resetEntry, resetExternalRelocations, walk, batchLimit, mark, applyRelocationBatch, batchIsResolved}
 use Rattle.linker_relocation.specs.Runs.{after-reads}

@@ -1,7 +1,7 @@
 -- One external relocation as a program: what a turn of the batch walk and of the external reset have in common.
 use Prim.Native.Nat.{ℕ}
 use Rattle.window.specs.Memory.{_⊕_}
-use Rattle.window.specs.Access.{Prog, _>>=_, _>>_, get8, get32}
+use Rattle.window.specs.Access.{Prog, _>>=_, get8, get32}
 use Rattle.layout.specs.Segments.{tagToAddress}
 use Rattle.linker.specs.Relocation.{relocateAt}
 
