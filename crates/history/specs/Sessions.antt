@@ -7,15 +7,14 @@ use mathlib.Core.Bool.{Bool, true, not, _||_}
 use lib.ListN.{length, take}
 use lib.Dec.{eqb}
 use Rattle.window.specs.Memory.{if_then_else_, byteAt}
-use Rattle.window.specs.Small as small
 use Rattle.window.specs.Within.{Agree}
 use Rattle.register.specs.declared.words.Crs.the-variants.{Unknown}
 use Rattle.register.specs.Module.{Module, Register}
-use Rattle.register.specs.Decode.{isRegister}
 use Rattle.register_read.specs.Read.{addressOf}
 use Rattle.linker.specs.Rebase.{Lent}
 use Rattle.linker.specs.Outcome.{Bytes, Outcome, initializeOutcome, loadOutcome, unloadOutcome}
 use Rattle.linker.specs.Refusals.{lentRegister}
+use Rattle.linker.specs.Valid.{Valid, AreBytes}
 use Rattle.history.specs.Arrival.{initialized, loaded, Arrival, imageOf, baseOf, isCrs, Area}
 
 -- "a list of initialize, load and unload calls"
@@ -61,9 +60,6 @@ pub record SameRegister (r s : Register) : Type 0 where
   pub crs : r .crs ≡ s .crs
   pub missing : r .missing ≡ s .missing
 
-abbrev pub valid : Bytes → Bool
-valid b = isRegister (b .records) (b .names) (b .missing)
-
 -- the same register bytes
 abbrev pub SameBytes : Bytes → Bytes → Type 0
 SameBytes b c = (b .records ≡ c .records) × (b .names ≡ c .names) × (b .missing ≡ c .missing)
@@ -73,7 +69,7 @@ pub record SameEncoded (b c : Bytes) : Type 0 where
   pub header : take 32 (b .records) ≡ take 32 (c .records)
   pub records : length (b .records) ≡ length (c .records)
   pub names : length (b .names) ≡ length (c .names)
-  pub valid-both : (valid b ≡ true) × (valid c ≡ true)
+  pub valid-both : Valid b × Valid c
   pub registers : SameRegister (lentRegister b) (lentRegister c)
 
 abbrev pub expected : ℕ → Turn → Outcome
@@ -89,7 +85,7 @@ pub record Follows (at : ℕ) (t : Turn) : Type 0 where
 
 -- "The register starts with no module and no CRS."
 unfoldable pub Fresh : Bytes → Type 0
-Fresh b = valid b ≡ true → (lentRegister b .modules ≡ []) × (lentRegister b .crs ≡ Unknown)
+Fresh b = Valid b → (lentRegister b .modules ≡ []) × (lentRegister b .crs ≡ Unknown)
 
 -- arguments are 32-bit numbers
 unfoldable pub Words : Call → Type 0
@@ -99,9 +95,9 @@ Words (load l auto level) =
     × (l .bss-size < 2 ^ 32) × (auto < 2 ^ 32) × (level < 2 ^ 32)
 Words (unload base) = base < 2 ^ 32
 
--- and the window's bytes are bytes
+-- and what is lent are bytes
 abbrev pub Typed : Turn → Type 0
-Typed t = Words (t .call) × small.Bytes (t .before .window)
+Typed t = Words (t .call) × AreBytes (t .before)
 
 module _ (at : ℕ) where
   -- "Which calls are refused .. [is] read from this document"

@@ -1,4 +1,4 @@
--- The window that a call leaves is that of a run: it keeps its length, and bytes stay bytes.
+-- What a call leaves: a window that a run leaves, of the same length; a valid register; and bytes stay bytes.
 use Prim.Native.Nat.{ℕ}
 use mathlib.Core.Path.{_≡_, refl}
 use mathlib.Core.List.{List}
@@ -7,14 +7,14 @@ use lib.ListN.{length}
 use lib.Dec.{eqb}
 use Rattle.window.specs.Memory.{goodWindow}
 use Rattle.window.specs.Access.{Prog, ret, run, length-run}
-use Rattle.window.specs.Small as small
-use Rattle.window.specs.Small.{run-bytes}
 use Rattle.register.specs.Module.{Register}
+use Rattle.register.specs.Decode.{isRegister}
 use Rattle.linker.specs.Calls as calls
 use Rattle.linker.specs.Calls.{Answer, NotACro, BadSegment, NoRoom, Kept, Done}
 use Rattle.linker.specs.Outcome.{Bytes, registerAfter, settle, chain, outcome, initializeOutcome, loadOutcome, unloadOutcome}
 use Rattle.linker.specs.Refusals.{lentRegister}
-use Rattle.history.specs.Sessions.{Call, initialize, load, unload, given, valid}
+use Rattle.linker.specs.Valid.{Valid, AreBytes, initialize-valid, load-valid, unload-valid}
+use Rattle.history.specs.Sessions.{Call, initialize, load, unload, given, Words}
 
 -- a run that leaves such a window
 abbrev pub Ran : ℕ → List ℕ → List ℕ → Type 0
@@ -45,7 +45,7 @@ chained at b false r m = unchanged at (b .window)
 outcome-ran : (call : ℕ → ℕ → Register → Prog Answer) (at : ℕ) (b : Bytes) → Ran at (b .window) (outcome call at b .left .window)
 unfolding outcome
 outcome-ran call at b =
-    chained at b (goodWindow at (b .window)) (valid b) (call (length (b .records)) (length (b .names)) (lentRegister b))
+    chained at b (goodWindow at (b .window)) (isRegister (b .records) (b .names) (b .missing)) (call (length (b .records)) (length (b .names)) (lentRegister b))
 
 pub given-ran : (c : Call) (at : ℕ) (b : Bytes) → Ran at (b .window) (given c at b .left .window)
 unfolding given initializeOutcome loadOutcome unloadOutcome
@@ -53,9 +53,11 @@ given-ran (initialize base size) at b = outcome-ran (calls.initialize base size)
 given-ran (load l auto level) at b = outcome-ran (calls.load l (not (eqb auto 0)) level) at b
 given-ran (unload base) at b = outcome-ran (λ records names. calls.unload base) at b
 
-module _ (c : Call) (at : ℕ) (b : Bytes) where
-  pub given-length : length (given c at b .left .window) ≡ length (b .window)
-  given-length = let g = given-ran c at b in rw (g .1) (length-run at (g .0) (b .window))
+pub given-length : (c : Call) (at : ℕ) (b : Bytes) → length (given c at b .left .window) ≡ length (b .window)
+given-length c at b = let g = given-ran c at b in rw (g .1) (length-run at (g .0) (b .window))
 
-  pub given-bytes : small.Bytes (b .window) → small.Bytes (given c at b .left .window)
-  given-bytes h = let g = given-ran c at b in rw (g .1) (run-bytes at (g .0) (b .window) h)
+pub given-valid : (c : Call) (at : ℕ) (b : Bytes) → Words c → Valid b → AreBytes b → Valid (given c at b .left) × AreBytes (given c at b .left)
+unfolding given Words
+given-valid (initialize base size) at b w v t = initialize-valid b v t base size at (w .0) (w .1)
+given-valid (load l auto level) at b w v t = load-valid b v t l auto level at (w .0) (w .1)
+given-valid (unload base) at b w v t = unload-valid b v t base at
