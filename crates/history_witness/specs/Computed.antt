@@ -7,6 +7,7 @@ use lib.ListN.{replicate, take, drop}
 use lib.Dec.{ltb}
 use Rattle.linker.specs.Rebase.{Lent}
 use Rattle.linker.specs.Outcome.{Bytes}
+use Rattle.linker.specs.Valid.{Valid}
 use Rattle.window.specs.Memory as windowMemory
 use Rattle.window.specs.Access as windowAccess
 use Rattle.window.specs.Loop as windowLoop
@@ -106,6 +107,8 @@ pub record Computed : Type 0 where
   -- the register starts empty
   pub first-a : sessions.Fresh (fresh 512 64)
   pub first-b : sessions.Fresh (fresh 1024 128)
+  pub valid-a : Valid (fresh 512 64)
+  pub valid-b : Valid (fresh 1024 128)
   pub small : smallAll page ≡ true
 
 pub computed : Computed
@@ -165,5 +168,7 @@ computed =
       image-n = refl;
       first-a = λ h. (refl, refl);
       first-b = λ h. (refl, refl);
+      valid-a = refl;
+      valid-b = refl;
       small = refl;
     }

@@ -5,15 +5,17 @@ use mathlib.Core.Logic.{inl}
 use mathlib.Core.List.{List, [], _∷_, _++_}
 use mathlib.Core.Bool.{true, false}
 use native.Mathlib.Omega.{arith}
+use lib.ListN.{getD, replicate}
 use lib.Dec.{eqb, ltb, lit<}
 use borrow.Author.Tests.{ltb-true}
 use Rattle.window.specs.Memory.{byteAt}
-use Rattle.window.specs.Small as small
+use Rattle.register.specs.Buffers.{Below}
+use Rattle.linker.specs.Valid.{Valid, AreBytes}
 use Rattle.window.specs.Tests.{both}
 use Rattle.linker.specs.Outcome.{Bytes}
 use Rattle.history.specs.Arrival.{initialized, loaded, Arrival}
 use Rattle.history.specs.Sessions.{Call, load, Turn, after, expected, Follows, Words, Session, first, next, Between, done, comes, brought, arrived, others, stay, standing}
-use Rattle.history.specs.Windows.{given-bytes}
+use Rattle.history.specs.Windows.{given-valid}
 use Rattle.history.specs.Demand3.{SameStanding}
 use Rattle.history_witness.specs.Image.{bytes}
 use Rattle.history_witness.specs.Computed.{at, page, fresh, lent, turn, t₁, t₂, t₃, t₄, t₅, u₁, u₂, smallAll, computed}
@@ -33,50 +35,67 @@ between : (ts : List Turn) (b : Bytes) → Between at ts b b
 between ts b = record { register = (refl, refl, refl); length-kept = refl; areas-kept = λ q h. refl }
 
 -- bytes are bytes
-small-all : (l : List ℕ) → smallAll l ≡ true → small.Bytes l
+small-all : (l : List ℕ) → smallAll l ≡ true → Below 256 l
 unfolding smallAll
 small-all [] h i = lit< tt
 small-all (b ∷ l) h zero = ltb-true b 256 (both (ltb b 256) (smallAll l) h .0)
 small-all (b ∷ l) h (suc i) = small-all l (both (ltb b 256) (smallAll l) h .1) i
 
-started : (r n : ℕ) → small.Bytes (fresh r n .window)
+zeros-small : (n i : ℕ) → getD (replicate n 0) i 0 < 256
+zeros-small zero i = lit< tt
+zeros-small (suc n) zero = lit< tt
+zeros-small (suc n) (suc i) = zeros-small n i
+
+started : (r n : ℕ) → AreBytes (fresh r n)
 unfolding fresh
-started r n = small-all page (computed .small)
+started r n = (small-all page (computed .small), zeros-small r)
 
-w₁ : small.Bytes (after t₁ .window)
-w₁ = given-bytes (t₁ .call) at (t₁ .before) (started 512 64)
-
-w₂ : small.Bytes (after t₂ .window)
-w₂ = given-bytes (t₂ .call) at (t₂ .before) w₁
-
-w₃ : small.Bytes (after t₃ .window)
-w₃ = given-bytes (t₃ .call) at (t₃ .before) w₂
-
-w₄ : small.Bytes (after t₄ .window)
-w₄ = given-bytes (t₄ .call) at (t₄ .before) w₃
+-- and stay so, as the register stays valid
+abbrev Good : Bytes → Type 0
+Good b = Valid b × AreBytes b
 
 words : (base level : ℕ) → base < 2 ^ 32 → level < 2 ^ 32 → Words (load (lent base) 1 level)
 unfolding Words
 words base level h l = (h, omega arith, omega arith, omega arith, omega arith, omega arith, omega arith, l)
 
-pub session-a : Session at A
+first-words : Words (t₁ .call)
 unfolding Words
+first-words = (omega arith, omega arith)
+
+last-words : Words (t₅ .call)
+unfolding Words
+last-words = omega arith
+
+next-good : (t : Turn) → Words (t .call) → Good (t .before) → Good (expected at t .left)
+next-good t w g = given-valid (t .call) at (t .before) w (g .0) (g .1)
+
+g₁ : Good (after t₁)
+g₁ = next-good t₁ first-words (computed .valid-a, started 512 64)
+
+g₂ : Good (after t₂)
+g₂ = next-good t₂ (words 0x100800 0 (omega arith) (omega arith)) g₁
+
+g₃ : Good (after t₃)
+g₃ = next-good t₃ (words 0x100200 0 (omega arith) (omega arith)) g₂
+
+g₄ : Good (after t₄)
+g₄ = next-good t₄ (words 0x100400 1 (omega arith) (omega arith)) g₃
+
+pub session-a : Session at A
 session-a =
     next t₅ t₄ _
     (next t₄ t₃ _
     (next t₃ t₂ _
-    (next t₂ t₁ _
-    (first t₁ ((omega arith, omega arith), started 512 64) (computed .first-a) (follows _ _))
-    (words 0x100800 0 (omega arith) (omega arith), w₁) (between _ _) (follows _ _))
-    (words 0x100200 0 (omega arith) (omega arith), w₂) (between _ _) (follows _ _))
-    (words 0x100400 1 (omega arith) (omega arith), w₃) (between _ _) (follows _ _))
-    (omega arith, w₄) (between _ _) (follows _ _)
+    (next t₂ t₁ _ (first t₁ (first-words, started 512 64) (computed .first-a) (follows _ _))
+    (words 0x100800 0 (omega arith) (omega arith), g₁ .1) (between _ _) (follows _ _))
+    (words 0x100200 0 (omega arith) (omega arith), g₂ .1) (between _ _) (follows _ _))
+    (words 0x100400 1 (omega arith) (omega arith), g₃ .1) (between _ _) (follows _ _))
+    (last-words, g₄ .1) (between _ _) (follows _ _)
 
 pub session-b : Session at B
-unfolding Words
 session-b =
-    next u₂ u₁ _ (first u₁ ((omega arith, omega arith), started 1024 128) (computed .first-b) (follows _ _))
-    (words 0x100200 0 (omega arith) (omega arith), given-bytes (u₁ .call) at (u₁ .before) (started 1024 128)) (between _ _) (follows _ _)
+    next u₂ u₁ _ (first u₁ (first-words, started 1024 128) (computed .first-b) (follows _ _))
+    (words 0x100200 0 (omega arith) (omega arith), next-good u₁ first-words (computed .valid-b, started 1024 128) .1) (between _ _) (follows _ _)
 
 -- which calls are done
 pub done-by : (t : Turn) {k : ℕ} → expected at t .number ≡ k → done at t ≡ eqb k 0
