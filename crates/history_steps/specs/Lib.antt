@@ -1,0 +1,3 @@
+-- What each step of a call does to the bytes of well-laid modules, a file a step.
+pub mod Wp
+pub mod Windowed
