@@ -1,3 +1,5 @@
 -- What each step of a call does to the bytes of well-laid modules, a file a step.
 pub mod Wp
 pub mod Windowed
+pub mod View
+pub mod Parts

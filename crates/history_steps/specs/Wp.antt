@@ -150,3 +150,27 @@ module _ (S : ℕ → Type 0) where
       → Does T m (λ a N. Q a N × Kept S M N) M
   does-wider T i {m} {Q} {M} h =
       record { lies = within-widerM T i m M (h .lies); gives = (h .gives, untouchedM m M (h .lies)) }
+
+  -- a program that only reads, and gives v
+  abbrev pub Reads : {A : Type 0} → Prog A → A → Memory → Type 0
+  Reads m v M = Does S m (λ a N. (a ≡ v) × (N ≡ M)) M
+
+  pub does-read
+      : {A B : Type 0} (m : Prog A) (f : A → Prog B) (v : A) {Q : B → Memory → Type 0} {M : Memory} → Reads m v M → Does S (f v) Q M
+      → Does S (m >>= f) Q M
+  does-read m f v {Q} {M} h k = does-then m f h (λ a N e. rw (e .0, e .1) k)
+
+  pub reads-then
+      : {A B : Type 0} (m : Prog A) (f : A → Prog B) (v : A) {u : B} {M : Memory} → Reads m v M → Reads (f v) u M → Reads (m >>= f) u M
+  reads-then m f v h k = does-read m f v h k
+
+  pub reads-ret : {A : Type 0} (v : A) {M : Memory} → Reads (ret v) v M
+  reads-ret v = does-ret (refl, refl)
+
+  pub reads-get8 : (p : ℕ) {v : ℕ} {M : Memory} → S p → M p ≡ v → Reads (get8 p) v M
+  unfolding WithinM runM
+  reads-get8 p s e = record { lies = (s, tt); gives = (e, refl) }
+
+  pub reads-get32 : (p : ℕ) {v : ℕ} {M : Memory} → Four S p → word M p ≡ v → Reads (get32 p) v M
+  unfolding WithinM runM
+  reads-get32 p s e = record { lies = (s, tt); gives = (e, refl) }

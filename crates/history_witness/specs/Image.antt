@@ -4,7 +4,7 @@ use mathlib.Core.Path.{_≡_, refl, sym, ap, _∙_}
 use mathlib.Core.Logic.{_≢_, _⊎_, inl, inr}
 use mathlib.Core.List.{List, [], _∷_, _++_}
 use native.Mathlib.Omega.{arith}
-use native.Mathlib.Decide.{decLt, ℕ-discrete}
+use native.Mathlib.Decide.{decLt}
 use lib.ListN.{length, getD, replicate}
 use lib.Dec.{ltb}
 use borrow.Author.Tests.{lt-ltb, le-ltb}
@@ -13,20 +13,11 @@ use Rattle.window.specs.Within.{In}
 use Rattle.window.specs.Mirror.{word}
 use Rattle.layout.specs.declared.segments.Address.{Address}
 use Rattle.layout.specs.declared.segments.Address.the-variants.{At}
+use Rattle.history.specs.Below.{AllBelow, below}
 use Rattle.history.specs.Image.{tables, moduleEntries, start, count, entry, tag, endMark}
 use Rattle.history.specs.Arrival.{Coming, Image, baseOf, sizeOf, address, handler, Area}
 use Rattle.history.specs.Imports.{Import, named, indexed, anonymous, importEntry, IsImport, batch, BatchOf}
 use Rattle.history.specs.WellLaid.{Part, header, table, string, tableNumber, Pointer, of-module, of-export, of-import, of-entry, InString, InPart, LaidAlone, Relocated, external, internal, WordAt, NoList, WellLaid}
-
--- of each number below n, the last one first
-AllBelow : (ℕ → Type 0) → ℕ → Type 0
-AllBelow P zero = Unit {0}
-AllBelow P (suc n) = P n × AllBelow P n
-
-below : (P : ℕ → Type 0) (n i : ℕ) → i < n → AllBelow P n → P i
-unfolding AllBelow
-below P zero i l h = absurd (omega arith)
-below P (suc n) i l h = elim (ℕ-discrete i n) [ yes e ↦ rw e (h .0) | no m ↦ below P n i (omega arith) (h .1) ]
 
 abbrev zeros : ℕ → List ℕ
 zeros n = replicate n 0
