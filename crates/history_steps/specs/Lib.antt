@@ -3,3 +3,4 @@ pub mod Wp
 pub mod Windowed
 pub mod View
 pub mod Parts
+pub mod Shows

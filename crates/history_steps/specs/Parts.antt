@@ -29,7 +29,7 @@ field-bounds n l =
     ((omega arith, omega arith), ((omega arith, omega arith), ((omega arith, omega arith), ((omega arith, omega arith), tt)))))))))
 
 -- parts of different sorts or numbers are different
-abbrev sort : Part → ℕ
+abbrev pub sort : Part → ℕ
 sort header = 0
 sort (table n) = 1
 sort (string p) = 2
@@ -155,11 +155,11 @@ module _ (m : Image) (laid : WellLaid m) where
   pub apart : (r s : Part) (o : ℕ) → r ≢ s → InPart F₀ r o → InPart F₀ s o → ⊥
   apart r s o n h g = laid .alone .parts-apart r s n o h g
 
-  external-part : (i k : ℕ) → i < count F₀ externals → k < 12 → InPart F₀ (table 5) (entry F₀ externals i + k)
+  pub external-part : (i k : ℕ) → i < count F₀ externals → k < 12 → InPart F₀ (table 5) (entry F₀ externals i + k)
   unfolding tables
   external-part i k l g = entry-in-table F₀ 5 i k (lit< tt) l g
 
-  past-header : (o : ℕ) (r : Part) → header ≢ r → InPart F₀ r o → 0x90 ≤ o
+  pub past-header : (o : ℕ) (r : Part) → header ≢ r → InPart F₀ r o → 0x90 ≤ o
   unfolding InPart
   past-header o r n h = elim (decLt o 0x90) [ yes l ↦ absurd (apart header r o n (omega arith) h) | no l ↦ omega arith ]
 
