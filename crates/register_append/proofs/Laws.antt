@@ -199,10 +199,11 @@ module _ (records names : List ℕ) (d : Draft) (name : List ℕ) (address : ℕ
     (i : countsInside records d ≡ true) {f : Found} (list : List ℕ)
     (el : list ≡ exportsSoFar records d) (ef : f ≡ findExport (exportsIn (wordsIn list) names) name) where
   pub put-again
-      : {w : List ℕ} {place : ℕ} (k : ℕ) → f ≡ At k → place ≡ exportPlace records d + 12 * k + 8 → w ≡ setWordIn records place address
+      : {w : List ℕ} {from place : ℕ} (k : ℕ) → f ≡ At k → w ≡ setWordIn records place address → from ≡ exportPlace records d
+      → place ≡ from + 12 * k + 8
       → _≡_ {A = Drafted × List ℕ × List ℕ} (Open d, w, names) (putExport records names d name address)
   unfolding putExport putAt
-  put-again k z p e = rw (← o, y, i, ← el, ← ef, z, e, p)
+  put-again k z e f p = rw (← o, y, i, ← el, ← ef, z, ← f, ← p, e)
 
   pub put-new
       : {r : Drafted} {w ns : List ℕ} → f ≡ Nothing → _≡_ {A = Drafted × List ℕ × List ℕ} (r, w, ns) (addExport records names d name address)
@@ -261,9 +262,9 @@ module _ (records : List ℕ) (d : Draft) {s n : ℕ} (es : s ≡ wordIn records
       let b = find-below (take (from + 12 * n - from) (drop from records)) names name k e z in
       omega arith
 
-  pub put-place : (k : ℕ) → d .start + 4 * (8 + s) + 12 * k + 8 ≡ exportPlace records d + 12 * k + 8
+  pub put-place : d .start + 4 * (8 + s) ≡ exportPlace records d
   unfolding exportPlace
-  put-place k = rw es
+  put-place = rw es
 
 -- a record finished
 

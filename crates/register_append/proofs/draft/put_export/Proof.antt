@@ -116,8 +116,10 @@ same-length-4 c = search needs
 returns-3 : tie.Need-returns-3
 returns-3 c = put-again _ _ _ _ _ (c .before .before .before .before .before .before .before .before .before .before .before .before .before .before .before .before .before .before .is-open .ensures) (not-false _ (c .before .before .before .before .before .before .before .before .before .before .before .before .before .before .before .before .before .if1 .left))
     (counts-inside _ _ (c .before .before .before .before .before .before .before .before .before .before .before .before .before .before .before .load32 .ensures) (c .before .before .before .before .before .before .before .before .before .before .before .before .before .load322 .ensures) (c .before .before .before .before .before .before .before .before .before .before .before .if2 .left)) _
-    (so-far _ (c .before .before .before .before .before .before .before .before .before .before .before .before .before .before .before .before .before .before .before .before .before .before .before .args .draft) (c .before .before .before .before .before .before .before .before .before .before .before .before .before .before .before .load32 .ensures) (c .before .before .before .before .before .before .before .before .before .before .before .before .before .load322 .ensures)) (c .before .before .before .before .before .before .before .find-export .ensures) _ (c .before .before .before .before .before .k .given .1)
-    (put-place _ (c .before .before .before .before .before .before .before .before .before .before .before .before .before .before .before .before .before .before .before .before .before .before .before .args .draft) (c .before .before .before .before .before .before .before .before .before .before .before .before .before .before .before .load32 .ensures) (c .before .before .before .before .before .before .before .before .before .before .before .before .before .load322 .ensures) _) (c .before .before .store32 .ensures)
+    (so-far _ (c .before .before .before .before .before .before .before .before .before .before .before .before .before .before .before .before .before .before .before .before .before .before .before .args .draft) (c .before .before .before .before .before .before .before .before .before .before .before .before .before .before .before .load32 .ensures) (c .before .before .before .before .before .before .before .before .before .before .before .before .before .load322 .ensures)) (c .before .before .before .before .before .before .before .find-export .ensures) (c .before .before .before .before .before .k .given .0 .0)
+    (c .before .before .before .before .before .k .given .1) (c .before .before .store32 .ensures)
+    (put-place _ (c .before .before .before .before .before .before .before .before .before .before .before .before .before .before .before .before .before .before .before .before .before .before .before .args .draft) (c .before .before .before .before .before .before .before .before .before .before .before .before .before .before .before .load32 .ensures) (c .before .before .before .before .before .before .before .before .before .before .before .before .before .load322 .ensures))
+    (omega arith)
 
 same-length-5 : tie.Need-same-length-5
 same-length-5 c = search needs
