@@ -65,10 +65,9 @@ move-end b l gap i h = rw (drop-of-length-le l h)
 -- the end cleared after the move
 pub closed-in-steps
     : (l : List ℕ) (from gap place : ℕ) {m last : List ℕ} → from + gap ≤ length l → m ≡ sets l from (drop (from + gap) l)
-    → length m ≡ length l → last ≡ sets m place (replicate (length m - place) 0) → place + gap ≡ length m → last ≡ closed l from gap
+    → length m ≡ length l → last ≡ sets m place (replicate (length m - place) 0) → place ≡ length m - gap → last ≡ closed l from gap
 unfolding closed
 closed-in-steps l from gap place {m} h e n c p =
-    let pl : place ≡ length m - gap = omega arith in
     let D = drop (from + gap) l in
     let X = take from l ++ D in
     let z : length m - (length m - gap) ≡ gap = omega arith in
@@ -80,7 +79,7 @@ closed-in-steps l from gap place {m} h e n c p =
     let f : take (length m - gap) m ≡ X = rw (← x, y) (take-append-seam X (drop (from + length D) l)) in
     let k : length m ≤ length m - gap + length (replicate {A = ℕ} gap 0) = omega arith in
     let g : drop (length m - gap + length (replicate {A = ℕ} gap 0)) m ≡ [] = drop-of-length-le m k in
-    rw (c, pl, z) (sets-eq (replicate gap 0) m (length m - gap) (omega arith)
+    rw (c, p, z) (sets-eq (replicate gap 0) m (length m - gap) (omega arith)
     ∙ rw (f, g) (append-nil (X ++ replicate gap 0) ∙ append-assoc (take from l) D (replicate gap 0)))
 
 -- exports, k of n done

@@ -1,3 +1,4 @@
+use mathlib.Core.Path.{refl}
 use native.Mathlib.Omega.{arith}
 use borrow.Author.Tests.{not-true, not-false}
 use borrow.Author.Needs.{needs}
@@ -119,7 +120,7 @@ returns-3 c = put-again _ _ _ _ _ (c .before .before .before .before .before .be
     (so-far _ (c .before .before .before .before .before .before .before .before .before .before .before .before .before .before .before .before .before .before .before .before .before .before .before .args .draft) (c .before .before .before .before .before .before .before .before .before .before .before .before .before .before .before .load32 .ensures) (c .before .before .before .before .before .before .before .before .before .before .before .before .before .load322 .ensures)) (c .before .before .before .before .before .before .before .find-export .ensures) (c .before .before .before .before .before .k .given .0 .0)
     (c .before .before .before .before .before .k .given .1) (c .before .before .store32 .ensures)
     (put-place _ (c .before .before .before .before .before .before .before .before .before .before .before .before .before .before .before .before .before .before .before .before .before .before .before .args .draft) (c .before .before .before .before .before .before .before .before .before .before .before .before .before .before .before .load32 .ensures) (c .before .before .before .before .before .before .before .before .before .before .before .before .before .load322 .ensures))
-    (omega arith)
+    refl
 
 same-length-5 : tie.Need-same-length-5
 same-length-5 c = search needs
