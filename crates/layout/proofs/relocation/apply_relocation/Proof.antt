@@ -1,5 +1,5 @@
 -- By what the relocation writes: `relocation-nothing` and `relocation-word`.
-use mathlib.Core.Path.{sym}
+use mathlib.Core.Path.{sym, _∙_}
 use borrow.Author.Needs.{needs}
 use Rattle.layout.specs.Relocation.{relocation-word, relocation-nothing}
 use Rattle.layout.proofs.relocation.apply_relocation.Statement.{statement}
@@ -27,9 +27,10 @@ same-length c = search needs
 
 returns-2 : tie.Need-returns-2
 returns-2 c =
-    let k = c .before .before .before .before .before in
-    let a = k .before .before .before .before .args in
-    cc (relocation-word (a .at) (a .target) (a .kind) (a .addend) (a .symbol) (a .target-final) (a .w .now) {v = k .word .given .0 .0} (cc))
+    let a = c .before .before .before .before .before .before .before .before .before .args in
+    c .before .before .write32-privileged .ensures
+    ∙ sym (relocation-word (a .at) (a .target) (a .kind) (a .addend) (a .symbol) (a .target-final) (a .w .now) {v = c .before .before .before .before .before .word .given .0 .0}
+    (sym (c .before .before .before .before .before .before .before .relocated-word .ensures) ∙ c .before .before .before .before .before .word .given .1))
 
 pub apply-relocation-spec : {M : Type 1} → statement M
 apply-relocation-spec =
