@@ -7,14 +7,19 @@ use native.Mathlib.Nat.{le-of-lt, lt-of-le-of-lt, mul-le-mul-left, mul-lt-mul-of
 use lib.ListN.{getD, getD-replicate, List·getD-append}
 use lib.Seq.{getD-append-add}
 use lib.Dec.{lit<}
-use Rattle.window.specs.Memory.{_⊕_, _⊖_, wordAt, putWord}
+use Rattle.window.specs.Memory.{_⊕_, _⊖_, wordAt, putWord, putPrivileged}
 use Rattle.window.specs.Access.{run}
 use Rattle.layout.specs.Header.{segmentNum, segmentTableOffset, segmentEntrySize}
-use Rattle.layout.specs.Format.{segmentType, segmentTypeNumber}
-use Rattle.layout.specs.Segments.{field, segment, setSegment, entryAt, segmentPlace, field-word, segment-found, setSegment-words}
+use Rattle.layout.specs.Format.{segmentType, segmentTypeNumber, tagSegment, tagOffset}
+use Rattle.layout.specs.Relocation.{relocatedWord, applyRelocation, relocation-word}
+use Rattle.layout.specs.Segments.{field, segment, setSegment, entryAt, segmentPlace, field-word, segment-found, setSegment-words, tagToAddress, tag-at}
 use Rattle.layout.specs.declared.format.Segment.{Segment}
 use Rattle.layout.specs.declared.format.SegmentType.{SegmentType}
 use Rattle.layout.specs.declared.segments.FoundSegment.the-variants.{Found}
+use Rattle.layout.specs.declared.segments.Address.the-variants.{At}
+use Rattle.layout.specs.declared.format.RelocationType.{RelocationType}
+use Rattle.layout.specs.declared.relocation.Patch.{Patch}
+use Rattle.layout.specs.declared.relocation.Patch.the-variants.{Word}
 use Rattle.layout.specs.Tables.{noTable, pointerWords}
 use Rattle.layout.specs.declared.tables.PointerTable.{PointerTable}
 
@@ -42,6 +47,20 @@ module _ (at base i : ℕ) (w : List ℕ) {table entry p₄ p₈ : ℕ} (et : ta
       : (s : Segment) {word : ℕ} {w₁ w₂ w₃ : List ℕ} → w₁ ≡ putWord at w entry (s .offset) → w₂ ≡ putWord at w₁ p₄ (s .size)
       → word ≡ segmentTypeNumber (s .kind) → w₃ ≡ putWord at w₂ p₈ word → w₃ ≡ run at (setSegment base i s) w .1
   set-in-words s f₁ f₂ ew f₃ = rw (f₃, ew, f₂, f₁, e₄, e₈, place) (sym (setSegment-words at base i w s))
+
+-- an address inside a segment, and a relocated word, as the code finds them
+
+pub tag-found
+    : (at base tag : ℕ) (w : List ℕ) (s : Segment) {a x : ℕ} → run at (segment base (tagSegment tag)) w .0 ≡ Found s → x ≡ tagOffset tag → x < s .size
+    → a ≡ s .offset ⊕ x → At a ≡ run at (tagToAddress base tag) w .0
+tag-found at base tag w s e ex h ea =
+    rw (ea, ex) (sym (tag-at at base tag w e (rw ex at h)))
+
+pub word-written
+    : (at target : ℕ) (kind : RelocationType) (addend symbol final : ℕ) (w : List ℕ) (v : ℕ) {p : Patch} {after : List ℕ}
+    → p ≡ relocatedWord kind addend symbol final → p ≡ Word v → after ≡ putPrivileged at w target v
+    → after ≡ run at (applyRelocation target kind addend symbol final) w .1
+word-written at target kind addend symbol final w v e f g = g ∙ sym (relocation-word at target kind addend symbol final w (sym e ∙ f))
 
 -- a flat table of rows of seven words: word k of row i stands at i * 7 + k
 

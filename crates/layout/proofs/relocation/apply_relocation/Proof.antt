@@ -1,7 +1,8 @@
--- By what the relocation writes: `relocation-nothing` and `relocation-word`.
-use mathlib.Core.Path.{sym, _∙_}
+-- By what the relocation writes: `relocation-nothing` and `word-written`.
+use mathlib.Core.Path.{sym}
 use borrow.Author.Needs.{needs}
-use Rattle.layout.specs.Relocation.{relocation-word, relocation-nothing}
+use Rattle.layout.specs.Relocation.{relocation-nothing}
+use Rattle.layout.proofs.Laws.{word-written}
 use Rattle.layout.proofs.relocation.apply_relocation.Statement.{statement}
 use Rattle.layout.proofs.relocation.apply_relocation.Tie as tie
 
@@ -28,9 +29,8 @@ same-length c = search needs
 returns-2 : tie.Need-returns-2
 returns-2 c =
     let a = c .before .before .before .before .before .before .before .before .before .args in
-    c .before .before .write32-privileged .ensures
-    ∙ sym (relocation-word (a .at) (a .target) (a .kind) (a .addend) (a .symbol) (a .target-final) (a .w .now) {v = c .before .before .before .before .before .word .given .0 .0}
-    (sym (c .before .before .before .before .before .before .before .relocated-word .ensures) ∙ c .before .before .before .before .before .word .given .1))
+    word-written (a .at) (a .target) (a .kind) (a .addend) (a .symbol) (a .target-final) (a .w .now) (c .before .before .before .before .before .word .given .0 .0)
+    (c .before .before .before .before .before .before .before .relocated-word .ensures) (c .before .before .before .before .before .word .given .1) (c .before .before .write32-privileged .ensures)
 
 pub apply-relocation-spec : {M : Type 1} → statement M
 apply-relocation-spec =
