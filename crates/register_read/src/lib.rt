@@ -73,7 +73,7 @@ pub fn record_at(records: &[u8], place: usize) -> Record
 }
 
 // Where the record after it begins.
-pub fn record_end(record: Record) -> usize
+fn record_end(record: Record) -> usize
     requires { ⌜ recordEnd «record» < 2 ^ 64 ⌝ }
     ensures { λ r. ⌜ r ≡ recordEnd «record» ⌝ }
 {
