@@ -16,14 +16,14 @@ use Rattle.layout.specs.Relocation.{relocatedWord}
 use Rattle.layout.specs.declared.relocation.Patch.{Patch}
 use Rattle.layout.specs.declared.relocation.Patch.the-variants.{Word, Nothing}
 use Rattle.layout.specs.declared.segments.Address.{Address}
-use Rattle.layout.specs.declared.segments.Address.the-variants.{At}
+use Rattle.layout.specs.declared.segments.Address.the-variants.{At, Nowhere}
 use Rattle.linker.specs.Relocation.{addressOr0}
-use Rattle.history.specs.Image.{externals, count, entry, kind, addend}
-use Rattle.history.specs.Arrival.{Image, baseOf, sizeOf, Area}
+use Rattle.history.specs.Image.{externals, count, entry, tag, kind, addend}
+use Rattle.history.specs.Arrival.{Image, baseOf, sizeOf, address, Area}
 use Rattle.history.specs.WellLaid.{header, table, InPart, Touched, Relocated, external, internal, WordAt, Writes, WellLaid}
 use Rattle.history_steps.specs.Wp.{Memory}
 use Rattle.history_steps.specs.View.{Seen, View, view-agree}
-use Rattle.history_steps.specs.Parts.{spot, spot-inside, spot-no-mark, spot-no-list, spot-no-word, image-area, part-inside, external-part, past-header, sort}
+use Rattle.history_steps.specs.Parts.{Spot, spot, spot-inside, spot-no-mark, spot-no-list, spot-no-word, image-area, part-inside, external-part, past-header, sort}
 
 -- the word that external entry j has at p for the symbol a
 unfoldable pub wordFor : Patch → ℕ
@@ -41,6 +41,32 @@ upd-same σ j a = rw (eq-eqb j j refl) refl
 pub upd-other : (σ : ℕ → ℕ) (j a i : ℕ) → i ≢ j → upd σ j a i ≡ σ i
 unfolding upd
 upd-other σ j a i n = rw (ne-eqb i j n) refl
+
+dec-patch : (x : Patch) → Dec ((v : ℕ) × (x ≡ Word v))
+dec-patch (Word v) = yes (v, refl)
+dec-patch Nothing = no (λ h. absurd (omega (arith, ap (λ (x : Patch). sortOf x) (h .1))))
+  where
+    sortOf : Patch → ℕ
+    sortOf (Word v) = 0
+    sortOf Nothing = 1
+
+dec-at : (x : Address) → Dec ((p : ℕ) × (x ≡ At p))
+dec-at (At p) = yes (p, refl)
+dec-at Nowhere = no (λ h. absurd (omega (arith, ap (λ (x : Address). sortOf x) (h .1))))
+  where
+    sortOf : Address → ℕ
+    sortOf (At p) = 0
+    sortOf Nowhere = 1
+
+dec-below : (P : ℕ → Type 0) → ((j : ℕ) → Dec (P j)) → (n : ℕ) → Dec ((j : ℕ) × (j < n) × P j)
+dec-below P d zero = no (λ h. absurd (omega (arith, h .1)))
+dec-below P d (suc n) =
+    elim (d n)
+    [ yes h ↦ yes (n, omega arith, h)
+    | no h ↦
+      elim (dec-below P d n)
+      [ yes g ↦ yes (g .0, omega (arith, g .1), g .2)
+      | no g ↦ no (λ k. elim (ℕ-discrete (k .0) n) [ yes e ↦ h (rw e at (k .2)) | no e ↦ g (k .0, omega (arith, k .1, e), k .2) ]) ] ]
 
 module _ (m : Image) where
   abbrev F : ℕ → ℕ
@@ -180,3 +206,97 @@ module _ (m : Image) where
           previouses = λ k l. put4-on M previousAt a k l;
           rest = λ q r o. put4-off M previousAt a q (λ i. o (in-range Moving previousAt 4 q i in-previous)) ∙ s .rest q r o;
         }
+
+    -- all of it lies in the module's areas
+    pub moving-area : (q : ℕ) → Moving q → Area m q
+    unfolding markAt
+    moving-area q (in-word j p k l h) = laid .in-place .words-inside (external j) p h (p + k) (omega arith, omega arith)
+    moving-area q (is-mark j l) =
+        image-area m laid (entry F externals j + 6) (part-inside m laid (table 5) _ (external-part m laid j 6 l (lit< tt)))
+    moving-area q (in-next k l) =
+        let e : base + (0x88 + k) ≡ nextAt + k = omega arith in rw e at (image-area m laid (0x88 + k) (omega (arith, laid .alone .header-inside)))
+    moving-area q (in-previous k l) =
+        let e : base + (0x8c + k) ≡ previousAt + k = omega arith in
+        rw e at (image-area m laid (0x8c + k) (omega (arith, laid .alone .header-inside)))
+
+    -- so only the bytes of its areas matter
+    pub shows-agree
+        : {T : Memory} {σ μ : ℕ → ℕ} {n v : ℕ} {M N : Memory} → Agree (Area m) M N → Shows T σ μ n v M → Shows T σ μ n v N
+    shows-agree g s =
+        record {
+          words = λ j p k l h. sym (g (p + k) (moving-area (p + k) (in-word j p k l h))) ∙ s .words j p k l h;
+          marks = λ j l. sym (g (markAt j) (moving-area (markAt j) (is-mark j l))) ∙ s .marks j l;
+          nexts = λ k l. sym (g (nextAt + k) (moving-area (nextAt + k) (in-next k l))) ∙ s .nexts k l;
+          previouses = λ k l. sym (g (previousAt + k) (moving-area (previousAt + k) (in-previous k l))) ∙ s .previouses k l;
+          rest = λ q a o. sym (g q a) ∙ s .rest q a o;
+        }
+
+    -- what is seen does not move
+    mark-offset : (o j : ℕ) → markAt j ≡ base + o → o ≡ entry F externals j + 6
+    unfolding markAt
+    mark-offset o j e = omega (arith, e)
+
+    seen-still : (o : ℕ) → Seen F o → Moving (base + o) → ⊥
+    seen-still o h i = go o (base + o) refl (spot F o h) i
+      where
+        go : (o q : ℕ) → q ≡ base + o → Spot F o → Moving q → ⊥
+        go o q e s (in-word j p k l g) = spot-no-word m laid o s (external j) p g (omega (arith, e), omega (arith, e))
+        go o q e s (is-mark j l) = spot-no-mark m laid o s j l (mark-offset o j e)
+        go o q e s (in-next k l) = absurd (omega (arith, e, spot-no-list m laid o s))
+        go o q e s (in-previous k l) = absurd (omega (arith, e, spot-no-list m laid o s))
+
+    pub shows-view : {T : Memory} {σ μ : ℕ → ℕ} {n v : ℕ} {M : Memory} → View m T → Shows T σ μ n v M → View m M
+    shows-view {T} {σ} {μ} {n} {v} {M} w s =
+        view-agree m T M
+        (λ o h. sym (s .rest (base + o) (image-area m laid o (spot-inside m laid o (spot F o h))) (seen-still o h))) w
+
+    -- what moves is decided by a look at each external entry
+    dec-word : (j q : ℕ) → Dec ((p : ℕ) × WordAt m (external j) p × In p 4 q)
+    unfolding WordAt
+    dec-word j q =
+        go (decLt j (count F externals)) (dec-patch (relocatedWord (relocationType (kind F externals j)) 0 0 0)) (dec-at (address m (tag F externals j)))
+      where
+        go
+            : Dec (j < count F externals) → Dec ((v : ℕ) × (relocatedWord (relocationType (kind F externals j)) 0 0 0 ≡ Word v))
+            → Dec ((p : ℕ) × (address m (tag F externals j) ≡ At p)) → Dec ((p : ℕ) × WordAt m (external j) p × In p 4 q)
+        go (no n) b c = no (λ h. n (h .1 .0))
+        go (yes a) (no n) c = no (λ h. n (h .1 .1))
+        go (yes a) (yes b) (no n) = no (λ h. n (h .0, h .1 .2))
+        go (yes a) (yes b) (yes (p, e)) = inner (dec-in p 4 q)
+          where
+            inner : Dec (In p 4 q) → Dec ((x : ℕ) × WordAt m (external j) x × In x 4 q)
+            inner (yes i) = yes (p, (a, b, e), i)
+            inner (no n) = no (λ h. n (rw (one-place j p (h .0) (a, b, e) (h .1)) (h .2)))
+
+    pub dec-moving : (q : ℕ) → Dec (Moving q)
+    dec-moving q =
+        go (dec-below (λ j. (p : ℕ) × WordAt m (external j) p × In p 4 q) (λ j. dec-word j q) (count F externals))
+        (dec-below (λ j. markAt j ≡ q) (λ j. ℕ-discrete (markAt j) q) (count F externals)) (dec-in nextAt 8 q)
+      where
+        go
+            : Dec ((j : ℕ) × (j < count F externals) × ((p : ℕ) × WordAt m (external j) p × In p 4 q))
+            → Dec ((j : ℕ) × (j < count F externals) × (markAt j ≡ q)) → Dec (In nextAt 8 q) → Dec (Moving q)
+        go (yes (j, l, (p, h, i))) b c = yes (in-range Moving p 4 q i (λ k g. in-word j p k g h))
+        go (no a) (yes (j, l, e)) c = yes (rw e at (is-mark j l))
+        go (no a) (no b) (yes i) =
+            elim (dec-in nextAt 4 q)
+            [ yes h ↦ yes (in-range Moving nextAt 4 q h in-next)
+            | no h ↦ yes (in-range Moving previousAt 4 q (omega arith, omega arith) in-previous) ]
+        go (no a) (no b) (no c) = no none
+          where
+            none : Moving q → ⊥
+            none h = off q refl h
+              where
+                off : (x : ℕ) → x ≡ q → Moving x → ⊥
+                off x e (in-word j p k l g) = {!!}
+                off x e (is-mark j l) = b (j, l, e)
+                off x e (in-next k l) = c (omega (arith, e), omega (arith, e))
+                off x e (in-previous k l) = c (omega (arith, e), omega (arith, e))
+
+    -- and the values say every byte
+    pub shows-unique
+        : {T U : Memory} {σ μ : ℕ → ℕ} {n v : ℕ} {M N : Memory} → Agree (Area m) T U → Shows T σ μ n v M → Shows U σ μ n v N → Agree (Area m) M N
+    shows-unique g s t q a = go q a (dec-moving q)
+      where
+        go : (q : ℕ) → Area m q → Dec (Moving q) → _ q ≡ _ q
+        go q a d = {!!}

@@ -23,7 +23,8 @@ use Rattle.register_append.specs.Laid.{below-append}
 use Rattle.register_append.specs.Held.{words-long}
 use Rattle.register_append.specs.Append.{names-append, words-append}
 use Rattle.register_append.specs.Stands.{appended-proper}
-use Rattle.register_change.specs.Encoded.{proper-parts, parts-proper, is-register}
+use Rattle.register.specs.Proper.{proper-parts, parts-proper}
+use Rattle.register.specs.CheckIs.{is-register}
 use Rattle.linker.specs.Calls.{fits}
 
 -- the bytes that a call leaves of r, in buffers of given lengths, are an encoding
