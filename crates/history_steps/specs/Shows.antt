@@ -105,6 +105,10 @@ module _ (m : Image) where
 
   module _ (laid : WellLaid m) where
     -- the cells do not overlap
+    pub word-count : (j p : ℕ) → WordAt m (external j) p → j < count F externals
+    unfolding WordAt
+    word-count j p h = h .0
+
     one-place : (j p q : ℕ) → WordAt m (external j) p → WordAt m (external j) q → p ≡ q
     unfolding WordAt
     one-place j p q h g = let e : _≡_ {A = Address} (At p) (At q) = sym (h .2) ∙ g .2 in ap addressOr0 e
@@ -279,8 +283,8 @@ module _ (m : Image) where
         go (yes (j, l, (p, h, i))) b c = yes (in-range Moving p 4 q i (λ k g. in-word j p k g h))
         go (no a) (yes (j, l, e)) c = yes (rw e at (is-mark j l))
         go (no a) (no b) (yes i) =
-            elim (dec-in nextAt 4 q)
-            [ yes h ↦ yes (in-range Moving nextAt 4 q h in-next)
+            elim (decLt q (nextAt + 4))
+            [ yes h ↦ yes (in-range Moving nextAt 4 q (omega arith, h) in-next)
             | no h ↦ yes (in-range Moving previousAt 4 q (omega arith, omega arith) in-previous) ]
         go (no a) (no b) (no c) = no none
           where
@@ -288,7 +292,7 @@ module _ (m : Image) where
             none h = off q refl h
               where
                 off : (x : ℕ) → x ≡ q → Moving x → ⊥
-                off x e (in-word j p k l g) = {!!}
+                off x e (in-word j p k l g) = a (j, word-count j p g, (p, g, (omega (arith, e), omega (arith, e))))
                 off x e (is-mark j l) = b (j, l, e)
                 off x e (in-next k l) = c (omega (arith, e), omega (arith, e))
                 off x e (in-previous k l) = c (omega (arith, e), omega (arith, e))
@@ -296,7 +300,11 @@ module _ (m : Image) where
     -- and the values say every byte
     pub shows-unique
         : {T U : Memory} {σ μ : ℕ → ℕ} {n v : ℕ} {M N : Memory} → Agree (Area m) T U → Shows T σ μ n v M → Shows U σ μ n v N → Agree (Area m) M N
-    shows-unique g s t q a = go q a (dec-moving q)
+    shows-unique {T} {U} {σ} {μ} {n} {v} {M} {N} g s t q a =
+        elim (dec-moving q) [ yes h ↦ moves q h | no h ↦ s .rest q a h ∙ g q a ∙ sym (t .rest q a h) ]
       where
-        go : (q : ℕ) → Area m q → Dec (Moving q) → _ q ≡ _ q
-        go q a d = {!!}
+        moves : (q : ℕ) → Moving q → M q ≡ N q
+        moves q (in-word j p k l h) = s .words j p k l h ∙ sym (t .words j p k l h)
+        moves q (is-mark j l) = s .marks j l ∙ sym (t .marks j l)
+        moves q (in-next k l) = s .nexts k l ∙ sym (t .nexts k l)
+        moves q (in-previous k l) = s .previouses k l ∙ sym (t .previouses k l)
