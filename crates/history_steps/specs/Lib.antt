@@ -4,3 +4,4 @@ pub mod Windowed
 pub mod View
 pub mod Parts
 pub mod Shows
+pub mod Reading
