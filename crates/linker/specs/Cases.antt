@@ -18,7 +18,10 @@ use Rattle.layout.specs.declared.format.SegmentType.the-variants.{Code, RoData,
 use Rattle.layout.specs.declared.segments.Address.{Address}
 use Rattle.layout.specs.declared.segments.Address.the-variants.{At, Nowhere}
 use Rattle.layout.specs.declared.segments.FoundSegment.the-variants.{Found}
-use Rattle.linker.specs.Rebase.{isMagic, moveHeader, Lent, Placed, refused, placed, lentPlace, place, Moved, bad, old-place, writeBack, moveFound, moveSegment, moveSegments}
+use Rattle.linker.specs.declared.rebase.Lent.{Lent}
+use Rattle.linker.specs.declared.rebase.Placed.the-variants.{Refused, Put}
+use Rattle.linker.specs.declared.rebase.Moved.the-variants.{Bad, OldPlace}
+use Rattle.linker.specs.Rebase.{isMagic, moveHeader, lentPlace, place, writeBack, moveFound, moveSegment, moveSegments}
 use Rattle.linker.specs.Relocation.{relocateAt, resetEntry, walk, batchLimit, applyRelocationBatch, batchIsResolved}
 use Rattle.linker.specs.Resets.{reset}
 use Rattle.register.specs.Decode.{isRegister}
@@ -30,44 +33,44 @@ use Rattle.linker.specs.Fix.{alignUp, fixedTo, fixFrom, fix}
 -- "Data size 16 / 17, lent 16": the segment gets its place / is refused
 abbrev pub lent-16 : ℕ → ℕ → ℕ → ℕ → ℕ → Lent
 lent-16 base size data-at bss-at bss-size =
-    record { base = base; size = size; data-at = data-at; data-size = 16; bss-at = bss-at; bss-size = bss-size }
+    record { base = base; size = size; «data_at» = data-at; «data_size» = 16; «bss_at» = bss-at; «bss_size» = bss-size }
 
 abbrev pub data-of : ℕ → ℕ → Segment
 data-of offset n = record { offset = offset; size = n; kind = Data }
 
 module _ (base size data-at bss-at bss-size offset old : ℕ) where
   pub data-16
-      : place (lent-16 base size data-at bss-at bss-size) (data-of offset 16) Data old ≡ placed (data-of data-at 16) (offset ⊕ base)
+      : place (lent-16 base size data-at bss-at bss-size) (data-of offset 16) Data old ≡ Put (data-of data-at 16) (offset ⊕ base)
   unfolding place lentPlace
   data-16 = refl
 
-  pub data-17 : place (lent-16 base size data-at bss-at bss-size) (data-of offset 17) Data old ≡ refused
+  pub data-17 : place (lent-16 base size data-at bss-at bss-size) (data-of offset 17) Data old ≡ Refused
   unfolding place lentPlace
   data-17 = refl
 
 -- a load whose first segment is refused answers 2, and its segments are as they were
 module _ (at : ℕ) (l : Lent) (w : List ℕ) where
-  stays-bad : (n i : ℕ) → run at (loop (moveSegment l) i n bad) w ≡ (bad, w)
+  pub stays-bad : (n i : ℕ) → run at (loop (moveSegment l) i n Bad) w ≡ (Bad, w)
   unfolding loop moveSegment run _>>=_
   stays-bad zero i = refl
   stays-bad (suc n) i = stays-bad n (suc i)
 
   module _ (n : ℕ) (c : wordAt at w (l .base ⊕ segmentNum) ≡ suc n) (s : Segment)
-      (e : segmentAt at w (segmentPlace at w (l .base) 0) ≡ s) (f : place l s (s .kind) 0 ≡ refused) where
+      (e : segmentAt at w (segmentPlace at w (l .base) 0) ≡ s) (f : place l s (s .kind) 0 ≡ Refused) where
     first-found : run at (segment (l .base) 0) w ≡ (Found s, w)
     first-found =
         pair≡ (segment-found at (l .base) 0 w (omega (arith, c)) ∙ ap Found e)
         (reads-same at (segment (l .base) 0) w (segment-reads (l .base) 0))
 
-    first-bad : run at (moveSegment l 0 (old-place 0)) w ≡ (bad, w)
+    first-bad : run at (moveSegment l 0 (OldPlace 0)) w ≡ (Bad, w)
     unfolding moveSegment moveFound writeBack run
     first-bad = run-bind at (segment (l .base) 0) _ w ∙ rw (first-found, f)
 
-    pub first-refused : run at (moveSegments l) w ≡ (bad, w)
+    pub first-refused : run at (moveSegments l) w ≡ (Bad, w)
     unfolding moveSegments field run _>>=_
     first-refused =
-        ap (λ k. run at (loop (moveSegment l) 0 k (old-place 0)) w) c
-        ∙ loop-more at (moveSegment l) 0 n (old-place 0) w
+        ap (λ k. run at (loop (moveSegment l) 0 k (OldPlace 0)) w) c
+        ∙ loop-more at (moveSegment l) 0 n (OldPlace 0) w
         ∙ rw first-bad (stays-bad n 1)
 
 -- "Data size 17, lent 16": number 2, the window as the header's move left it

@@ -1,0 +1,6 @@
+// Rebasing a module and taking that back, the lists that the title walks, and fixing: the port of that part of cro/mod.rs.
+pub mod rebase;
+pub mod segments;
+pub mod tables;
+pub mod unrebase;
+pub mod words;
