@@ -1,2 +1,3 @@
 -- What the proofs of `linker_rebase` share.
 pub mod Laws
+pub mod ListLaws
