@@ -2,7 +2,7 @@
 use Prim.Native.Nat.{ℕ, zero, suc, _+_, _-_, _*_, _%_, _^_, _<_, _≤_}
 use mathlib.Core.Path.{_≡_, refl, sym, ap, _∙_}
 use mathlib.Core.List.{List, [], _∷_}
-use mathlib.Core.Bool.{Bool, true, false, not, _||_}
+use mathlib.Core.Bool.{Bool, true, false, not}
 use native.Mathlib.Omega.{arith}
 use native.Mathlib.Numerals.{add-one}
 use lib.ListN.{length, take, drop, getD, drop-of-length-le}
@@ -10,7 +10,7 @@ use lib.Seq.{drop-cons}
 use lib.Dec.{eqb}
 use borrow.Author.Tests.{eq-eqb, ne-eqb, lt-ltb, le-ltb}
 use Rattle.window.specs.Memory.{if_then_else_, _⊕_, wordAt, putWord}
-use Rattle.window.specs.Access.{Prog, ret, _>>=_, _>>_, run, run-bind, Reads, reads-bind, reads-same}
+use Rattle.window.specs.Access.{Prog, ret, _>>=_, _>>_, run, run-bind, Reads, reads-bind}
 use Rattle.window.specs.Loop.{loop, loop-reads}
 use Rattle.layout.specs.Header.{magic, nameOffset, firstRebased, segmentNum, fixedSize}
 use Rattle.layout.specs.Tables.{pointerTables, noTable}
@@ -273,7 +273,8 @@ not-not : (b c : Bool) → not b ≡ c → b ≡ not c
 not-not true c e = ap not e
 not-not false c e = ap not e
 
-module _ (at base : ℕ) (segments : Prog Moved) (w : List ℕ) {word : ℕ} {m : Bool} (e : word ≡ run at (field base magic) w .0) (d : m ≡ isMagic word) where
+module _ (at base : ℕ) (segments : Prog Moved) (w : List ℕ) {word : ℕ} {m : Bool} (e : word ≡ run at (field base magic) w .0)
+    (d : m ≡ isMagic word) where
   rebase-is
       : run at (if m then moveHeader true base >> (segments >>= relocate base) else ret Rebased.NotACro) w ≡ run at (rebaseWith base segments) w
   unfolding rebaseWith field run _>>=_
@@ -285,7 +286,10 @@ module _ (at base : ℕ) (segments : Prog Moved) (w : List ℕ) {word : ℕ} {m 
 
   module _ (f : not m ≡ false) {u v : List ℕ} {x : Moved} (h : u ≡ run at (moveHeader true base) w .1) (s : (x, v) ≡ run at segments u) where
     rebase-on : run at (relocate base x) v ≡ run at (rebaseWith base segments) w
-    rebase-on = gives at segments u (relocate base) s ∙ seq at (moveHeader true base) w (segments >>= relocate base) h ∙ rw (not-not m false f) at rebase-is
+    rebase-on =
+        gives at segments u (relocate base) s
+        ∙ seq at (moveHeader true base) w (segments >>= relocate base) h
+        ∙ rw (not-not m false f) at rebase-is
 
     pub rebase-bad : x ≡ Bad → (Rebased.BadSegment, v) ≡ run at (rebaseWith base segments) w
     unfolding relocate run

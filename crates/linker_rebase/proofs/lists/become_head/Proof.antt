@@ -17,7 +17,8 @@ returns c =
     let p2 = c .before .before in
     let p6 = p2 .before .before .before .before in
     let p9 = p6 .before .before .before in
-    head-made (p9 .args .at) (p9 .args .w .now) (p9 .args .crs) (p9 .args .x) (p9 .args .base) (p6 .set-field .ensures) (p2 .set-field2 .ensures)
+    let a = p9 .args in
+    head-made (a .at) (a .w .now) (a .crs) (a .x) (a .base) (p6 .set-field .ensures) (p2 .set-field2 .ensures)
 
 pub become-head-spec : {M : Type 1} → statement M
 become-head-spec = tie.close (tie.spec set-field-requires set-field-requires-2 same-length returns)

@@ -25,7 +25,8 @@ returns c =
     let p10 = p6 .before .before .before .before in
     let p12 = p10 .before .before in
     let p15 = p12 .before .before .before in
-    tail-made (p15 .args .at) (p15 .args .head) (p15 .args .base) (p15 .args .w .now) (p12 .field .ensures) (p10 .set-field .ensures) (p6 .set-field2 .ensures)
+    let a = p15 .args in
+    tail-made (a .at) (a .head) (a .base) (a .w .now) (p12 .field .ensures) (p10 .set-field .ensures) (p6 .set-field2 .ensures)
     (p2 .set-field3 .ensures)
 
 pub become-tail-spec : {M : Type 1} → statement M

@@ -25,7 +25,8 @@ returns c =
     let p6 = p4 .before .before in
     let a = p6 .args in
     ⊎-elim
-    (λ e. head-left (a .at) (a .crs) (a .x) (a .next) (a .previous) (a .w .now) (p2 .set-field2 .ensures) (e .0 .taken) (e .5 ∙ e .2 .ensures))
+    (λ e. head-left (a .at) (a .crs) (a .x) (a .next) (a .previous) (a .w .now) (p2 .set-field2 .ensures) (e .0 .taken)
+    (e .5 ∙ e .2 .ensures))
     (λ e. head-alone (a .at) (a .crs) (a .x) (a .next) (a .previous) (a .w .now) (p2 .set-field2 .ensures) (e .0 .left) (e .1))
     (p4 .if1 .came)
 

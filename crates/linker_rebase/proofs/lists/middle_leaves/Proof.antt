@@ -17,7 +17,8 @@ returns c =
     let p2 = c .before .before in
     let p6 = p2 .before .before .before .before in
     let p9 = p6 .before .before .before in
-    middle-left (p9 .args .at) (p9 .args .next) (p9 .args .previous) (p9 .args .w .now) (p6 .set-field .ensures) (p2 .set-field2 .ensures)
+    let a = p9 .args in
+    middle-left (a .at) (a .next) (a .previous) (a .w .now) (p6 .set-field .ensures) (p2 .set-field2 .ensures)
 
 pub middle-leaves-spec : {M : Type 1} → statement M
 middle-leaves-spec =

@@ -30,7 +30,8 @@ returns-2 c =
     let p4 = p3 .before in
     let p7 = p4 .before .before .before in
     let a = p7 .args in
-    tail-other (a .at) (a .crs) (a .x) (a .base) (a .previous) (a .w .now) (p4 .field .ensures) (p3 .if1 .left) (p1 .field2 .ensures) (c .if2 .taken)
+    tail-other (a .at) (a .crs) (a .x) (a .base) (a .previous) (a .w .now) (p4 .field .ensures) (p3 .if1 .left) (p1 .field2 .ensures)
+    (c .if2 .taken)
 
 set-field-requires : tie.Need-set-field-requires
 set-field-requires c κs = search needs
@@ -47,7 +48,8 @@ returns-3 c =
     let p8 = p7 .before in
     let p11 = p8 .before .before .before in
     let a = p11 .args in
-    tail-new (a .at) (a .crs) (a .x) (a .base) (a .previous) (a .w .now) (p8 .field .ensures) (p7 .if1 .left) (p5 .field2 .ensures) (p4 .if2 .left)
+    tail-new (a .at) (a .crs) (a .x) (a .base) (a .previous) (a .w .now) (p8 .field .ensures) (p7 .if1 .left) (p5 .field2 .ensures)
+    (p4 .if2 .left)
     (p2 .set-field .ensures)
 
 pub new-tail-spec : {M : Type 1} → statement M

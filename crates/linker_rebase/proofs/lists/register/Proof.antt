@@ -37,9 +37,11 @@ returns c =
     let p9 = p7 .before .before in
     let a = p9 .args in
     ⊎-elim
-    (λ e. registered-head (a .at) (a .crs) (a .base) (a .auto-link) (a .w .now) (p7 .head-field .ensures) (p5 .field .ensures) (p2 .set-field .ensures)
+    (λ e. registered-head (a .at) (a .crs) (a .base) (a .auto-link) (a .w .now) (p7 .head-field .ensures) (p5 .field .ensures)
+    (p2 .set-field .ensures)
     (e .0 .taken) (e .5 ∙ e .2 .ensures))
-    (λ e. registered-tail (a .at) (a .crs) (a .base) (a .auto-link) (a .w .now) (p7 .head-field .ensures) (p5 .field .ensures) (p2 .set-field .ensures)
+    (λ e. registered-tail (a .at) (a .crs) (a .base) (a .auto-link) (a .w .now) (p7 .head-field .ensures) (p5 .field .ensures)
+    (p2 .set-field .ensures)
     (e .0 .left) (e .5 ∙ e .2 .ensures))
     (p4 .if1 .came)
 

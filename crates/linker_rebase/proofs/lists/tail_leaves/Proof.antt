@@ -21,7 +21,8 @@ returns c =
     let p6 = p2 .before .before .before .before in
     let p10 = p6 .before .before .before .before in
     let p13 = p10 .before .before .before in
-    tail-left (p13 .args .at) (p13 .args .crs) (p13 .args .base) (p13 .args .previous) (p13 .args .w .now) (p10 .set-field .ensures) (p6 .new-tail .ensures)
+    let a = p13 .args in
+    tail-left (a .at) (a .crs) (a .base) (a .previous) (a .w .now) (p10 .set-field .ensures) (p6 .new-tail .ensures)
     (p2 .new-tail2 .ensures)
 
 pub tail-leaves-spec : {M : Type 1} → statement M

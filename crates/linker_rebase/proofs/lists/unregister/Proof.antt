@@ -18,7 +18,8 @@ returns c =
     let p1 = c .before in
     let p3 = p1 .before .before in
     let p6 = p3 .before .before .before in
-    in-no-list (p6 .args .at) (p6 .args .crs) (p6 .args .base) (p6 .args .w .now) (p3 .field .ensures) (p1 .field2 .ensures) (c .if1 .taken)
+    let a = p6 .args in
+    in-no-list (a .at) (a .crs) (a .base) (a .w .now) (p3 .field .ensures) (p1 .field2 .ensures) (c .if1 .taken)
 
 leaves-requires : tie.Need-leaves-requires
 leaves-requires c κs = search needs
@@ -41,7 +42,8 @@ returns-2 c =
     let p13 = p12 .before in
     let p15 = p13 .before .before in
     let p18 = p15 .before .before .before in
-    unregistered (p18 .args .at) (p18 .args .crs) (p18 .args .base) (p18 .args .w .now) (p15 .field .ensures) (p13 .field2 .ensures) (p12 .if1 .left) (p10 .leaves .ensures)
+    let a = p18 .args in
+    unregistered (a .at) (a .crs) (a .base) (a .w .now) (p15 .field .ensures) (p13 .field2 .ensures) (p12 .if1 .left) (p10 .leaves .ensures)
     (p6 .set-field .ensures) (p2 .set-field2 .ensures)
 
 pub unregister-spec : {M : Type 1} → statement M

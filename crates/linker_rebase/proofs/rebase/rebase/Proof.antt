@@ -21,8 +21,9 @@ returns c =
     let p1 = c .before in
     let p2 = p1 .before in
     let p5 = p2 .before .before .before in
-    let l = p5 .args .lent in
-    rebase-not (p5 .args .at) (l .base) (moveSegments l) (p5 .args .w .now) (p2 .field .ensures) (p1 .is-magic .ensures) (c .if1 .taken)
+    let a = p5 .args in
+    let l = a .lent in
+    rebase-not (a .at) (l .base) (moveSegments l) (a .w .now) (p2 .field .ensures) (p1 .is-magic .ensures) (c .if1 .taken)
 
 move-header-requires : tie.Need-move-header-requires
 move-header-requires c κs = search needs
@@ -48,8 +49,9 @@ returns-2 c =
     let p11 = p10 .before in
     let p12 = p11 .before in
     let p15 = p12 .before .before .before in
-    let l = p15 .args .lent in
-    rebase-bad (p15 .args .at) (l .base) (moveSegments l) (p15 .args .w .now) (p12 .field .ensures) (p11 .is-magic .ensures) (p10 .if1 .left)
+    let a = p15 .args in
+    let l = a .lent in
+    rebase-bad (a .at) (l .base) (moveSegments l) (a .w .now) (p12 .field .ensures) (p11 .is-magic .ensures) (p10 .if1 .left)
     (p8 .move-header .ensures) (p4 .move-segments .ensures) (c .enum-told .given .1)
 
 relocate-requires : tie.Need-relocate-requires
@@ -69,8 +71,9 @@ returns-3 c =
     let p16 = p15 .before in
     let p17 = p16 .before in
     let p20 = p17 .before .before .before in
-    let l = p20 .args .lent in
-    rebase-good (p20 .args .at) (l .base) (moveSegments l) (p20 .args .w .now) (p17 .field .ensures) (p16 .is-magic .ensures) (p15 .if1 .left)
+    let a = p20 .args in
+    let l = a .lent in
+    rebase-good (a .at) (l .base) (moveSegments l) (a .w .now) (p17 .field .ensures) (p16 .is-magic .ensures) (p15 .if1 .left)
     (p13 .move-header .ensures) (p9 .move-segments .ensures) (p5 .old .given .1) (p2 .relocate .ensures)
 
 pub rebase-spec : {M : Type 1} → statement M

@@ -25,7 +25,8 @@ returns c =
     let p2 = p1 .before in
     let p5 = p2 .before .before .before in
     let a = p5 .args in
-    rebase-not (a .at) (a .base) (lookAtSegments (a .base) >> ret (OldPlace 0)) (a .w .now) (p2 .field .ensures) (p1 .is-magic .ensures) (c .if1 .taken)
+    rebase-not (a .at) (a .base) (lookAtSegments (a .base) >> ret (OldPlace 0)) (a .w .now) (p2 .field .ensures) (p1 .is-magic .ensures)
+    (c .if1 .taken)
 
 move-header-requires : tie.Need-move-header-requires
 move-header-requires c κs = search needs
@@ -46,7 +47,8 @@ returns-2 c =
     let p10 = p9 .before in
     let p13 = p10 .before .before .before in
     let a = p13 .args in
-    rebase-good (a .at) (a .base) (lookAtSegments (a .base) >> ret (OldPlace 0)) (a .w .now) (p10 .field .ensures) (p9 .is-magic .ensures) (p8 .if1 .left)
+    rebase-good (a .at) (a .base) (lookAtSegments (a .base) >> ret (OldPlace 0)) (a .w .now) (p10 .field .ensures) (p9 .is-magic .ensures)
+    (p8 .if1 .left)
     (p6 .move-header .ensures) (looked-at (a .at) (a .base) _) refl (p2 .relocate .ensures)
 
 pub rebase-static-spec : {M : Type 1} → statement M

@@ -18,7 +18,8 @@ returns c =
     let p2 = c .before .before in
     let p6 = p2 .before .before .before .before in
     let p9 = p6 .before .before .before in
-    relocated (p9 .args .at) (p9 .args .base) (p9 .args .old) (p9 .args .w .now) (p6 .move-tables .ensures) (p2 .apply-internal-relocations .ensures)
+    let a = p9 .args in
+    relocated (a .at) (a .base) (a .old) (a .w .now) (p6 .move-tables .ensures) (p2 .apply-internal-relocations .ensures)
 
 pub relocate-spec : {M : Type 1} → statement M
 relocate-spec =

@@ -7,7 +7,8 @@ use Rattle.linker_rebase.proofs.segments.lent_place.Tie as tie
 returns : tie.Need-returns
 returns c =
     let p2 = c .before .before in
-    lent-refused (p2 .args .s) (p2 .args .address) (p2 .args .size) (p2 .args .old) (c .if1 .taken)
+    let a = p2 .args in
+    lent-refused (a .s) (a .address) (a .size) (a .old) (c .if1 .taken)
 
 at-offset-requires : tie.Need-at-offset-requires
 at-offset-requires c κs = search needs
@@ -16,7 +17,8 @@ returns-2 : tie.Need-returns-2
 returns-2 c =
     let p1 = c .before in
     let p3 = p1 .before .before in
-    lent-put (p3 .args .s) (p3 .args .address) (p3 .args .size) (p3 .args .old) (p1 .if1 .left) (c .at-offset .ensures)
+    let a = p3 .args in
+    lent-put (a .s) (a .address) (a .size) (a .old) (p1 .if1 .left) (c .at-offset .ensures)
 
 pub lent-place-spec : {M : Type 1} → statement M
 lent-place-spec = tie.close (tie.spec returns at-offset-requires returns-2)

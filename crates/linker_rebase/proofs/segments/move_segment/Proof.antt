@@ -21,7 +21,8 @@ returns : tie.Need-returns
 returns c =
     let p2 = c .before .before in
     let p5 = p2 .before .before .before in
-    segment-passed (p5 .args .at) (p5 .args .lent) (p5 .args .index) (p5 .args .old) (p5 .args .w .now) (sym (p2 .segment .ensures) ∙ c .enum-told .given .1)
+    let a = p5 .args in
+    segment-passed (a .at) (a .lent) (a .index) (a .old) (a .w .now) (sym (p2 .segment .ensures) ∙ c .enum-told .given .1)
 
 place-requires : tie.Need-place-requires
 place-requires c κs = search needs
@@ -39,7 +40,8 @@ returns-2 c =
     let p6 = p3 .before .before .before in
     let p8 = p6 .before .before in
     let p11 = p8 .before .before .before in
-    segment-moved (p11 .args .at) (p11 .args .lent) (p11 .args .index) (p11 .args .old) (p11 .args .w .now) (sym (p8 .segment .ensures) ∙ p6 .s .given .1)
+    let a = p11 .args in
+    segment-moved (a .at) (a .lent) (a .index) (a .old) (a .w .now) (sym (p8 .segment .ensures) ∙ p6 .s .given .1)
     (p3 .place .ensures) (p2 .write-back .ensures)
 
 pub move-segment-spec : {M : Type 1} → statement M

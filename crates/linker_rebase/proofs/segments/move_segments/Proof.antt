@@ -29,7 +29,8 @@ field-requires c κs = search needs
 loop-holds : tie.Need-loop-holds Inv-loop μ-loop
 loop-holds c =
     let p3 = c .before .before .before in
-    (omega arith, refl, segments-start (p3 .args .at) (p3 .args .lent) (p3 .args .w .now) (c .field .ensures))
+    let a = p3 .args in
+    (omega arith, refl, segments-start (a .at) (a .lent) (a .w .now) (c .field .ensures))
 
 move-segment-requires : tie.Need-move-segment-requires Inv-loop μ-loop
 move-segment-requires c κs = search needs
@@ -53,7 +54,8 @@ returns c =
     let p7 = p6 .before in
     let p8 = p7 .before in
     let p11 = p8 .before .before .before in
-    segments-refused (p11 .args .at) (p11 .args .lent) (p7 .loop .w) (p7 .loop .index) (p8 .field .result) (OldPlace (p7 .loop .old)) (p7 .loop .inv .2)
+    let a = p11 .args in
+    segments-refused (a .at) (a .lent) (p7 .loop .w) (p7 .loop .index) (p8 .field .result) (OldPlace (p7 .loop .old)) (p7 .loop .inv .2)
     (p6 .loop-test .taken) (p4 .move-segment .ensures) (c .enum-told .given .1)
 
 add-index : tie.Need-add-index Inv-loop μ-loop
@@ -69,10 +71,11 @@ loop-again c =
     let p7 = p5 .before .before in
     let p8 = p7 .before in
     let p9 = p8 .before in
-    let p12 = p9 .before .before .before in (
+    let p12 = p9 .before .before .before in
+    let a = p12 .args in (
       omega arith,
       p5 .move-segment .kept .1 .0 ∙ p8 .loop .inv .1,
-      turn-made (p12 .args .at) (moveSegment (p12 .args .lent)) (p8 .loop .index) (p9 .field .result) (OldPlace (p8 .loop .old)) (p8 .loop .w)
+      turn-made (a .at) (moveSegment (a .lent)) (p8 .loop .index) (p9 .field .result) (OldPlace (p8 .loop .old)) (p8 .loop .w)
           (p8 .loop .inv .2) (p7 .loop-test .taken)
           (pair≡ (sym (p1 .next .given .1)) refl ∙ p5 .move-segment .ensures),
     )
@@ -87,7 +90,8 @@ returns-2 c =
     let p1 = c .before in
     let p2 = p1 .before in
     let p5 = p2 .before .before .before in
-    turns-over (p5 .args .at) (moveSegment (p5 .args .lent)) (p1 .loop .index) (p2 .field .result) (OldPlace (p1 .loop .old)) (p1 .loop .w)
+    let a = p5 .args in
+    turns-over (a .at) (moveSegment (a .lent)) (p1 .loop .index) (p2 .field .result) (OldPlace (p1 .loop .old)) (p1 .loop .w)
     (p1 .loop .inv .2) (c .loop-test .left)
 
 pub move-segments-spec : {M : Type 1} → statement M

@@ -7,7 +7,8 @@ use Rattle.linker_rebase.proofs.segments.moved_place.Tie as tie
 returns : tie.Need-returns
 returns c =
     let p2 = c .before .before in
-    moved-none (p2 .args .lent) (p2 .args .s) (p2 .args .old) (c .if1 .taken)
+    let a = p2 .args in
+    moved-none (a .lent) (a .s) (a .old) (c .if1 .taken)
 
 wrapping-add-u32-requires : tie.Need-wrapping-add-u32-requires
 wrapping-add-u32-requires c κs = search needs
@@ -21,7 +22,8 @@ returns-2 c =
     let p2 = p1 .before in
     let p3 = p2 .before in
     let p5 = p3 .before .before in
-    moved-refused (p5 .args .lent) (p5 .args .s) (p5 .args .old) (p3 .if1 .left) (p2 .wrapping-add-u32 .ensures) (p1 .wrapping-add-u322 .ensures) (c .if2 .taken)
+    let a = p5 .args in
+    moved-refused (a .lent) (a .s) (a .old) (p3 .if1 .left) (p2 .wrapping-add-u32 .ensures) (p1 .wrapping-add-u322 .ensures) (c .if2 .taken)
 
 at-offset-requires : tie.Need-at-offset-requires
 at-offset-requires c κs = search needs
@@ -33,7 +35,8 @@ returns-3 c =
     let p3 = p2 .before in
     let p4 = p3 .before in
     let p6 = p4 .before .before in
-    moved-put (p6 .args .lent) (p6 .args .s) (p6 .args .old) (p4 .if1 .left) (p3 .wrapping-add-u32 .ensures) (p2 .wrapping-add-u322 .ensures) (p1 .if2 .left)
+    let a = p6 .args in
+    moved-put (a .lent) (a .s) (a .old) (p4 .if1 .left) (p3 .wrapping-add-u32 .ensures) (p2 .wrapping-add-u322 .ensures) (p1 .if2 .left)
     (c .at-offset .ensures)
 
 pub moved-place-spec : {M : Type 1} → statement M

@@ -27,7 +27,8 @@ returns c =
     let p1 = c .before in
     let p3 = p1 .before .before in
     let p5 = p3 .before .before in
-    place-no-data (p5 .args .lent) (p5 .args .s) (p5 .args .old) (p3 .enum-told3 .given .1) (p1 .if1 .taken) (c .moved-place3 .ensures)
+    let a = p5 .args in
+    place-no-data (a .lent) (a .s) (a .old) (p3 .enum-told3 .given .1) (p1 .if1 .taken) (c .moved-place3 .ensures)
 
 wrapping-add-u32-requires : tie.Need-wrapping-add-u32-requires
 wrapping-add-u32-requires c κs = search needs
@@ -46,7 +47,8 @@ returns-2 c =
     let p1 = c .before in
     let p3 = p1 .before .before in
     let p5 = p3 .before .before in
-    place-no-bss (p5 .args .lent) (p5 .args .s) (p5 .args .old) (p3 .enum-told4 .given .1) (p1 .if2 .taken) (c .moved-place4 .ensures)
+    let a = p5 .args in
+    place-no-bss (a .lent) (a .s) (a .old) (p3 .enum-told4 .given .1) (p1 .if2 .taken) (c .moved-place4 .ensures)
 
 lent-place-requires-2 : tie.Need-lent-place-requires-2
 lent-place-requires-2 c κs = search needs
@@ -55,13 +57,15 @@ returns-3 : tie.Need-returns-3
 returns-3 c =
     let p1 = c .before in
     let p3 = p1 .before .before in
-    place-code (p3 .args .lent) (p3 .args .s) (p3 .args .old) (p1 .enum-told .given .1) (c .moved-place .ensures)
+    let a = p3 .args in
+    place-code (a .lent) (a .s) (a .old) (p1 .enum-told .given .1) (c .moved-place .ensures)
 
 returns-4 : tie.Need-returns-4
 returns-4 c =
     let p1 = c .before in
     let p3 = p1 .before .before in
-    place-rodata (p3 .args .lent) (p3 .args .s) (p3 .args .old) (p1 .enum-told2 .given .1) (c .moved-place2 .ensures)
+    let a = p3 .args in
+    place-rodata (a .lent) (a .s) (a .old) (p1 .enum-told2 .given .1) (c .moved-place2 .ensures)
 
 returns-5 : tie.Need-returns-5
 returns-5 c =
@@ -69,14 +73,16 @@ returns-5 c =
     let p2 = p1 .before in
     let p4 = p2 .before .before in
     let p6 = p4 .before .before in
-    place-data (p6 .args .lent) (p6 .args .s) (p6 .args .old) (p4 .enum-told3 .given .1) (p2 .if1 .left) (p1 .wrapping-add-u32 .ensures) (c .lent-place .ensures)
+    let a = p6 .args in
+    place-data (a .lent) (a .s) (a .old) (p4 .enum-told3 .given .1) (p2 .if1 .left) (p1 .wrapping-add-u32 .ensures) (c .lent-place .ensures)
 
 returns-6 : tie.Need-returns-6
 returns-6 c =
     let p1 = c .before in
     let p3 = p1 .before .before in
     let p5 = p3 .before .before in
-    place-bss (p5 .args .lent) (p5 .args .s) (p5 .args .old) (p3 .enum-told4 .given .1) (p1 .if2 .left) (c .lent-place2 .ensures)
+    let a = p5 .args in
+    place-bss (a .lent) (a .s) (a .old) (p3 .enum-told4 .given .1) (p1 .if2 .left) (c .lent-place2 .ensures)
 
 pub place-spec : {M : Type 1} → statement M
 place-spec =

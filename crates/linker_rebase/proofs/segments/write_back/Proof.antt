@@ -13,7 +13,8 @@ enum-told c = search needs
 returns : tie.Need-returns
 returns c =
     let p3 = c .before .before .before in
-    back-refused (p3 .args .at) (p3 .args .base) (p3 .args .index) (p3 .args .w .now) (c .enum-told .given .1)
+    let a = p3 .args in
+    back-refused (a .at) (a .base) (a .index) (a .w .now) (c .enum-told .given .1)
 
 set-segment-requires : tie.Need-set-segment-requires
 set-segment-requires c κs = search needs
@@ -26,7 +27,8 @@ returns-2 c =
     let p2 = c .before .before in
     let p5 = p2 .before .before .before in
     let p8 = p5 .before .before .before in
-    back-put (p8 .args .at) (p8 .args .base) (p8 .args .index) (p8 .args .w .now) (p5 .placed .given .1) (p2 .set-segment .ensures)
+    let a = p8 .args in
+    back-put (a .at) (a .base) (a .index) (a .w .now) (p5 .placed .given .1) (p2 .set-segment .ensures)
 
 pub write-back-spec : {M : Type 1} → statement M
 write-back-spec =

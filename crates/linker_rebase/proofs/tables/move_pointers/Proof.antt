@@ -25,7 +25,8 @@ returns-2 c =
     let p5 = p4 .before in
     let p10 = p5 .before .before .before .before .before in
     let a = p10 .args in
-    pointers-1 (a .at) (a .forward) (a .base) (a .entry) (a .w .now) (a .t) (p5 .wrapping-add-u32 .ensures) (p4 .move-word .ensures) (c .if2 .taken)
+    pointers-1 (a .at) (a .forward) (a .base) (a .entry) (a .w .now) (a .t) (p5 .wrapping-add-u32 .ensures) (p4 .move-word .ensures)
+    (c .if2 .taken)
 
 wrapping-add-u32-requires-2 : tie.Need-wrapping-add-u32-requires-2
 wrapping-add-u32-requires-2 c κs = search needs

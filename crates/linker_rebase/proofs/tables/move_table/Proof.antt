@@ -75,8 +75,10 @@ loop-again c =
     let a = p13 .args in (
       omega arith,
       p2 .move-pointers .kept .1 .0 ∙ p6 .loop .inv .1,
-      step-made (a .at) (λ e. movePointers (a .forward) (a .base) e (pointersOf (a .t))) (λ i. entryAt (p10 .field .result) i (a .t .«entry_size»))
-          (p6 .loop .index) (p8 .field2 .result) (p6 .loop .w) (p6 .loop .inv .2) (p5 .loop-test .taken) (p4 .entry-address .ensures) (p2 .move-pointers .ensures),
+      step-made (a .at) (λ e. movePointers (a .forward) (a .base) e (pointersOf (a .t))) (λ i. entryAt (p10 .field .result) i
+          (a .t .«entry_size»))
+          (p6 .loop .index) (p8 .field2 .result) (p6 .loop .w) (p6 .loop .inv .2) (p5 .loop-test .taken) (p4 .entry-address .ensures)
+          (p2 .move-pointers .ensures),
     )
 
 same-length-2 : tie.Need-same-length-2 Inv-loop μ-loop

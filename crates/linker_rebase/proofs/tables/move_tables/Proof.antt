@@ -41,10 +41,11 @@ loop-again c =
     let p3 = p2 .before in
     let p5 = p3 .before .before in
     let p6 = p5 .before in
-    let p8 = p6 .before .before in (
+    let p8 = p6 .before .before in
+    let a = p8 .args in (
       omega arith,
       p2 .move-table .kept .1 .0 ∙ p6 .loop .inv .1,
-      tables-turn (p8 .args .at) (p8 .args .forward) (p8 .args .base) (p6 .loop .i) (p6 .loop .w) (p6 .loop .inv .2) (p5 .loop-test .taken)
+      tables-turn (a .at) (a .forward) (a .base) (p6 .loop .i) (p6 .loop .w) (p6 .loop .inv .2) (p5 .loop-test .taken)
           (p3 .pointer-table .ensures) (p2 .move-table .ensures),
     )
 
@@ -57,7 +58,8 @@ returns : tie.Need-returns Inv-loop μ-loop
 returns c =
     let p1 = c .before in
     let p3 = p1 .before .before in
-    tables-over (p3 .args .at) (p3 .args .forward) (p3 .args .base) (p1 .loop .i) (p1 .loop .w) (p1 .loop .inv .2) (c .loop-test .left)
+    let a = p3 .args in
+    tables-over (a .at) (a .forward) (a .base) (p1 .loop .i) (p1 .loop .w) (p1 .loop .inv .2) (c .loop-test .left)
 
 pub move-tables-spec : {M : Type 1} → statement M
 move-tables-spec =

@@ -42,27 +42,31 @@ returns c =
     let p1 = c .before in
     let p2 = p1 .before in
     let p4 = p2 .before .before in
-    leaves-code (p4 .args .base) (p4 .args .s) (p1 .offset-back .ensures) (c .at-offset .ensures) (p2 .enum-told .given .1)
+    let a = p4 .args in
+    leaves-code (a .base) (a .s) (p1 .offset-back .ensures) (c .at-offset .ensures) (p2 .enum-told .given .1)
 
 returns-2 : tie.Need-returns-2
 returns-2 c =
     let p1 = c .before in
     let p2 = p1 .before in
     let p4 = p2 .before .before in
-    leaves-rodata (p4 .args .base) (p4 .args .s) (p1 .offset-back2 .ensures) (c .at-offset2 .ensures) (p2 .enum-told2 .given .1)
+    let a = p4 .args in
+    leaves-rodata (a .base) (a .s) (p1 .offset-back2 .ensures) (c .at-offset2 .ensures) (p2 .enum-told2 .given .1)
 
 returns-3 : tie.Need-returns-3
 returns-3 c =
     let p1 = c .before in
     let p2 = p1 .before in
     let p4 = p2 .before .before in
-    leaves-data (p4 .args .base) (p4 .args .s) (p1 .offset-back3 .ensures) (c .at-offset3 .ensures) (p2 .enum-told3 .given .1)
+    let a = p4 .args in
+    leaves-data (a .base) (a .s) (p1 .offset-back3 .ensures) (c .at-offset3 .ensures) (p2 .enum-told3 .given .1)
 
 returns-4 : tie.Need-returns-4
 returns-4 c =
     let p1 = c .before in
     let p3 = p1 .before .before in
-    leaves-bss (p3 .args .base) (p3 .args .s) (c .at-offset4 .ensures) (p1 .enum-told4 .given .1)
+    let a = p3 .args in
+    leaves-bss (a .base) (a .s) (c .at-offset4 .ensures) (p1 .enum-told4 .given .1)
 
 pub leaves-as-spec : {M : Type 1} → statement M
 leaves-as-spec =

@@ -21,7 +21,8 @@ returns : tie.Need-returns
 returns c =
     let p2 = c .before .before in
     let p5 = p2 .before .before .before in
-    unmove-passed (p5 .args .at) (p5 .args .base) (p5 .args .index) (p5 .args .w .now) (sym (p2 .segment .ensures) ∙ c .enum-told .given .1)
+    let a = p5 .args in
+    unmove-passed (a .at) (a .base) (a .index) (a .w .now) (sym (p2 .segment .ensures) ∙ c .enum-told .given .1)
 
 leaves-as-requires : tie.Need-leaves-as-requires
 leaves-as-requires c κs = search needs
@@ -39,7 +40,8 @@ returns-2 c =
     let p6 = p3 .before .before .before in
     let p8 = p6 .before .before in
     let p11 = p8 .before .before .before in
-    unmoved (p11 .args .at) (p11 .args .base) (p11 .args .index) (p11 .args .w .now) (sym (p8 .segment .ensures) ∙ p6 .s .given .1) (p3 .leaves-as .ensures)
+    let a = p11 .args in
+    unmoved (a .at) (a .base) (a .index) (a .w .now) (sym (p8 .segment .ensures) ∙ p6 .s .given .1) (p3 .leaves-as .ensures)
     (p2 .set-segment .ensures)
 
 pub unmove-segment-spec : {M : Type 1} → statement M

@@ -27,7 +27,8 @@ field-requires c κs = search needs
 loop-holds : tie.Need-loop-holds Inv-loop μ-loop
 loop-holds c =
     let p3 = c .before .before .before in
-    (omega arith, refl, unmove-starts (p3 .args .at) (p3 .args .base) (p3 .args .w .now) (c .field .ensures))
+    let a = p3 .args in
+    (omega arith, refl, unmove-starts (a .at) (a .base) (a .w .now) (c .field .ensures))
 
 unmove-segment-requires : tie.Need-unmove-segment-requires Inv-loop μ-loop
 unmove-segment-requires c κs = search needs
@@ -44,10 +45,11 @@ loop-again c =
     let p4 = p2 .before .before in
     let p5 = p4 .before in
     let p6 = p5 .before in
-    let p9 = p6 .before .before .before in (
+    let p9 = p6 .before .before .before in
+    let a = p9 .args in (
       omega arith,
       p2 .unmove-segment .kept .1 .0 ∙ p5 .loop .inv .1,
-      step-made (p9 .args .at) (unmoveSegment (p9 .args .base)) (λ i. i) (p5 .loop .index) (p6 .field .result) (p5 .loop .w) (p5 .loop .inv .2)
+      step-made (a .at) (unmoveSegment (a .base)) (λ i. i) (p5 .loop .index) (p6 .field .result) (p5 .loop .w) (p5 .loop .inv .2)
           (p4 .loop-test .taken) refl (p2 .unmove-segment .ensures),
     )
 
@@ -61,7 +63,9 @@ returns c =
     let p1 = c .before in
     let p2 = p1 .before in
     let p5 = p2 .before .before .before in
-    steps-over (p5 .args .at) (unmoveSegment (p5 .args .base)) (λ i. i) (p1 .loop .index) (p2 .field .result) (p1 .loop .w) (p1 .loop .inv .2) (c .loop-test .left)
+    let a = p5 .args in
+    steps-over (a .at) (unmoveSegment (a .base)) (λ i. i) (p1 .loop .index) (p2 .field .result) (p1 .loop .w) (p1 .loop .inv .2)
+    (c .loop-test .left)
 
 pub unmove-segments-spec : {M : Type 1} → statement M
 unmove-segments-spec =

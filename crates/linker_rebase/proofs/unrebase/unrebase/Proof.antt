@@ -26,7 +26,8 @@ returns c =
     let p10 = p6 .before .before .before .before in
     let p14 = p10 .before .before .before .before in
     let p17 = p14 .before .before .before in
-    unrebased (p17 .args .at) (p17 .args .base) (p17 .args .w .now) (p14 .move-tables .ensures) (p10 .unmove-segments .ensures) (p6 .move-header .ensures)
+    let a = p17 .args in
+    unrebased (a .at) (a .base) (a .w .now) (p14 .move-tables .ensures) (p10 .unmove-segments .ensures) (p6 .move-header .ensures)
     (p2 .set-field .ensures)
 
 pub unrebase-spec : {M : Type 1} → statement M

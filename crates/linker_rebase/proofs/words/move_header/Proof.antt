@@ -57,10 +57,11 @@ loop-again c =
     let p4 = p2 .before .before in
     let p5 = p4 .before in
     let p6 = p5 .before in
-    let p13 = p6 .before .before .before .before .before .before .before in (
+    let p13 = p6 .before .before .before .before .before .before .before in
+    let a = p13 .args in (
       omega arith,
       p2 .move-word2 .kept .1 .0 ∙ p6 .loop .inv .1,
-      step-made (p13 .args .at) (moveWord (p13 .args .forward) (p13 .args .base)) (λ i. p13 .args .base ⊕ (firstRebased + 8 * i)) (p6 .loop .i) 17 (p6 .loop .w)
+      step-made (a .at) (moveWord (a .forward) (a .base)) (λ i. a .base ⊕ (firstRebased + 8 * i)) (p6 .loop .i) 17 (p6 .loop .w)
           (p6 .loop .inv .2) (p5 .loop-test .taken) (p4 .wrapping-add-u322 .ensures) (p2 .move-word2 .ensures),
     )
 
@@ -76,9 +77,10 @@ returns c =
     let p4 = p1 .before .before .before in
     let p5 = p4 .before in
     let p8 = p5 .before .before .before in
-    steps-over (p8 .args .at) (moveWord (p8 .args .forward) (p8 .args .base)) (λ i. p8 .args .base ⊕ (firstRebased + 8 * i)) (p1 .loop .i) 17 (p1 .loop .w)
+    let a = p8 .args in
+    steps-over (a .at) (moveWord (a .forward) (a .base)) (λ i. a .base ⊕ (firstRebased + 8 * i)) (p1 .loop .i) 17 (p1 .loop .w)
     (p1 .loop .inv .2) (c .loop-test .left)
-    ∙ ap left (header-starts (p8 .args .at) (p8 .args .forward) (p8 .args .base) (p8 .args .w .now) (p5 .wrapping-add-u32 .ensures) (p4 .move-word .ensures))
+    ∙ ap left (header-starts (a .at) (a .forward) (a .base) (a .w .now) (p5 .wrapping-add-u32 .ensures) (p4 .move-word .ensures))
 
 pub move-header-spec : {M : Type 1} → statement M
 move-header-spec =

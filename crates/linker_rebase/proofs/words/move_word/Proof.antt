@@ -14,7 +14,8 @@ returns : tie.Need-returns
 returns c =
     let p1 = c .before in
     let p4 = p1 .before .before .before in
-    word-kept (p4 .args .at) (p4 .args .forward) (p4 .args .base) (p4 .args .p) (p4 .args .w .now) (p1 .read32 .ensures) (c .if1 .taken)
+    let a = p4 .args in
+    word-kept (a .at) (a .forward) (a .base) (a .p) (a .w .now) (p1 .read32 .ensures) (c .if1 .taken)
 
 moved-requires : tie.Need-moved-requires
 moved-requires c κs = search needs
@@ -32,7 +33,8 @@ returns-2 c =
     let p5 = p3 .before .before in
     let p6 = p5 .before in
     let p9 = p6 .before .before .before in
-    word-moved (p9 .args .at) (p9 .args .forward) (p9 .args .base) (p9 .args .p) (p9 .args .w .now) (p6 .read32 .ensures) (p5 .if1 .left) (p3 .moved .ensures)
+    let a = p9 .args in
+    word-moved (a .at) (a .forward) (a .base) (a .p) (a .w .now) (p6 .read32 .ensures) (p5 .if1 .left) (p3 .moved .ensures)
     (p2 .write32 .ensures)
 
 pub move-word-spec : {M : Type 1} → statement M

@@ -11,7 +11,8 @@ returns : tie.Need-returns
 returns c =
     let p1 = c .before in
     let p2 = p1 .before in
-    moved-forward (p2 .args .base) (p2 .args .value) (p1 .if1 .taken) (c .wrapping-add-u32 .ensures)
+    let a = p2 .args in
+    moved-forward (a .base) (a .value) (p1 .if1 .taken) (c .wrapping-add-u32 .ensures)
 
 wrapping-sub-u32-requires : tie.Need-wrapping-sub-u32-requires
 wrapping-sub-u32-requires c κs = search needs
@@ -20,7 +21,8 @@ returns-2 : tie.Need-returns-2
 returns-2 c =
     let p1 = c .before in
     let p2 = p1 .before in
-    moved-back (p2 .args .base) (p2 .args .value) (p1 .if1 .left) (search needs) (c .wrapping-sub-u32 .ensures)
+    let a = p2 .args in
+    moved-back (a .base) (a .value) (p1 .if1 .left) (search needs) (c .wrapping-sub-u32 .ensures)
 
 pub moved-spec : {M : Type 1} → statement M
 moved-spec =
