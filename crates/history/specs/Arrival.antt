@@ -18,7 +18,8 @@ use Rattle.layout.specs.declared.segments.FoundSegment.the-variants.{Found, Mis
 use Rattle.layout.specs.declared.segments.Address.{Address}
 use Rattle.layout.specs.declared.segments.Address.the-variants.{At, Nowhere}
 use Rattle.register.specs.Words.{same}
-use Rattle.linker.specs.Rebase.{Lent, at-offset}
+use Rattle.linker.specs.Rebase.{at-offset}
+use Rattle.linker.specs.declared.rebase.Lent.{Lent}
 use Rattle.linker.specs.Relocation.{addressOr0}
 use Rattle.history.specs.Image.{segments, namedExports, indexedExports, count, entry, nameOf, fileSegment}
 
@@ -52,8 +53,8 @@ movedOffset base x = if eqb x 0 then 0 else x ⊕ base
 unfoldable pub loadedPlace : Lent → Segment → SegmentType → ℕ
 loadedPlace l s Code = movedOffset (l .base) (s .offset)
 loadedPlace l s RoData = movedOffset (l .base) (s .offset)
-loadedPlace l s Data = if eqb (s .size) 0 then movedOffset (l .base) (s .offset) else l .data-at
-loadedPlace l s Bss = if eqb (s .size) 0 then movedOffset (l .base) (s .offset) else l .bss-at
+loadedPlace l s Data = if eqb (s .size) 0 then movedOffset (l .base) (s .offset) else l .«data_at»
+loadedPlace l s Bss = if eqb (s .size) 0 then movedOffset (l .base) (s .offset) else l .«bss_at»
 
 -- "segments placed as that call's steps place them"; "`initialize` neither changes nor checks segments"
 unfoldable pub placeOf : Coming → Segment → ℕ
@@ -104,7 +105,7 @@ module _ (m : Image) where
   unfoldable pub Lent-area : Coming → ℕ → Type 0
   Lent-area (initialized base size) q =
       (i : ℕ) × (i < count F segments) × In (segmentPlace i) (fileSegment F i .size) q
-  Lent-area (loaded l auto level) q = In (l .data-at) (l .data-size) q ⊎ In (l .bss-at) (l .bss-size) q
+  Lent-area (loaded l auto level) q = In (l .«data_at») (l .«data_size») q ⊎ In (l .«bss_at») (l .«bss_size») q
 
   unfoldable pub Area : ℕ → Type 0
   Area q = In (baseOf (m .coming)) (sizeOf (m .coming)) q ⊎ Lent-area (m .coming) q

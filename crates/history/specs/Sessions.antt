@@ -11,7 +11,7 @@ use Rattle.window.specs.Within.{Agree}
 use Rattle.register.specs.declared.words.Crs.the-variants.{Unknown}
 use Rattle.register.specs.Module.{Module, Register}
 use Rattle.register_read.specs.Read.{addressOf}
-use Rattle.linker.specs.Rebase.{Lent}
+use Rattle.linker.specs.declared.rebase.Lent.{Lent}
 use Rattle.linker.specs.Outcome.{Bytes, Outcome, initializeOutcome, loadOutcome, unloadOutcome}
 use Rattle.linker.specs.Refusals.{lentRegister}
 use Rattle.linker.specs.Valid.{Valid, AreBytes}
@@ -91,8 +91,8 @@ Fresh b = Valid b → (lentRegister b .modules ≡ []) × (lentRegister b .crs �
 unfoldable pub Words : Call → Type 0
 Words (initialize base size) = (base < 2 ^ 32) × (size < 2 ^ 32)
 Words (load l auto level) =
-    (l .base < 2 ^ 32) × (l .size < 2 ^ 32) × (l .data-at < 2 ^ 32) × (l .data-size < 2 ^ 32) × (l .bss-at < 2 ^ 32)
-    × (l .bss-size < 2 ^ 32) × (auto < 2 ^ 32) × (level < 2 ^ 32)
+    (l .base < 2 ^ 32) × (l .size < 2 ^ 32) × (l .«data_at» < 2 ^ 32) × (l .«data_size» < 2 ^ 32) × (l .«bss_at» < 2 ^ 32)
+    × (l .«bss_size» < 2 ^ 32) × (auto < 2 ^ 32) × (level < 2 ^ 32)
 Words (unload base) = base < 2 ^ 32
 
 -- and what is lent are bytes

@@ -20,13 +20,22 @@ use Rattle.history_steps.specs.View.{Pointing, name-field, table-field, 
 pub field-bounds : (n : ℕ) → n < 9 → (0xc8 ≤ tableNumber n .field) × (tableNumber n .field + 8 ≤ 0x118)
 unfolding tables AllBelow
 field-bounds n l =
-    below (λ k. (0xc8 ≤ tableNumber k .field) × (tableNumber k .field + 8 ≤ 0x118)) 9 n l
-    ((omega arith, omega arith),
-    ((omega arith, omega arith),
-    ((omega arith, omega arith),
-    ((omega arith, omega arith),
-    ((omega arith, omega arith),
-    ((omega arith, omega arith), ((omega arith, omega arith), ((omega arith, omega arith), ((omega arith, omega arith), tt)))))))))
+    below (λ k. (0xc8 ≤ tableNumber k .field) × (tableNumber k .field + 8 ≤ 0x118)) 9 n l (
+      (omega arith, omega arith),
+      (
+        (omega arith, omega arith),
+        (
+          (omega arith, omega arith),
+          (
+            (omega arith, omega arith),
+            (
+              (omega arith, omega arith),
+              ((omega arith, omega arith), ((omega arith, omega arith), ((omega arith, omega arith), ((omega arith, omega arith), tt)))),
+            ),
+          ),
+        ),
+      ),
+    )
 
 -- parts of different sorts or numbers are different
 abbrev pub sort : Part → ℕ
@@ -140,9 +149,10 @@ module _ (m : Image) (laid : WellLaid m) where
       go (inr g) = omega (arith, g .1, h .1)
   part-inside (string p) o h =
       let z = laid .alone .strings-inside p (h .0) (h .1) in
-      elim (decLt o (z .0))
-      [ yes l ↦ omega (arith, z .2)
-      | no l ↦ elim (decLt (z .0) o) [ yes g ↦ absurd (h .2 .1 (z .0) (z .1) g (z .3)) | no g ↦ omega (arith, z .2) ] ]
+      elim (decLt o (z .0)) [
+        | yes l ↦ omega (arith, z .2)
+        | no l ↦ elim (decLt (z .0) o) [ yes g ↦ absurd (h .2 .1 (z .0) (z .1) g (z .3)) | no g ↦ omega (arith, z .2) ]
+      ]
 
   pub image-area : (o : ℕ) → o < whole → Area m (base + o)
   unfolding Area

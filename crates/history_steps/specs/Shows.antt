@@ -61,12 +61,14 @@ dec-at Nowhere = no (λ h. absurd (omega (arith, ap (λ (x : Address). sortOf x)
 dec-below : (P : ℕ → Type 0) → ((j : ℕ) → Dec (P j)) → (n : ℕ) → Dec ((j : ℕ) × (j < n) × P j)
 dec-below P d zero = no (λ h. absurd (omega (arith, h .1)))
 dec-below P d (suc n) =
-    elim (d n)
-    [ yes h ↦ yes (n, omega arith, h)
-    | no h ↦
-      elim (dec-below P d n)
-      [ yes g ↦ yes (g .0, omega (arith, g .1), g .2)
-      | no g ↦ no (λ k. elim (ℕ-discrete (k .0) n) [ yes e ↦ h (rw e at (k .2)) | no e ↦ g (k .0, omega (arith, k .1, e), k .2) ]) ] ]
+    elim (d n) [
+      | yes h ↦ yes (n, omega arith, h)
+      | no h ↦
+          elim (dec-below P d n) [
+            | yes g ↦ yes (g .0, omega (arith, g .1), g .2)
+            | no g ↦ no (λ k. elim (ℕ-discrete (k .0) n) [ yes e ↦ h (rw e at (k .2)) | no e ↦ g (k .0, omega (arith, k .1, e), k .2) ])
+          ]
+    ]
 
 module _ (m : Image) where
   abbrev F : ℕ → ℕ
@@ -153,8 +155,8 @@ module _ (m : Image) where
           marks = λ i l. put4-off M p (valueOf j a p) (markAt i) (word-no-mark j p i h l) ∙ s .marks i l;
           nexts = λ k l. put4-off M p (valueOf j a p) (nextAt + k) (word-no-list j p (nextAt + k) h (omega arith, omega arith)) ∙ s .nexts k l;
           previouses =
-            λ k l.
-            put4-off M p (valueOf j a p) (previousAt + k) (word-no-list j p (previousAt + k) h (omega arith, omega arith)) ∙ s .previouses k l;
+              λ k l.
+              put4-off M p (valueOf j a p) (previousAt + k) (word-no-list j p (previousAt + k) h (omega arith, omega arith)) ∙ s .previouses k l;
           rest = λ q r o. put4-off M p (valueOf j a p) q (λ i. o (in-range Moving p 4 q i (λ k l. in-word j p k l h))) ∙ s .rest q r o;
         }
       where
@@ -175,8 +177,8 @@ module _ (m : Image) where
     put-mark {T} {σ} {μ} {n} {v} {M} j b h s =
         record {
           words =
-            λ i q k l g.
-            put1-off M (markAt j) b (q + k) (λ e. word-no-mark i q j g h (omega (arith, e), omega (arith, e))) ∙ s .words i q k l g;
+              λ i q k l g.
+              put1-off M (markAt j) b (q + k) (λ e. word-no-mark i q j g h (omega (arith, e), omega (arith, e))) ∙ s .words i q k l g;
           marks = λ i l. put i l (ℕ-discrete i j);
           nexts = λ k l. put1-off M (markAt j) b (nextAt + k) (λ e. absurd (omega (arith, e, mark-past j h))) ∙ s .nexts k l;
           previouses = λ k l. put1-off M (markAt j) b (previousAt + k) (λ e. absurd (omega (arith, e, mark-past j h))) ∙ s .previouses k l;
@@ -283,9 +285,10 @@ module _ (m : Image) where
         go (yes (j, l, (p, h, i))) b c = yes (in-range Moving p 4 q i (λ k g. in-word j p k g h))
         go (no a) (yes (j, l, e)) c = yes (rw e at (is-mark j l))
         go (no a) (no b) (yes i) =
-            elim (decLt q (nextAt + 4))
-            [ yes h ↦ yes (in-range Moving nextAt 4 q (omega arith, h) in-next)
-            | no h ↦ yes (in-range Moving previousAt 4 q (omega arith, omega arith) in-previous) ]
+            elim (decLt q (nextAt + 4)) [
+              | yes h ↦ yes (in-range Moving nextAt 4 q (omega arith, h) in-next)
+              | no h ↦ yes (in-range Moving previousAt 4 q (omega arith, omega arith) in-previous)
+            ]
         go (no a) (no b) (no c) = no none
           where
             none : Moving q → ⊥

@@ -86,16 +86,16 @@ module _ (m : Image) where
         kept-byte = λ o p. sym (g o (byte o p)) ∙ v .kept-byte o p;
         place = λ i l. sym (four M N (entry F segments i) (λ k j. g (entry F segments i + k) (segment i k (omega arith) l))) ∙ v .place i l;
         size =
-          λ i l.
-          sym
-          (four M N (entry F segments i + 4)
-          (λ k j. let e : entry F segments i + 4 + k ≡ entry F segments i + (4 + k) = omega arith in rw e (g (entry F segments i + (4 + k)) (segment i (4 + k) (omega arith) l))))
-          ∙ v .size i l;
+            λ i l.
+            sym
+            (four M N (entry F segments i + 4)
+            (λ k j. let e : entry F segments i + 4 + k ≡ entry F segments i + (4 + k) = omega arith in rw e (g (entry F segments i + (4 + k)) (segment i (4 + k) (omega arith) l))))
+            ∙ v .size i l;
         kind =
-          λ i l.
-          ap segmentType
-          (sym
-          (four M N (entry F segments i + 8)
-          (λ k j. let e : entry F segments i + 8 + k ≡ entry F segments i + (8 + k) = omega arith in rw e (g (entry F segments i + (8 + k)) (segment i (8 + k) (omega arith) l)))))
-          ∙ v .kind i l;
+            λ i l.
+            ap segmentType
+            (sym
+            (four M N (entry F segments i + 8)
+            (λ k j. let e : entry F segments i + 8 + k ≡ entry F segments i + (8 + k) = omega arith in rw e (g (entry F segments i + (8 + k)) (segment i (8 + k) (omega arith) l)))))
+            ∙ v .kind i l;
       }

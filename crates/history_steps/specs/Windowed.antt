@@ -21,16 +21,19 @@ module _ (S : ℕ → Type 0) (at n : ℕ) (fit : Lies S at n) where
   within-window (read32 p k) w M l h g =
       let e : wordAt at w p ≡ word M p = wordAt-word at w p ∙ word-same (byteAt at w) M p (λ j x. g (p + j) (h .0 j x)) in
       (h .0, within-window (k (wordAt at w p)) w M l (rw e (h .1)) g)
-  within-window (write8 p v k) w M l h g =
-      (h .0,
-      within-window k (putByte at w p v) (put1 M p v) (length-putByte at w p v ∙ l) (h .1) (mirror S at n fit (put8 p v) w M l (h .0, tt) g .1))
-  within-window (write32 p v k) w M l h g =
-      (h .0,
-      within-window k (putWord at w p v) (put4 M p v) (length-putWord at w p v ∙ l) (h .1) (mirror S at n fit (put32 p v) w M l (h .0, tt) g .1))
-  within-window (writePrivileged p v k) w M l h g =
-      (h .0,
-      within-window k (putPrivileged at w p v) (put4 M p v) (length-putPrivileged at w p v ∙ l) (h .1)
-      (mirror S at n fit (put32Privileged p v) w M l (h .0, tt) g .1))
+  within-window (write8 p v k) w M l h g = (
+    h .0,
+    within-window k (putByte at w p v) (put1 M p v) (length-putByte at w p v ∙ l) (h .1) (mirror S at n fit (put8 p v) w M l (h .0, tt) g .1),
+  )
+  within-window (write32 p v k) w M l h g = (
+    h .0,
+    within-window k (putWord at w p v) (put4 M p v) (length-putWord at w p v ∙ l) (h .1) (mirror S at n fit (put32 p v) w M l (h .0, tt) g .1),
+  )
+  within-window (writePrivileged p v k) w M l h g = (
+    h .0,
+    within-window k (putPrivileged at w p v) (put4 M p v) (length-putPrivileged at w p v ∙ l) (h .1)
+        (mirror S at n fit (put32Privileged p v) w M l (h .0, tt) g .1),
+  )
 
   -- what a program does to the bytes, it does in the window, and nothing off S
   pub record Windowed {A : Type 0} (m : Prog A) (w : List ℕ) (M : Memory) : Type 0 where

@@ -5,7 +5,7 @@ use mathlib.Core.List.{List, [], _∷_, _++_}
 use mathlib.Core.Bool.{Bool, true, _&&_}
 use lib.ListN.{replicate, take, drop}
 use lib.Dec.{ltb}
-use Rattle.linker.specs.Rebase.{Lent}
+use Rattle.linker.specs.declared.rebase.Lent.{Lent}
 use Rattle.linker.specs.Outcome.{Bytes}
 use Rattle.linker.specs.Valid.{Valid}
 use Rattle.window.specs.Memory as windowMemory
@@ -51,7 +51,7 @@ unfoldable pub fresh : ℕ → ℕ → Bytes
 fresh records names = record { window = page; records = replicate records 0; names = replicate names 0; missing = replicate 32896 0 }
 
 abbrev pub lent : ℕ → Lent
-lent base = record { base = base; size = 0x200; data-at = 0; data-size = 0; bss-at = 0; bss-size = 0 }
+lent base = record { base = base; size = 0x200; «data_at» = 0; «data_size» = 0; «bss_at» = 0; «bss_size» = 0 }
 
 -- a turn as the definition gives it
 abbrev pub turn : Call → Bytes → Turn
