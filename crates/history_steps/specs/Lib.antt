@@ -5,3 +5,4 @@ pub mod View
 pub mod Parts
 pub mod Shows
 pub mod Reading
+pub mod Batch
