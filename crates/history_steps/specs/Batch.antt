@@ -47,6 +47,11 @@ sort ModifyArmBranch = writes-not (λ d a p. refl)
 sort AlignedRelativeAddress = writes-not (λ d a p. refl)
 sort (Unknown k) = writes-not (λ d a p. refl)
 
+-- ρ is σ, but a on j to f
+pub record Set (σ ρ : ℕ → ℕ) (j f a : ℕ) : Type 0 where
+  pub new : (i : ℕ) → j ≤ i → i ≤ f → ρ i ≡ a
+  pub old : (i : ℕ) → (j ≤ i → i ≤ f → ⊥) → ρ i ≡ σ i
+
 nowhere-no : (p : ℕ) → _≡_ {A = Address} Nowhere (At p) → ⊥
 nowhere-no p e = absurd (omega (arith, ap number e))
   where
@@ -188,11 +193,6 @@ module _ (m : Image) (laid : WellLaid m) (low : Low (Area m)) {T : Memory} (view
     inside : f < count F externals
     goes-on : (i : ℕ) → j ≤ i → i < f → endMark F i ≡ 0
     ends : endMark F f ≢ 0
-
-  -- ρ is σ, but a on j to f
-  pub record Set (σ ρ : ℕ → ℕ) (j f a : ℕ) : Type 0 where
-    pub new : (i : ℕ) → j ≤ i → i ≤ f → ρ i ≡ a
-    pub old : (i : ℕ) → (j ≤ i → i ≤ f → ⊥) → ρ i ≡ σ i
 
   walks
       : (fuel : ℕ) {σ ρ μ : ℕ → ℕ} {M : Memory} (j f a k : ℕ) → Rest j f → f < j + fuel → Set σ ρ j f a → Shows m T σ μ n v M

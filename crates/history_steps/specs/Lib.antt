@@ -6,3 +6,5 @@ pub mod Parts
 pub mod Shows
 pub mod Reading
 pub mod Batch
+pub mod Links
+pub mod Changes
