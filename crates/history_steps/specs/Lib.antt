@@ -8,3 +8,4 @@ pub mod Reading
 pub mod Batch
 pub mod Links
 pub mod Changes
+pub mod Turns
