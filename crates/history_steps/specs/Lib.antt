@@ -9,3 +9,4 @@ pub mod Batch
 pub mod Links
 pub mod Changes
 pub mod Turns
+pub mod Records
