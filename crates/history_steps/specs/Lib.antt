@@ -10,3 +10,4 @@ pub mod Links
 pub mod Changes
 pub mod Turns
 pub mod Records
+pub mod Runs
