@@ -11,3 +11,4 @@ pub mod Changes
 pub mod Turns
 pub mod Records
 pub mod Runs
+pub mod Entries

@@ -16,6 +16,7 @@ use Rattle.window.specs.Mirror.{word}
 use Rattle.layout.specs.Segments.{entryAt}
 use Rattle.register_read.specs.declared.Symbol.{Symbol}
 use Rattle.linker.specs.Imports.{isUnresolved, resolve, importFrom}
+use Rattle.linker.specs.Resets.{resetAt}
 use Rattle.history.specs.Image.{Table, tables, moduleEntries, indexedImports, anonymousImports, externals, start, count, entry}
 use Rattle.history.specs.Arrival.{Image, baseOf, sizeOf, movedOffset, handler, Area}
 use Rattle.history.specs.Imports.{Import, named, indexed, anonymous, importTable, importNumber, importEntry, IsImport, wanted, batch, runStart, runCount, InRun, BatchOf}
@@ -27,7 +28,7 @@ use Rattle.history_steps.specs.Shows.{shows-view}
 use Rattle.history_steps.specs.Reading.{plain-sum, four-at, moved-sum}
 use Rattle.history_steps.specs.Links.{Links, relink, relink-same, relink-other, isSome, Stands}
 use Rattle.history_steps.specs.Changes.{Change, change-iff, Changed, changes-loop}
-use Rattle.history_steps.specs.Turns.{linkTo, import-inside, reads-batch, reads-unresolved, resolves}
+use Rattle.history_steps.specs.Turns.{linkTo, import-inside, reads-batch, reads-unresolved, resolves, resets-at}
 
 -- entry e begins the batch of import i
 abbrev pub Begins : (ℕ → ℕ) → Import → ℕ → Type 0
@@ -63,6 +64,14 @@ module _ (m : Image) (laid : WellLaid m) (low : Low (Area m)) {T : Memory} (view
           let z : k ≡ i = laid .alone .own-batch k i j l (g ∙ sym h) in
           rw (z, one-first i e f d b h) (relink-same φ e (linkTo (φ e) (offered i)));
         same = λ d o. relink-other φ e (linkTo (φ e) (offered i)) d (λ z. o (rw z (b .first)));
+      }
+
+  pub unlinked
+      : {φ : Links} (i : Import) (e f : ℕ) → BatchOf F i e f → Change (Begins F i) (λ d x y. y ≡ none) φ (relink φ e none)
+  unlinked {φ} i e f b =
+      record {
+        changed = λ d h. rw (one-first i e f d b h) (relink-same φ e none);
+        same = λ d o. relink-other φ e none d (λ z. o (rw z (b .first)));
       }
 
   -- one import by index or tag
@@ -231,4 +240,23 @@ module _ (m : Image) (laid : WellLaid m) (low : Low (Area m)) {T : Memory} (view
         (does-mono S
         (links-one offered symbol (make (r .0)) (r .1 .is) (q .asks (r .0) (r .1 .is)) (same (r .0) (r .1 .is) (in-run k (r .0) h (r .1))) t)
         (λ _ L c. (c .0, c .1, at-one k (r .0) (r .1) (c .2))))) s)
+        (λ _ N c. (c .0, c .1, run-begins (c .2)))
+
+    -- and each unlinked
+    pub unlinks-run
+        : {φ : Links} {M : Memory} → Stands m T φ n v M
+        → Does S
+        (loop (λ k _. resetAt base (handler m) (entryAt (movedOffset base (runStart F j (make 0))) k 8)) 0 (runCount F j (make 0)) (tt {0}))
+        (λ _ N. Changed m T n v S (λ e x y. y ≡ none) (RunBegins make j) φ N) M
+    unlinks-run {φ} {M} s =
+        does-mono S
+        (changes-loop m T n v S (λ e x y. y ≡ none)
+        (λ k _. resetAt base (handler m) (entryAt (movedOffset base (runStart F j (make 0))) k 8)) AtBegins (runCount F j (make 0)) (tt {0})
+        (λ k d e h g o a b. run-apart k d e o a b)
+        (λ k b ψ N h t.
+        let r = run-import k h in
+        let f = laid .alone .batches (make (r .0)) (r .1 .is) in
+        rw (run-address k (r .0) h (r .1))
+        (does-mono S (resets-at m laid low view n v (make (r .0)) (r .1 .is) (f .0) (f .1) (f .2) t)
+        (λ _ L c. (relink ψ (f .0) none, c, at-one k (r .0) (r .1) (unlinked (make (r .0)) (f .0) (f .1) (f .2)))))) s)
         (λ _ N c. (c .0, c .1, run-begins (c .2)))
