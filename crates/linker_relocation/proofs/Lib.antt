@@ -1,0 +1,2 @@
+-- What the proofs of `linker_relocation` share.
+pub mod Laws

@@ -1,0 +1,113 @@
+-- The walk from here on gives what the whole walk gives (`walk-on`); it ends at a mark or at the last entry, then the mark is set.
+use Prim.Native.Nat.{_-_, _<_}
+use mathlib.Core.Path.{_≡_, refl, _∙_}
+use mathlib.Core.Logic.{⊎-elim}
+use native.Mathlib.Omega.{arith}
+use lib.ListN.{length}
+use borrow.Author.Needs.{needs}
+use Rattle.window.specs.Access.{run}
+use Rattle.linker.specs.Relocation.{walk, batchLimit}
+use Rattle.linker_relocation.proofs.Laws.{walk-on, walk-end, walk-full, batch-made, mark-byte}
+use Rattle.linker_relocation.proofs.relocation.apply_relocation_batch.Statement.{statement}
+use Rattle.linker_relocation.proofs.relocation.apply_relocation_batch.Tie as tie
+
+abbrev Inv-loop : tie.InvT-loop
+Inv-loop at w₀ base batch symbol resolved entry₀ walked₀ w entry walked =
+    (walked < 0x1001)
+    × (length w ≡ length w₀)
+    × (run at (walk (0x1001 - walked) base symbol entry walked) w ≡ run at (walk batchLimit base symbol batch 0) w₀)
+
+abbrev μ-loop : tie.MeasureT-loop
+μ-loop at w₀ base batch symbol resolved entry₀ walked₀ w entry walked = 0x1001 - walked
+
+loop-holds : tie.Need-loop-holds Inv-loop μ-loop
+loop-holds c = (omega arith, refl, refl)
+
+wrapping-add-u32-requires : tie.Need-wrapping-add-u32-requires Inv-loop μ-loop
+wrapping-add-u32-requires c κs = search needs
+
+read8-requires : tie.Need-read8-requires Inv-loop μ-loop
+read8-requires c κs = search needs
+
+apply-entry-requires : tie.Need-apply-entry-requires Inv-loop μ-loop
+apply-entry-requires c κs = search needs
+
+add-walked : tie.Need-add-walked Inv-loop μ-loop
+add-walked c = omega arith
+
+wrapping-add-u32-requires-2 : tie.Need-wrapping-add-u32-requires-2 Inv-loop μ-loop
+wrapping-add-u32-requires-2 c κs = search needs
+
+loop-less : tie.Need-loop-less Inv-loop μ-loop
+loop-less c = omega arith
+
+loop-again : tie.Need-loop-again Inv-loop μ-loop
+loop-again c =
+    let p2 = c .before .before in
+    let p5 = p2 .before .before .before in
+    let p7 = p5 .before .before in
+    let p8 = p7 .before in
+    let p10 = p8 .before .before in
+    let p12 = p10 .before .before in (
+      omega arith,
+      p5 .apply-entry .kept .1 .0 ∙ p10 .loop .inv .1,
+      walk-on (p12 .args .at) (p12 .args .base) (p12 .args .symbol) (p10 .loop .entry) (p10 .loop .w) 0x1001 (p10 .loop .walked) (p10 .loop .inv .0)
+          (p8 .wrapping-add-u32 .ensures) (p7 .read8 .ensures) (p5 .apply-entry .ensures) (p2 .if1 .left) (c .wrapping-add-u322 .ensures)
+          ∙ p10 .loop .inv .2,
+    )
+
+wrapping-add-u32-requires-3 : tie.Need-wrapping-add-u32-requires-3 Inv-loop μ-loop
+wrapping-add-u32-requires-3 c κs = search needs
+
+cast-write8 : tie.Need-cast-write8 Inv-loop μ-loop
+cast-write8 c = search needs
+
+write8-requires : tie.Need-write8-requires Inv-loop μ-loop
+write8-requires c κs = search needs
+
+same-length : tie.Need-same-length Inv-loop μ-loop
+same-length c =
+    let p2 = c .before .before in
+    let p8 = p2 .before .before .before .before .before .before in
+    let p13 = p8 .before .before .before .before .before in
+    p2 .write8 .kept .1 .0 ∙ p8 .apply-entry .kept .1 .0 ∙ p13 .loop .inv .1
+
+returns : tie.Need-returns Inv-loop μ-loop
+returns c =
+    let p2 = c .before .before in
+    let p3 = p2 .before in
+    let p5 = p3 .before .before in
+    let p8 = p5 .before .before .before in
+    let p10 = p8 .before .before in
+    let p11 = p10 .before in
+    let p13 = p11 .before .before in
+    let p15 = p13 .before .before in
+    batch-made (p15 .args .at) (p15 .args .base) (p15 .args .batch) (p15 .args .symbol) (p15 .args .resolved) (p15 .args .w .now)
+    (⊎-elim
+    (λ e. walk-end (p15 .args .at) (p15 .args .base) (p15 .args .symbol) (p13 .loop .entry) (p13 .loop .w) 0x1001 (p13 .loop .walked) (p13 .loop .inv .0)
+    (p11 .wrapping-add-u32 .ensures) (p10 .read8 .ensures) (p8 .apply-entry .ensures) (e .taken))
+    (λ e. walk-full (p15 .args .at) (p15 .args .base) (p15 .args .symbol) (p13 .loop .entry) (p13 .loop .w) 0x1001 (p13 .loop .walked) (p13 .loop .inv .0)
+    (p11 .wrapping-add-u32 .ensures) (p10 .read8 .ensures) (p8 .apply-entry .ensures) (e .0 .left) (e .1 .taken))
+    (p5 .if1 .came)
+    ∙ p13 .loop .inv .2)
+    (p3 .wrapping-add-u323 .ensures) (mark-byte (p15 .args .resolved)) (p2 .write8 .ensures)
+
+pub apply-relocation-batch-spec : {M : Type 1} → statement M
+apply-relocation-batch-spec =
+    tie.close
+    (tie.spec
+    Inv-loop
+    μ-loop
+    loop-holds
+    wrapping-add-u32-requires
+    read8-requires
+    apply-entry-requires
+    add-walked
+    wrapping-add-u32-requires-2
+    loop-less
+    loop-again
+    wrapping-add-u32-requires-3
+    cast-write8
+    write8-requires
+    same-length
+    returns)

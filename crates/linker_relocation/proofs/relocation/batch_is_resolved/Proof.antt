@@ -1,0 +1,20 @@
+-- The mark is a byte: `mark-read`.
+use borrow.Author.Needs.{needs}
+use Rattle.linker_relocation.proofs.Laws.{mark-read}
+use Rattle.linker_relocation.proofs.relocation.batch_is_resolved.Statement.{statement}
+use Rattle.linker_relocation.proofs.relocation.batch_is_resolved.Tie as tie
+
+wrapping-add-u32-requires : tie.Need-wrapping-add-u32-requires
+wrapping-add-u32-requires c κs = search needs
+
+read8-requires : tie.Need-read8-requires
+read8-requires c κs = search needs
+
+returns : tie.Need-returns
+returns c =
+    let p1 = c .before in
+    let p3 = p1 .before .before in
+    mark-read (p3 .args .at) (p3 .args .batch) (p3 .args .w .now) (p1 .wrapping-add-u32 .ensures) (c .read8 .ensures)
+
+pub batch-is-resolved-spec : {M : Type 1} → statement M
+batch-is-resolved-spec = tie.close (tie.spec wrapping-add-u32-requires read8-requires returns)

@@ -1,0 +1,103 @@
+-- A counted loop over the table: `external-starts`, `step-made`, `steps-over`.
+use Prim.Native.Nat.{_-_, _≤_}
+use mathlib.Core.Path.{_≡_, refl, _∙_}
+use native.Mathlib.Omega.{arith}
+use lib.ListN.{length}
+use borrow.Author.Needs.{needs}
+use Rattle.window.specs.Access.{run}
+use Rattle.window.specs.Loop.{loop}
+use Rattle.layout.specs.Header.{relocationEntrySize}
+use Rattle.layout.specs.Segments.{entryAt}
+use Rattle.linker.specs.Relocation.{resetEntry, resetExternalRelocations}
+use Rattle.linker_relocation.specs.Runs.{step-made, steps-over}
+use Rattle.linker_relocation.proofs.Laws.{external-starts}
+use Rattle.linker_relocation.proofs.relocation.reset_external_relocations.Statement.{statement}
+use Rattle.linker_relocation.proofs.relocation.reset_external_relocations.Tie as tie
+
+abbrev Inv-loop : tie.InvT-loop
+Inv-loop at w₀ base handler table count index₀ w index =
+    (index ≤ count)
+    × (length w ≡ length w₀)
+    × (run at (loop (λ i _. resetEntry base handler (entryAt table i relocationEntrySize)) index (count - index) tt) w
+    ≡ run at (resetExternalRelocations base) w₀)
+
+abbrev μ-loop : tie.MeasureT-loop
+μ-loop at w₀ base handler table count index₀ w index = count - index
+
+unresolved-symbol-requires : tie.Need-unresolved-symbol-requires Inv-loop μ-loop
+unresolved-symbol-requires c κs = search needs
+
+field-requires : tie.Need-field-requires Inv-loop μ-loop
+field-requires c κs = search needs
+
+field-requires-2 : tie.Need-field-requires-2 Inv-loop μ-loop
+field-requires-2 c κs = search needs
+
+loop-holds : tie.Need-loop-holds Inv-loop μ-loop
+loop-holds c =
+    let p2 = c .before .before in
+    let p4 = p2 .before .before in
+    let p7 = p4 .before .before .before in
+    (omega arith, refl, external-starts (p7 .args .at) (p7 .args .base) (p7 .args .w .now) (p4 .unresolved-symbol .ensures) (p2 .field .ensures) (c .field2 .ensures))
+
+entry-address-requires : tie.Need-entry-address-requires Inv-loop μ-loop
+entry-address-requires c κs = search needs
+
+reset-entry-requires : tie.Need-reset-entry-requires Inv-loop μ-loop
+reset-entry-requires c κs = search needs
+
+add-index : tie.Need-add-index Inv-loop μ-loop
+add-index c = omega arith
+
+loop-less : tie.Need-loop-less Inv-loop μ-loop
+loop-less c = omega arith
+
+loop-again : tie.Need-loop-again Inv-loop μ-loop
+loop-again c =
+    let p2 = c .before .before in
+    let p4 = p2 .before .before in
+    let p5 = p4 .before in
+    let p6 = p5 .before in
+    let p7 = p6 .before in
+    let p9 = p7 .before .before in
+    let p11 = p9 .before .before in
+    let p14 = p11 .before .before .before in (
+      omega arith,
+      p2 .reset-entry .kept .1 .0 ∙ p6 .loop .inv .1,
+      step-made (p14 .args .at) (resetEntry (p14 .args .base) (p11 .unresolved-symbol .result)) (λ i. entryAt (p9 .field .result) i relocationEntrySize)
+          (p6 .loop .index) (p7 .field2 .result) (p6 .loop .w) (p6 .loop .inv .2) (p5 .loop-test .taken) (p4 .entry-address .ensures)
+          (p2 .reset-entry .ensures),
+    )
+
+same-length : tie.Need-same-length Inv-loop μ-loop
+same-length c =
+    let p1 = c .before in
+    p1 .loop .inv .1
+
+returns : tie.Need-returns Inv-loop μ-loop
+returns c =
+    let p1 = c .before in
+    let p2 = p1 .before in
+    let p4 = p2 .before .before in
+    let p6 = p4 .before .before in
+    let p9 = p6 .before .before .before in
+    steps-over (p9 .args .at) (resetEntry (p9 .args .base) (p6 .unresolved-symbol .result)) (λ i. entryAt (p4 .field .result) i relocationEntrySize)
+    (p1 .loop .index) (p2 .field2 .result) (p1 .loop .w) (p1 .loop .inv .2) (c .loop-test .left)
+
+pub reset-external-relocations-spec : {M : Type 1} → statement M
+reset-external-relocations-spec =
+    tie.close
+    (tie.spec
+    Inv-loop
+    μ-loop
+    unresolved-symbol-requires
+    field-requires
+    field-requires-2
+    loop-holds
+    entry-address-requires
+    reset-entry-requires
+    add-index
+    loop-less
+    loop-again
+    same-length
+    returns)
