@@ -1,1 +1,3 @@
 -- Laws that the proofs of `linker_imports` share.
+pub mod Source
+pub mod Missing
