@@ -1,2 +1,3 @@
 -- The laws behind the proofs of `linker_imports`.
 pub mod Laws
+pub mod Missing

@@ -4,3 +4,4 @@ pub mod names;
 pub mod source;
 pub mod own;
 pub mod others;
+pub mod resets;

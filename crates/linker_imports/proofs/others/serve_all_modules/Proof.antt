@@ -1,56 +1,84 @@
+-- A counted loop over the table: `entries-start`, `step-made`, `steps-over`.
+use Prim.Native.Nat.{_-_, _≤_}
+use mathlib.Core.Path.{_≡_, refl, _∙_}
+use native.Mathlib.Omega.{arith}
+use lib.ListN.{length}
+use borrow.Author.Needs.{needs}
+use Rattle.window.specs.Access.{run}
+use Rattle.window.specs.Loop.{loop}
+use Rattle.layout.specs.Header.{importModuleEntrySize}
+use Rattle.layout.specs.Segments.{entryAt}
+use Rattle.register_read.specs.Read.{moduleAt}
+use Rattle.linker.specs.Imports.{serveModule}
+use Rattle.linker_relocation.specs.Runs.{step-made, steps-over}
+use Rattle.linker_imports.specs.Source.{serveAllModules}
+use Rattle.linker_imports.proofs.Laws.{entries-start}
 use Rattle.linker_imports.proofs.others.serve_all_modules.Statement.{statement}
 use Rattle.linker_imports.proofs.others.serve_all_modules.Tie as tie
-use Rattle.linker_imports.proofs.others.serve_all_modules.Reads as reads
-use Rattle.linker_imports.proofs.others.serve_all_modules.Lts as lts
-use Rattle.layout.proofs.fields.entry_address.Reads as entry-address-reads
-use Rattle.layout.proofs.fields.field.Reads as field-reads
-use Rattle.linker_imports.proofs.others.serve_module.Reads as serve-module-reads
 
 abbrev Inv-loop : tie.InvT-loop
-Inv-loop at w₀ records names place base table count index₀ w index = ?
+Inv-loop at w₀ records names place base table count index₀ w index =
+    (index ≤ count)
+    × (length w ≡ length w₀)
+    × (run at (loop (λ i _. serveModule (moduleAt records names place) base (entryAt table i importModuleEntrySize)) index (count - index) tt) w
+    ≡ run at (serveAllModules (moduleAt records names place) base) w₀)
 
 abbrev μ-loop : tie.MeasureT-loop
-μ-loop at w₀ records names place base table count index₀ w index = ?
+μ-loop at w₀ records names place base table count index₀ w index = count - index
 
--- src/others.rt:82:9
 field-requires : tie.Need-field-requires Inv-loop μ-loop
-field-requires c κs = ?
+field-requires c κs = search needs
 
--- src/others.rt:83:9
 field-requires-2 : tie.Need-field-requires-2 Inv-loop μ-loop
-field-requires-2 c κs = ?
+field-requires-2 c κs = search needs
 
--- src/others.rt:84:5
 loop-holds : tie.Need-loop-holds Inv-loop μ-loop
-loop-holds c = ?
+loop-holds c =
+    let p2 = c .before .before in
+    let p7 = p2 .before .before .before .before .before in
+    (omega arith, refl, entries-start (p7 .args .at) (p7 .args .base) (p7 .args .w .now) (moduleAt (p7 .args .records .now) (p7 .args .names .now) (p7 .args .place)) (p2 .field .ensures) (c .field2 .ensures))
 
--- src/others.rt:85:13
 entry-address-requires : tie.Need-entry-address-requires Inv-loop μ-loop
-entry-address-requires c κs = ?
+entry-address-requires c κs = search needs
 
--- src/others.rt:86:9
 serve-module-requires : tie.Need-serve-module-requires Inv-loop μ-loop
-serve-module-requires c κs = ?
+serve-module-requires c κs = search needs
 
--- src/others.rt:84:9
 add-index : tie.Need-add-index Inv-loop μ-loop
-add-index c = ?
+add-index c = omega arith
 
--- src/others.rt:84:5
 loop-less : tie.Need-loop-less Inv-loop μ-loop
-loop-less c = ?
+loop-less c = omega arith
 
--- src/others.rt:84:5
 loop-again : tie.Need-loop-again Inv-loop μ-loop
-loop-again c = ?
+loop-again c =
+    let p2 = c .before .before in
+    let p4 = p2 .before .before in
+    let p5 = p4 .before in
+    let p6 = p5 .before in
+    let p7 = p6 .before in
+    let p9 = p7 .before .before in
+    let p14 = p9 .before .before .before .before .before in
+    (
+      omega arith,
+      p2 .serve-module .kept .1 .0 ∙ p6 .loop .inv .1,
+      step-made (p14 .args .at) (serveModule (moduleAt (p14 .args .records .now) (p14 .args .names .now) (p14 .args .place)) (p14 .args .base)) (λ i. entryAt (p9 .field .result) i importModuleEntrySize) (p6 .loop .index)
+          (p7 .field2 .result) (p6 .loop .w) (p6 .loop .inv .2) (p5 .loop-test .taken) (p4 .entry-address .ensures) (p2 .serve-module .ensures),
+    )
 
--- src/others.rt:78:1
 same-length : tie.Need-same-length Inv-loop μ-loop
-same-length c = ?
+same-length c =
+    let p1 = c .before in
+    p1 .loop .inv .1
 
--- src/others.rt:78:1
 returns : tie.Need-returns Inv-loop μ-loop
-returns c = ?
+returns c =
+    let p1 = c .before in
+    let p2 = p1 .before in
+    let p4 = p2 .before .before in
+    let p9 = p4 .before .before .before .before .before in
+    steps-over (p9 .args .at) (serveModule (moduleAt (p9 .args .records .now) (p9 .args .names .now) (p9 .args .place)) (p9 .args .base)) (λ i. entryAt (p4 .field .result) i importModuleEntrySize) (p1 .loop .index)
+    (p2 .field2 .result) (p1 .loop .w) (p1 .loop .inv .2) (c .loop-test .left)
 
 pub serve-all-modules-spec : {M : Type 1} → statement M
 serve-all-modules-spec =

@@ -1,49 +1,54 @@
+-- By whether the entry names the module.
 use borrow.Author.Needs.{needs}
+use Rattle.register_read.specs.Read.{moduleAt}
+use Rattle.linker_imports.proofs.Laws.{own-name, entry-served, entry-passed}
 use Rattle.linker_imports.proofs.others.serve_module.Statement.{statement}
 use Rattle.linker_imports.proofs.others.serve_module.Tie as tie
-use Rattle.linker_imports.proofs.others.serve_module.Reads as reads
-use Rattle.linker_imports.proofs.others.serve_module.Lts as lts
-use Rattle.linker_imports.proofs.names.is_name.Reads as is-name-reads
-use Rattle.linker_imports.proofs.source.imports_of.Reads as imports-of-reads
-use Rattle.register_read.proofs.record_at.Reads as record-at-reads
-use Rattle.register_read.proofs.record_name.Reads as record-name-reads
-use Rattle.window.proofs.read32.Reads as read32-reads
 
--- src/others.rt:57:9
 read32-requires : tie.Need-read32-requires
 read32-requires c κs = search needs
 
--- src/others.rt:58:35
 record-at-requires : tie.Need-record-at-requires
 record-at-requires c κs = search needs
 
--- src/others.rt:58:9
 record-name-requires : tie.Need-record-name-requires
 record-name-requires c κs = search needs
 
--- src/others.rt:59:8
 is-name-requires : tie.Need-is-name-requires
 is-name-requires c κs = search needs
 
--- src/others.rt:60:9
 imports-of-requires : tie.Need-imports-of-requires
 imports-of-requires c κs = search needs
 
--- src/others.rt:45:1
 same-length : tie.Need-same-length
 same-length c = search needs
 
--- src/others.rt:45:1
 returns : tie.Need-returns
-returns c = ?
+returns c =
+    let p2 = c .before .before in
+    let p4 = p2 .before .before in
+    let p5 = p4 .before in
+    let p7 = p5 .before .before in
+    let p8 = p7 .before in
+    let p9 = p8 .before in
+    let p14 = p9 .before .before .before .before .before in
+    entry-served (p14 .args .at) (p14 .args .base) (p14 .args .entry) (p14 .args .w .now) (moduleAt (p14 .args .records .now) (p14 .args .names .now) (p14 .args .place)) (p9 .read32 .ensures)
+    (own-name (p14 .args .records .now) (p14 .args .names .now) (p14 .args .place) (p8 .record-at .ensures) (p7 .record-name .ensures))
+    (p5 .is-name .ensures) (p4 .if1 .taken) (p2 .imports-of .ensures (p14 .args .names .now))
 
--- src/others.rt:45:1
 same-length-2 : tie.Need-same-length-2
 same-length-2 c = search needs
 
--- src/others.rt:45:1
 returns-2 : tie.Need-returns-2
-returns-2 c = ?
+returns-2 c =
+    let p1 = c .before in
+    let p3 = p1 .before .before in
+    let p4 = p3 .before in
+    let p5 = p4 .before in
+    let p10 = p5 .before .before .before .before .before in
+    entry-passed (p10 .args .at) (p10 .args .base) (p10 .args .entry) (p10 .args .w .now) (moduleAt (p10 .args .records .now) (p10 .args .names .now) (p10 .args .place)) (p5 .read32 .ensures)
+    (own-name (p10 .args .records .now) (p10 .args .names .now) (p10 .args .place) (p4 .record-at .ensures) (p3 .record-name .ensures))
+    (p1 .is-name .ensures) (c .if1 .left)
 
 pub serve-module-spec : {M : Type 1} → statement M
 serve-module-spec =

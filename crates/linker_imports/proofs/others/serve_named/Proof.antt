@@ -1,53 +1,56 @@
+-- By whether the batch waits.
 use borrow.Author.Needs.{needs}
+use Rattle.register_read.specs.Read.{moduleAt}
+use Rattle.linker_imports.proofs.Laws.{serve-waits, serve-passed}
 use Rattle.linker_imports.proofs.others.serve_named.Statement.{statement}
 use Rattle.linker_imports.proofs.others.serve_named.Tie as tie
-use Rattle.linker_imports.proofs.others.serve_named.Reads as reads
-use Rattle.linker_imports.proofs.others.serve_named.Lts as lts
-use Rattle.linker_imports.proofs.batch.is_unresolved.Reads as is-unresolved-reads
-use Rattle.linker_imports.proofs.batch.resolve.Reads as resolve-reads
-use Rattle.linker_imports.proofs.names.export_of.Reads as export-of-reads
-use Rattle.std.proofs.num.wrapping_add_u32.Reads as wrapping-add-u32-reads
-use Rattle.window.proofs.read32.Reads as read32-reads
 
--- src/others.rt:36:39
 wrapping-add-u32-requires : tie.Need-wrapping-add-u32-requires
 wrapping-add-u32-requires c κs = search needs
 
--- src/others.rt:36:9
 read32-requires : tie.Need-read32-requires
 read32-requires c κs = search needs
 
--- src/others.rt:37:8
 is-unresolved-requires : tie.Need-is-unresolved-requires
 is-unresolved-requires c κs = search needs
 
--- src/others.rt:38:13
 read32-requires-2 : tie.Need-read32-requires-2
 read32-requires-2 c κs = search needs
 
--- src/others.rt:39:13
 export-of-requires : tie.Need-export-of-requires
 export-of-requires c κs = search needs
 
--- src/others.rt:40:9
 resolve-requires : tie.Need-resolve-requires
 resolve-requires c κs = search needs
 
--- src/others.rt:24:1
 same-length : tie.Need-same-length
 same-length c = search needs
 
--- src/others.rt:24:1
 returns : tie.Need-returns
-returns c = ?
+returns c =
+    let p2 = c .before .before in
+    let p4 = p2 .before .before in
+    let p6 = p4 .before .before in
+    let p8 = p6 .before .before in
+    let p9 = p8 .before in
+    let p11 = p9 .before .before in
+    let p12 = p11 .before in
+    let p17 = p12 .before .before .before .before .before in
+    serve-waits (p17 .args .at) (p17 .args .base) (p17 .args .entry) (p17 .args .w .now) (moduleAt (p17 .args .records .now) (p17 .args .names .now) (p17 .args .place))
+    (p12 .wrapping-add-u32 .ensures) (p11 .read32 .ensures) (p9 .is-unresolved .ensures) (p8 .if1 .taken) (p6 .read322 .ensures) (p4 .export-of .ensures)
+    (p2 .resolve .ensures)
 
--- src/others.rt:24:1
 same-length-2 : tie.Need-same-length-2
 same-length-2 c = search needs
 
--- src/others.rt:24:1
 returns-2 : tie.Need-returns-2
-returns-2 c = ?
+returns-2 c =
+    let p1 = c .before in
+    let p3 = p1 .before .before in
+    let p4 = p3 .before in
+    let p9 = p4 .before .before .before .before .before in
+    serve-passed (p9 .args .at) (p9 .args .base) (p9 .args .entry) (p9 .args .w .now) (moduleAt (p9 .args .records .now) (p9 .args .names .now) (p9 .args .place))
+    (p4 .wrapping-add-u32 .ensures) (p3 .read32 .ensures) (p1 .is-unresolved .ensures) (c .if1 .left)
 
 pub serve-named-spec : {M : Type 1} → statement M
 serve-named-spec =

@@ -1,47 +1,47 @@
+-- By whether a module has the name.
 use borrow.Author.Needs.{needs}
+use Rattle.linker_imports.proofs.Laws.{module-missing, module-found}
 use Rattle.linker_imports.proofs.own.import_module.Statement.{statement}
 use Rattle.linker_imports.proofs.own.import_module.Tie as tie
-use Rattle.linker_imports.proofs.own.import_module.Reads as reads
-use Rattle.linker_imports.proofs.own.import_module.Lts as lts
-use Rattle.linker_imports.proofs.names.module_by_name.Reads as module-by-name-reads
-use Rattle.linker_imports.proofs.source.imports_of.Reads as imports-of-reads
-use Rattle.window.proofs.read32.Reads as read32-reads
 
--- src/own.rt:84:9
 read32-requires : tie.Need-read32-requires
 read32-requires c κs = search needs
 
--- src/own.rt:85:28
 module-by-name-requires : tie.Need-module-by-name-requires
 module-by-name-requires c κs = search needs
 
--- src/own.rt:85:19
 enum-known-place : tie.Need-enum-known-place
 enum-known-place c = search needs
 
--- src/own.rt:86:9
 enum-told : tie.Need-enum-told
 enum-told c = search needs
 
--- src/own.rt:86:9
 same-length : tie.Need-same-length
 same-length c = search needs
 
--- src/own.rt:86:9
 returns : tie.Need-returns
-returns c = ?
+returns c =
+    let p2 = c .before .before in
+    let p4 = p2 .before .before in
+    let p9 = p4 .before .before .before .before .before in
+    module-missing (p9 .args .records .now) (p9 .args .names .now) (p9 .args .at) (p9 .args .base) (p9 .args .entry) (p9 .args .w .now)
+    (p4 .read32 .ensures) (p2 .module-by-name .ensures) (c .enum-told .given .1)
 
--- src/own.rt:88:5
 imports-of-requires : tie.Need-imports-of-requires
 imports-of-requires c κs = search needs
 
--- src/own.rt:80:1
 same-length-2 : tie.Need-same-length-2
 same-length-2 c = search needs
 
--- src/own.rt:80:1
 returns-2 : tie.Need-returns-2
-returns-2 c = ?
+returns-2 c =
+    let p2 = c .before .before in
+    let p5 = p2 .before .before .before in
+    let p7 = p5 .before .before in
+    let p9 = p7 .before .before in
+    let p14 = p9 .before .before .before .before .before in
+    module-found (p14 .args .records .now) (p14 .args .names .now) (p14 .args .at) (p14 .args .base) (p14 .args .entry) (p14 .args .w .now)
+    (p9 .read32 .ensures) (p7 .module-by-name .ensures) (p14 .pre) (p5 .place .given .1) (p2 .imports-of .ensures (p14 .args .names .now))
 
 pub import-module-spec : {M : Type 1} → statement M
 import-module-spec =
