@@ -1,9 +1,10 @@
 // The imports of the modules that stand, served by the module whose record begins at a place.
 ghost use mathlib.Core.Path.{_≡_};
 ghost use Rattle.window.specs.Access.{run};
-ghost use Rattle.register_read.specs.Read.{moduleAt};
-ghost use Rattle.linker.specs.Imports.{serveNamed, serveModule, serve};
+ghost use Rattle.register_read.specs.Read.{Encoded, modulesOf, moduleAt};
+ghost use Rattle.linker.specs.Imports.{serveNamed, serveModule, serve, applyExportsToLoaded};
 ghost use Rattle.linker_imports.specs.Source.{serveAllNamed, serveAllModules};
+ghost use Rattle.linker_imports.specs.Modules.{butLast};
 use super::batch::is_unresolved;
 use super::batch::resolve;
 use super::names::export_of;
@@ -17,7 +18,9 @@ use layout::header::IMPORT_MODULE_NUM;
 use layout::header::IMPORT_MODULE_TABLE_OFFSET;
 use layout::header::IMPORT_NAMED_SYMBOL_NUM;
 use layout::header::IMPORT_NAMED_SYMBOL_TABLE_OFFSET;
+use register_read::modules::module_count;
 use register_read::record_at;
+use register_read::record_end;
 use register_read::record_name;
 
 // One named import, if it still waits and the module exports its name.
@@ -94,4 +97,22 @@ pub fn serve(at: u32, w: &mut [u8], records: &[u8], names: &[u8], place: usize, 
 {
     serve_all_named(at, w, records, names, place, base);
     serve_all_modules(at, w, records, names, place, base);
+}
+
+// Resolves the imports that the module at the place satisfies in all modules but the last, which is the new one itself.
+pub fn apply_exports_to_loaded(at: u32, w: &mut [u8], records: &[u8], names: &[u8], place: usize)
+    requires { ⌜ Encoded (now records) (now names) ⌝ }
+    ensures { λ _. ⌜ now (w .exit)
+        ≡ run at (applyExportsToLoaded (moduleAt (now (records .entry)) (now (names .entry)) place)
+        (butLast (modulesOf (now (records .entry)) (now (names .entry))))) (now (w .entry)) .1 ⌝ }
+{
+    let count = module_count(records);
+    let mut next: usize = 32;
+    let mut k: u32 = 1;
+    while k < count {
+        let record = record_at(records, next);
+        serve(at, w, records, names, place, record.base);
+        next = record_end(record);
+        k += 1;
+    }
 }

@@ -1,9 +1,10 @@
 // The resets of an unload: what linked against the module whose record begins at a place goes back to its own handler.
 ghost use mathlib.Core.Path.{_≡_};
 ghost use Rattle.window.specs.Access.{run};
-ghost use Rattle.register_read.specs.Read.{moduleAt};
-ghost use Rattle.linker.specs.Resets.{reset, resetAt, resetNamed, resetModule, resetImports};
+ghost use Rattle.register_read.specs.Read.{Encoded, modulesOf, moduleAt};
+ghost use Rattle.linker.specs.Resets.{reset, resetAt, resetNamed, resetModule, resetImports, resetImporters};
 ghost use Rattle.linker_imports.specs.Source.{resetTable, resetAllNamed, resetAllModules};
+ghost use Rattle.linker_imports.specs.Modules.{otherThan, resetImporter};
 use super::names::export_of;
 use super::names::is_name;
 use layout::fields::entry_address;
@@ -18,8 +19,11 @@ use layout::header::IMPORT_NAMED_SYMBOL_TABLE_OFFSET;
 use linker_relocation::relocation::apply_relocation_batch;
 use linker_relocation::relocation::batch_is_resolved;
 use linker_relocation::relocation::unresolved_symbol;
+use register_read::Record;
 use register_read::Symbol;
+use register_read::modules::module_count;
 use register_read::record_at;
+use register_read::record_end;
 use register_read::record_name;
 
 // Points a resolved batch at the handler, even if that is 0, and marks it unresolved.
@@ -149,4 +153,35 @@ pub fn reset_imports(at: u32, w: &mut [u8], records: &[u8], names: &[u8], place:
     let handler = unresolved_symbol(at, w, base);
     reset_all_named(at, w, records, names, place, base, handler);
     reset_all_modules(at, w, records, names, place, base, handler);
+}
+
+// Resets one other module, if it is auto-linked.
+fn reset_importer(at: u32, w: &mut [u8], records: &[u8], names: &[u8], place: usize, record: Record)
+    ensures { λ _. ⌜ now (w .exit)
+        ≡ run at (resetImporter (moduleAt (now (records .entry)) (now (names .entry)) place) place «record») (now (w .entry)) .1 ⌝ }
+{
+    if record.place == place {
+        return;
+    }
+    if record.auto_link == 1 {
+        reset_imports(at, w, records, names, place, record.base);
+    }
+}
+
+// Resets what the auto-linked modules linked against the module at the place, itself left out.
+pub fn reset_importers(at: u32, w: &mut [u8], records: &[u8], names: &[u8], place: usize)
+    requires { ⌜ Encoded (now records) (now names) ⌝ }
+    ensures { λ _. ⌜ now (w .exit)
+        ≡ run at (resetImporters (moduleAt (now (records .entry)) (now (names .entry)) place)
+        (otherThan place 32 (modulesOf (now (records .entry)) (now (names .entry))))) (now (w .entry)) .1 ⌝ }
+{
+    let count = module_count(records);
+    let mut next: usize = 32;
+    let mut k: u32 = 0;
+    while k < count {
+        let record = record_at(records, next);
+        reset_importer(at, w, records, names, place, record);
+        next = record_end(record);
+        k += 1;
+    }
 }

@@ -58,8 +58,7 @@ loop-again c =
     let p6 = p5 .before in
     let p7 = p6 .before in
     let p9 = p7 .before .before in
-    let p14 = p9 .before .before .before .before .before in
-    (
+    let p14 = p9 .before .before .before .before .before in (
       omega arith,
       p2 .serve-module .kept .1 .0 ∙ p6 .loop .inv .1,
       step-made (p14 .args .at) (serveModule (moduleAt (p14 .args .records .now) (p14 .args .names .now) (p14 .args .place)) (p14 .args .base)) (λ i. entryAt (p9 .field .result) i importModuleEntrySize) (p6 .loop .index)

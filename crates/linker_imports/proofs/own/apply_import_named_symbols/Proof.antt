@@ -32,9 +32,14 @@ field-requires-2 c κs = search needs
 loop-holds : tie.Need-loop-holds Inv-loop μ-loop
 loop-holds c =
     let p2 = c .before .before in
-    let p8 = p2 .before .before .before .before .before .before in
-    (omega arith, refl, refl, refl, reached-starts (p8 .args .at) (p8 .args .base) (p8 .args .records .now) (p8 .args .names .now) (p8 .args .missing .now)
-    (p8 .args .w .now) (p8 .pre) (p2 .field .ensures) (c .field2 .ensures))
+    let p8 = p2 .before .before .before .before .before .before in (
+      omega arith,
+      refl,
+      refl,
+      refl,
+      reached-starts (p8 .args .at) (p8 .args .base) (p8 .args .records .now) (p8 .args .names .now) (p8 .args .missing .now)
+          (p8 .args .w .now) (p8 .pre) (p2 .field .ensures) (c .field2 .ensures),
+    )
 
 entry-address-requires : tie.Need-entry-address-requires Inv-loop μ-loop
 entry-address-requires c κs = search needs

@@ -57,8 +57,7 @@ loop-again c =
     let p6 = p5 .before in
     let p7 = p6 .before in
     let p9 = p7 .before .before in
-    let p14 = p9 .before .before .before .before .before in
-    (
+    let p14 = p9 .before .before .before .before .before in (
       omega arith,
       p2 .import-module .kept .1 .0 ∙ p6 .loop .inv .1,
       step-made (p14 .args .at) (importModule (modulesOf (p14 .args .records .now) (p14 .args .names .now)) (p14 .args .base)) (λ i. entryAt (p9 .field .result) i importModuleEntrySize) (p6 .loop .index)

@@ -1,38 +1,42 @@
+-- By whether there is a batch, and whether it is resolved.
 use borrow.Author.Needs.{needs}
+use Rattle.linker_imports.proofs.ResetLaws.{reset-none, reset-made, reset-left}
 use Rattle.linker_imports.proofs.resets.reset.Statement.{statement}
 use Rattle.linker_imports.proofs.resets.reset.Tie as tie
-use Rattle.linker_imports.proofs.resets.reset.Reads as reads
-use Rattle.linker_imports.proofs.resets.reset.Lts as lts
-use Rattle.linker_relocation.proofs.relocation.apply_relocation_batch.Reads as apply-relocation-batch-reads
-use Rattle.linker_relocation.proofs.relocation.batch_is_resolved.Reads as batch-is-resolved-reads
 
--- src/resets.rt:30:9
 returns : tie.Need-returns
-returns c = ?
+returns c =
+    let p2 = c .before .before in
+    reset-none (p2 .args .at) (p2 .args .base) (p2 .args .handler) (p2 .args .batch) (p2 .args .w .now) (c .if1 .taken)
 
--- src/resets.rt:32:8
 batch-is-resolved-requires : tie.Need-batch-is-resolved-requires
 batch-is-resolved-requires c κs = search needs
 
--- src/resets.rt:33:9
 apply-relocation-batch-requires : tie.Need-apply-relocation-batch-requires
 apply-relocation-batch-requires c κs = search needs
 
--- src/resets.rt:26:1
 same-length : tie.Need-same-length
 same-length c = search needs
 
--- src/resets.rt:26:1
 returns-2 : tie.Need-returns-2
-returns-2 c = ?
+returns-2 c =
+    let p2 = c .before .before in
+    let p4 = p2 .before .before in
+    let p5 = p4 .before in
+    let p7 = p5 .before .before in
+    let p9 = p7 .before .before in
+    reset-made (p9 .args .at) (p9 .args .base) (p9 .args .handler) (p9 .args .batch) (p9 .args .w .now) (p7 .if1 .left) (p5 .batch-is-resolved .ensures) (p4 .if2 .taken)
+    (p2 .apply-relocation-batch .ensures)
 
--- src/resets.rt:26:1
 same-length-2 : tie.Need-same-length-2
 same-length-2 c = search needs
 
--- src/resets.rt:26:1
 returns-3 : tie.Need-returns-3
-returns-3 c = ?
+returns-3 c =
+    let p1 = c .before in
+    let p3 = p1 .before .before in
+    let p5 = p3 .before .before in
+    reset-left (p5 .args .at) (p5 .args .base) (p5 .args .handler) (p5 .args .batch) (p5 .args .w .now) (p3 .if1 .left) (p1 .batch-is-resolved .ensures) (c .if2 .left)
 
 pub reset-spec : {M : Type 1} → statement M
 reset-spec =

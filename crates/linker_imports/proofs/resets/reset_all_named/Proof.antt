@@ -1,56 +1,83 @@
+-- A counted loop over the table: `named-start`, `step-made`, `steps-over`.
+use Prim.Native.Nat.{_-_, _≤_}
+use mathlib.Core.Path.{_≡_, refl, _∙_}
+use native.Mathlib.Omega.{arith}
+use lib.ListN.{length}
+use borrow.Author.Needs.{needs}
+use Rattle.window.specs.Access.{run}
+use Rattle.window.specs.Loop.{loop}
+use Rattle.layout.specs.Segments.{entryAt}
+use Rattle.layout.specs.Header.{importNamedSymbolEntrySize}
+use Rattle.register_read.specs.Read.{moduleAt}
+use Rattle.linker.specs.Resets.{resetNamed}
+use Rattle.linker_relocation.specs.Runs.{step-made, steps-over}
+use Rattle.linker_imports.specs.Source.{resetAllNamed}
+use Rattle.linker_imports.proofs.ResetLaws.{named-start}
 use Rattle.linker_imports.proofs.resets.reset_all_named.Statement.{statement}
 use Rattle.linker_imports.proofs.resets.reset_all_named.Tie as tie
-use Rattle.linker_imports.proofs.resets.reset_all_named.Reads as reads
-use Rattle.linker_imports.proofs.resets.reset_all_named.Lts as lts
-use Rattle.layout.proofs.fields.entry_address.Reads as entry-address-reads
-use Rattle.layout.proofs.fields.field.Reads as field-reads
-use Rattle.linker_imports.proofs.resets.reset_named.Reads as reset-named-reads
 
 abbrev Inv-loop : tie.InvT-loop
-Inv-loop at w₀ records names place base handler table count index₀ w index = ?
+Inv-loop at w₀ records names place base handler table count index₀ w index =
+    (index ≤ count)
+    × (length w ≡ length w₀)
+    × (run at (loop (λ i _. resetNamed (moduleAt records names place) base handler (entryAt table i importNamedSymbolEntrySize)) index (count - index) tt) w
+    ≡ run at (resetAllNamed (moduleAt records names place) base handler) w₀)
 
 abbrev μ-loop : tie.MeasureT-loop
-μ-loop at w₀ records names place base handler table count index₀ w index = ?
+μ-loop at w₀ records names place base handler table count index₀ w index = count - index
 
--- src/resets.rt:115:9
 field-requires : tie.Need-field-requires Inv-loop μ-loop
-field-requires c κs = ?
+field-requires c κs = search needs
 
--- src/resets.rt:116:9
 field-requires-2 : tie.Need-field-requires-2 Inv-loop μ-loop
-field-requires-2 c κs = ?
+field-requires-2 c κs = search needs
 
--- src/resets.rt:117:5
 loop-holds : tie.Need-loop-holds Inv-loop μ-loop
-loop-holds c = ?
+loop-holds c =
+    let p2 = c .before .before in
+    let p7 = p2 .before .before .before .before .before in
+    (omega arith, refl, named-start (p7 .args .at) (p7 .args .base) (p7 .args .handler) (p7 .args .w .now) (moduleAt (p7 .args .records .now) (p7 .args .names .now) (p7 .args .place)) (p2 .field .ensures) (c .field2 .ensures))
 
--- src/resets.rt:118:13
 entry-address-requires : tie.Need-entry-address-requires Inv-loop μ-loop
-entry-address-requires c κs = ?
+entry-address-requires c κs = search needs
 
--- src/resets.rt:119:9
 reset-named-requires : tie.Need-reset-named-requires Inv-loop μ-loop
-reset-named-requires c κs = ?
+reset-named-requires c κs = search needs
 
--- src/resets.rt:117:9
 add-index : tie.Need-add-index Inv-loop μ-loop
-add-index c = ?
+add-index c = omega arith
 
--- src/resets.rt:117:5
 loop-less : tie.Need-loop-less Inv-loop μ-loop
-loop-less c = ?
+loop-less c = omega arith
 
--- src/resets.rt:117:5
 loop-again : tie.Need-loop-again Inv-loop μ-loop
-loop-again c = ?
+loop-again c =
+    let p2 = c .before .before in
+    let p4 = p2 .before .before in
+    let p5 = p4 .before in
+    let p6 = p5 .before in
+    let p7 = p6 .before in
+    let p9 = p7 .before .before in
+    let p14 = p9 .before .before .before .before .before in (
+      omega arith,
+      p2 .reset-named .kept .1 .0 ∙ p6 .loop .inv .1,
+      step-made (p14 .args .at) (resetNamed (moduleAt (p14 .args .records .now) (p14 .args .names .now) (p14 .args .place)) (p14 .args .base) (p14 .args .handler)) (λ i. entryAt (p9 .field .result) i importNamedSymbolEntrySize) (p6 .loop .index)
+          (p7 .field2 .result) (p6 .loop .w) (p6 .loop .inv .2) (p5 .loop-test .taken) (p4 .entry-address .ensures) (p2 .reset-named .ensures),
+    )
 
--- src/resets.rt:103:1
 same-length : tie.Need-same-length Inv-loop μ-loop
-same-length c = ?
+same-length c =
+    let p1 = c .before in
+    p1 .loop .inv .1
 
--- src/resets.rt:103:1
 returns : tie.Need-returns Inv-loop μ-loop
-returns c = ?
+returns c =
+    let p1 = c .before in
+    let p2 = p1 .before in
+    let p4 = p2 .before .before in
+    let p9 = p4 .before .before .before .before .before in
+    steps-over (p9 .args .at) (resetNamed (moduleAt (p9 .args .records .now) (p9 .args .names .now) (p9 .args .place)) (p9 .args .base) (p9 .args .handler)) (λ i. entryAt (p4 .field .result) i importNamedSymbolEntrySize) (p1 .loop .index)
+    (p2 .field2 .result) (p1 .loop .w) (p1 .loop .inv .2) (c .loop-test .left)
 
 pub reset-all-named-spec : {M : Type 1} → statement M
 reset-all-named-spec =

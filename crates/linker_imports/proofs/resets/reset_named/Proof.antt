@@ -1,46 +1,48 @@
+-- By whether the module exported the name.
 use borrow.Author.Needs.{needs}
+use Rattle.register_read.specs.Read.{moduleAt}
+use Rattle.linker_imports.proofs.ResetLaws.{named-kept, named-reset}
 use Rattle.linker_imports.proofs.resets.reset_named.Statement.{statement}
 use Rattle.linker_imports.proofs.resets.reset_named.Tie as tie
-use Rattle.linker_imports.proofs.resets.reset_named.Reads as reads
-use Rattle.linker_imports.proofs.resets.reset_named.Lts as lts
-use Rattle.linker_imports.proofs.names.export_of.Reads as export-of-reads
-use Rattle.linker_imports.proofs.resets.reset_at.Reads as reset-at-reads
-use Rattle.window.proofs.read32.Reads as read32-reads
 
--- src/resets.rt:69:9
 read32-requires : tie.Need-read32-requires
 read32-requires c κs = search needs
 
--- src/resets.rt:70:25
 export-of-requires : tie.Need-export-of-requires
 export-of-requires c κs = search needs
 
 enum-told : tie.Need-enum-told
 enum-told c = search needs
 
--- src/resets.rt:71:9
 enum-told-2 : tie.Need-enum-told-2
 enum-told-2 c = search needs
 
--- src/resets.rt:71:9
 same-length : tie.Need-same-length
 same-length c = search needs
 
--- src/resets.rt:71:9
 returns : tie.Need-returns
-returns c = ?
+returns c =
+    let p2 = c .before .before in
+    let p4 = p2 .before .before in
+    let p9 = p4 .before .before .before .before .before in
+    named-kept (p9 .args .at) (p9 .args .base) (p9 .args .handler) (p9 .args .entry) (p9 .args .w .now) (moduleAt (p9 .args .records .now) (p9 .args .names .now) (p9 .args .place)) (p4 .read32 .ensures) (p2 .export-of .ensures)
+    (c .enum-told2 .given .1)
 
--- src/resets.rt:73:5
 reset-at-requires : tie.Need-reset-at-requires
 reset-at-requires c κs = search needs
 
--- src/resets.rt:56:1
 same-length-2 : tie.Need-same-length-2
 same-length-2 c = search needs
 
--- src/resets.rt:56:1
 returns-2 : tie.Need-returns-2
-returns-2 c = ?
+returns-2 c =
+    let p2 = c .before .before in
+    let p4 = p2 .before .before in
+    let p6 = p4 .before .before in
+    let p8 = p6 .before .before in
+    let p13 = p8 .before .before .before .before .before in
+    named-reset (p13 .args .at) (p13 .args .base) (p13 .args .handler) (p13 .args .entry) (p13 .args .w .now) (moduleAt (p13 .args .records .now) (p13 .args .names .now) (p13 .args .place)) (p8 .read32 .ensures) (p6 .export-of .ensures)
+    (p4 .enum-told .given .1) (p2 .reset-at .ensures)
 
 pub reset-named-spec : {M : Type 1} → statement M
 reset-named-spec =

@@ -1,47 +1,71 @@
+-- A counted loop over the table: `resets-start`, `step-made`, `steps-over`.
+use Prim.Native.Nat.{_-_, _≤_}
+use mathlib.Core.Path.{_≡_, refl, _∙_}
+use native.Mathlib.Omega.{arith}
+use lib.ListN.{length}
+use borrow.Author.Needs.{needs}
+use Rattle.window.specs.Access.{run}
+use Rattle.window.specs.Loop.{loop}
+use Rattle.layout.specs.Segments.{entryAt}
+use Rattle.layout.specs.Header.{importIndexedSymbolEntrySize}
+use Rattle.linker.specs.Resets.{resetAt}
+use Rattle.linker_relocation.specs.Runs.{step-made, steps-over}
+use Rattle.linker_imports.specs.Source.{resetTable}
+use Rattle.linker_imports.proofs.ResetLaws.{resets-start}
 use Rattle.linker_imports.proofs.resets.reset_table.Statement.{statement}
 use Rattle.linker_imports.proofs.resets.reset_table.Tie as tie
-use Rattle.linker_imports.proofs.resets.reset_table.Reads as reads
-use Rattle.linker_imports.proofs.resets.reset_table.Lts as lts
-use Rattle.layout.proofs.fields.entry_address.Reads as entry-address-reads
-use Rattle.linker_imports.proofs.resets.reset_at.Reads as reset-at-reads
 
 abbrev Inv-loop : tie.InvT-loop
-Inv-loop at w₀ base handler table count index₀ w index = ?
+Inv-loop at w₀ base handler table count index₀ w index =
+    (index ≤ count)
+    × (length w ≡ length w₀)
+    × (run at (loop (λ i _. resetAt base handler (entryAt table i importIndexedSymbolEntrySize)) index (count - index) tt) w
+    ≡ run at (resetTable base handler table count) w₀)
 
 abbrev μ-loop : tie.MeasureT-loop
-μ-loop at w₀ base handler table count index₀ w index = ?
+μ-loop at w₀ base handler table count index₀ w index = count - index
 
--- src/resets.rt:49:5
 loop-holds : tie.Need-loop-holds Inv-loop μ-loop
-loop-holds c = ?
+loop-holds c =
+    let p1 = c .before in
+    (omega arith, refl, resets-start (p1 .args .at) (p1 .args .base) (p1 .args .handler) (p1 .args .w .now) (p1 .args .table) (p1 .args .count))
 
--- src/resets.rt:50:13
 entry-address-requires : tie.Need-entry-address-requires Inv-loop μ-loop
-entry-address-requires c κs = ?
+entry-address-requires c κs = search needs
 
--- src/resets.rt:51:9
 reset-at-requires : tie.Need-reset-at-requires Inv-loop μ-loop
-reset-at-requires c κs = ?
+reset-at-requires c κs = search needs
 
--- src/resets.rt:49:9
 add-index : tie.Need-add-index Inv-loop μ-loop
-add-index c = ?
+add-index c = omega arith
 
--- src/resets.rt:49:5
 loop-less : tie.Need-loop-less Inv-loop μ-loop
-loop-less c = ?
+loop-less c = omega arith
 
--- src/resets.rt:49:5
 loop-again : tie.Need-loop-again Inv-loop μ-loop
-loop-again c = ?
+loop-again c =
+    let p2 = c .before .before in
+    let p4 = p2 .before .before in
+    let p5 = p4 .before in
+    let p6 = p5 .before in
+    let p8 = p6 .before .before in (
+      omega arith,
+      p2 .reset-at .kept .1 .0 ∙ p6 .loop .inv .1,
+      step-made (p8 .args .at) (resetAt (p8 .args .base) (p8 .args .handler)) (λ i. entryAt (p8 .args .table) i importIndexedSymbolEntrySize) (p6 .loop .index)
+          (p8 .args .count) (p6 .loop .w) (p6 .loop .inv .2) (p5 .loop-test .taken) (p4 .entry-address .ensures) (p2 .reset-at .ensures),
+    )
 
--- src/resets.rt:46:1
 same-length : tie.Need-same-length Inv-loop μ-loop
-same-length c = ?
+same-length c =
+    let p1 = c .before in
+    p1 .loop .inv .1
 
--- src/resets.rt:46:1
 returns : tie.Need-returns Inv-loop μ-loop
-returns c = ?
+returns c =
+    let p1 = c .before in
+    let p3 = p1 .before .before in
+    steps-over (p3 .args .at) (resetAt (p3 .args .base) (p3 .args .handler)) (λ i. entryAt (p3 .args .table) i importIndexedSymbolEntrySize) (p1 .loop .index)
+    (p3 .args .count) (p1 .loop .w) (p1 .loop .inv .2) (c .loop-test .left)
 
 pub reset-table-spec : {M : Type 1} → statement M
 reset-table-spec =

@@ -30,9 +30,12 @@ abbrev μ-loop : tie.MeasureT-loop
 
 loop-holds : tie.Need-loop-holds Inv-loop μ-loop
 loop-holds c =
-    let p2 = c .before .before in
-    (omega arith, refl, λ names. table-starts (p2 .args .at) (p2 .args .base) (p2 .args .table) (p2 .args .count) (p2 .args .kind)
-    (moduleAt (p2 .args .records .now) names (p2 .args .place)) (p2 .args .w .now))
+    let p2 = c .before .before in (
+      omega arith,
+      refl,
+      λ names. table-starts (p2 .args .at) (p2 .args .base) (p2 .args .table) (p2 .args .count) (p2 .args .kind)
+          (moduleAt (p2 .args .records .now) names (p2 .args .place)) (p2 .args .w .now),
+    )
 
 entry-address-requires : tie.Need-entry-address-requires Inv-loop μ-loop
 entry-address-requires c κs = search needs
@@ -52,8 +55,7 @@ loop-again c =
     let p4 = p2 .before .before in
     let p5 = p4 .before in
     let p6 = p5 .before in
-    let p9 = p6 .before .before .before in
-    (
+    let p9 = p6 .before .before .before in (
       omega arith,
       p2 .import-from .kept .1 .0 ∙ p6 .loop .inv .1,
       λ names. step-made (p9 .args .at) (importFrom (symbolOf (p9 .args .kind) (moduleAt (p9 .args .records .now) names (p9 .args .place))) (p9 .args .base))
