@@ -1,8 +1,8 @@
 -- From the code's calls and branches to the programs of `Imports` and `Resets`.
-use Prim.Native.Nat.{ℕ, _+_, _-_, _≤_, _<_}
+use Prim.Native.Nat.{ℕ, _+_, _-_, _≤_}
 use mathlib.Core.Path.{_≡_, refl, sym, ap, _∙_}
 use mathlib.Core.List.{List, [], _∷_, _++_}
-use mathlib.Core.Option.{Option, some, none}
+use mathlib.Core.Option.{some, none}
 use mathlib.Core.Bool.{Bool, true, false, not}
 use native.Mathlib.Omega.{arith}
 use lib.ListN.{length, take, drop, length-append}
@@ -10,7 +10,7 @@ use lib.Seq.{take-append-seam}
 use lib.Dec.{eqb}
 use borrow.Author.Tests.{eq-eqb, ne-eqb}
 use Rattle.window.specs.Memory.{if_then_else_, _⊕_, wordAt}
-use Rattle.window.specs.Access.{Prog, ret, read32, _>>=_, run, run-bind, Reads, reads-bind, reads-same}
+use Rattle.window.specs.Access.{Prog, ret, read32, _>>=_, run, run-bind, Reads}
 use Rattle.window.specs.Loop.{loop}
 use Rattle.window.specs.Name.{nameAt, nameAt-reads, laidOver}
 use Rattle.layout.specs.Header.{importNamedSymbolTableOffset, importNamedSymbolNum, importNamedSymbolEntrySize, importModuleTableOffset, importModuleNum, importModuleEntrySize, importIndexedSymbolEntrySize}
@@ -23,7 +23,6 @@ use Rattle.register.specs.declared.exports.Found.{Found}
 use Rattle.register.specs.declared.exports.Found.the-variants as found
 use Rattle.register_read.specs.Encoded.{first-placed}
 use Rattle.register_read.specs.Read.{Encoded, modulesOf, moduleBytes, placeFrom, hasName, entryOf, exportOf, recordAt, moduleAt}
-use Rattle.register_read.specs.Places.{Placed}
 use Rattle.register_read.specs.declared.Record.{Record}
 use Rattle.register_read.specs.declared.Symbol.{Symbol}
 use Rattle.register_read.specs.declared.Symbol.the-variants.{At, Nothing}
@@ -126,7 +125,9 @@ module _ (at base entry : ℕ) (w : List ℕ) (symbol : ℕ → Symbol) {x batch
       let b = wordAt at w (entry ⊕ 4) in
       rw (et, eb, ey, ex) (after-reads at (isUnresolved b) _ w (waiting-reads b))
 
-  pub from-waits : {s : Symbol} {v : List ℕ} → t ≡ true → s ≡ symbol x → v ≡ run at (resolve base batch s) w .1 → v ≡ run at (importFrom symbol base entry) w .1
+  pub from-waits
+      : {s : Symbol} {v : List ℕ} → t ≡ true → s ≡ symbol x → v ≡ run at (resolve base batch s) w .1
+      → v ≡ run at (importFrom symbol base entry) w .1
   from-waits e f h = rw (from-is, e, ← f) h
 
   pub from-passed : t ≡ false → w ≡ run at (importFrom symbol base entry) w .1
@@ -181,7 +182,8 @@ module _ (at base entry : ℕ) (w : List ℕ) (new : Module) {y batch : ℕ} {t 
 
 -- a record's own name
 pub own-name
-    : (records names : List ℕ) (place : ℕ) {r : Record} {n : List ℕ} → r ≡ recordAt records place → n ≡ part names (r .«name_offset») (r .«name_length»)
+    : (records names : List ℕ) (place : ℕ) {r : Record} {n : List ℕ} → r ≡ recordAt records place
+    → n ≡ part names (r .«name_offset») (r .«name_length»)
     → n ≡ moduleAt records names place .name
 unfolding recordAt moduleAt readModule
 own-name records names place e f = rw (f, e)

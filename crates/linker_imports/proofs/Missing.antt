@@ -1,8 +1,8 @@
 -- A named import of the new module: what it leaves of the window and of the register.
-use Prim.Native.Nat.{ℕ, _+_, _-_, _*_, _≤_, _<_}
-use mathlib.Core.Path.{_≡_, refl, sym, ap, _∙_}
+use Prim.Native.Nat.{ℕ, _+_, _-_, _≤_, _<_}
+use mathlib.Core.Path.{_≡_, refl, ap, _∙_}
 use mathlib.Core.List.{List}
-use mathlib.Core.Bool.{Bool, true, false, _&&_}
+use mathlib.Core.Bool.{Bool, true, false}
 use native.Mathlib.Omega.{arith}
 use lib.ListN.{length, take}
 use lib.Dec.{leb}
@@ -14,12 +14,12 @@ use Rattle.window.specs.Name.{noZero, isName, nameAt, nameAt-reads, nameAt-isNa
 use Rattle.window.specs.Tests.{both}
 use Rattle.layout.specs.Header.{importNamedSymbolTableOffset, importNamedSymbolNum, importNamedSymbolEntrySize}
 use Rattle.layout.specs.Segments.{field, entryAt}
-use Rattle.register.specs.Module.{Module, Register}
+use Rattle.register.specs.Module.{Register}
 use Rattle.register.specs.Decode.{readRegister, registerOf, isRegister}
 use Rattle.register.specs.CheckIs.{long}
 use Rattle.register.specs.Buffers.{names-are}
 use Rattle.register.specs.Change.{withMissing}
-use Rattle.register_read.specs.Read.{Encoded, modulesOf, lookupIn}
+use Rattle.register_read.specs.Read.{modulesOf, lookupIn}
 use Rattle.register_read.specs.declared.Symbol.{Symbol}
 use Rattle.register_read.specs.declared.Symbol.the-variants.{At, Nothing}
 use Rattle.register_change.specs.Bytes.{pushMissing}
@@ -40,7 +40,8 @@ register-sizes records names missing h =
     let p = register-parts records names missing h in
     (let l = long records names missing r (p .0) (p .1) .1 in omega arith, names-are records names missing r (p .1) .2)
 
-pub name-short : (at p : ℕ) (w old : List ℕ) {n : ℕ} {buffer : List ℕ} → (n, buffer) ≡ laidOver (run at (nameAt p) w .0) old → length (take n buffer) ≤ 512
+pub name-short
+    : (at p : ℕ) (w old : List ℕ) {n : ℕ} {buffer : List ℕ} → (n, buffer) ≡ laidOver (run at (nameAt p) w .0) old → length (take n buffer) ≤ 512
 unfolding isName
 name-short at p w old e =
     let name = run at (nameAt p) w .0 in
@@ -112,7 +113,8 @@ module _ (at base table : ℕ) (r₀ : Register) where
   turn i ns = importNamed (r₀ .modules) base (entryAt table i importNamedSymbolEntrySize) ns
 
   pub own-starts
-      : (w : List ℕ) {count : ℕ} → table ≡ run at (field base importNamedSymbolTableOffset) w .0 → count ≡ run at (field base importNamedSymbolNum) w .0
+      : (w : List ℕ) {count : ℕ} → table ≡ run at (field base importNamedSymbolTableOffset) w .0
+      → count ≡ run at (field base importNamedSymbolNum) w .0
       → run at (loop turn 0 (count - 0) (r₀ .missing)) w ≡ run at (applyImportNamedSymbols (r₀ .modules) base (r₀ .missing)) w
   unfolding applyImportNamedSymbols field run _>>=_
   own-starts w {count} t n = let z : count - 0 ≡ count = omega arith in rw (z, t, n)
@@ -123,9 +125,6 @@ module _ (at base table : ℕ) (r₀ : Register) where
       (ns : List (List ℕ)) × (Noted r₀ records names missing ns × (run at (loop turn i (n - i) ns) w ≡ end))
 
   module _ (records names missing : List ℕ) (i n : ℕ) (w : List ℕ) (end : List (List ℕ) × List ℕ) (h : Reached records names missing i n w end) where
-    pub reached-valid : isRegister records names missing ≡ true
-    reached-valid = h .1 .0 .0
-
     pub reached-over : n ≤ i → (w ≡ end .1) × Noted r₀ records names missing (end .0)
     reached-over l =
         let e = turns-over at turn i n (h .0) w (h .1 .1) l in
@@ -147,7 +146,12 @@ module _ (at base table : ℕ) (r₀ : Register) where
         ∙ ap (λ z. run at (importNamed (r₀ .modules) base z ns) w) e in (
           run at (turn i ns) w .0,
           (
-            (g .1 .0, g .1 .1 ∙ ap (λ (z : Register). missingNow z (run at (importNamed (r .modules) base entry (r .missing)) w .0)) er ∙ ap (λ (z : List (List ℕ) × List ℕ). missingNow r₀ (z .0)) k),
+            (
+              g .1 .0,
+              g .1 .1
+                  ∙ ap (λ (z : Register). missingNow z (run at (importNamed (r .modules) base entry (r .missing)) w .0)) er
+                  ∙ ap (λ (z : List (List ℕ) × List ℕ). missingNow r₀ (z .0)) k,
+            ),
             turn-made at turn i n ns w (h .1 .1) l (ap (λ z. (run at (turn i ns) w .0, z)) (g .0 ∙ ap (λ (z : List (List ℕ) × List ℕ). z .1) k)),
           ),
         )

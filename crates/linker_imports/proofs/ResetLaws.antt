@@ -4,7 +4,6 @@ use mathlib.Core.Path.{_≡_, refl, sym, ap, _∙_}
 use mathlib.Core.List.{List}
 use mathlib.Core.Bool.{Bool, true, false}
 use native.Mathlib.Omega.{arith}
-use lib.Dec.{eqb}
 use borrow.Author.Tests.{eq-eqb, ne-eqb}
 use Rattle.window.specs.Memory.{if_then_else_, _⊕_, wordAt}
 use Rattle.window.specs.Access.{Prog, ret, read32, _>>=_, _>>_, run, run-bind, Reads, reads-bind}
@@ -86,7 +85,8 @@ module _ (at base handler entry : ℕ) (w : List ℕ) where
       tables = two (wordAt at w (entry ⊕ 4)) (wordAt at w (entry ⊕ 8)) (wordAt at w (entry ⊕ 12)) (wordAt at w (entry ⊕ 16))
 
       four : (b : Bool)
-          → run at (if b then (read32 (entry ⊕ 4) λ i. read32 (entry ⊕ 8) λ n. read32 (entry ⊕ 12) λ a. read32 (entry ⊕ 16) λ m. two i n a m) else ret tt) w
+          → run at
+          (if b then (read32 (entry ⊕ 4) λ i. read32 (entry ⊕ 8) λ n. read32 (entry ⊕ 12) λ a. read32 (entry ⊕ 16) λ m. two i n a m) else ret tt) w
           ≡ run at (if b then tables else ret tt) w
       unfolding run
       four true = refl

@@ -1,5 +1,5 @@
 -- Walks over the records that change the window at each: the modules left, and what is still to do with them.
-use Prim.Native.Nat.{ℕ, zero, suc, _+_, _-_, _≤_, _<_}
+use Prim.Native.Nat.{ℕ, _+_, _-_, _≤_, _<_}
 use mathlib.Core.Path.{_≡_, refl, sym, ap, _∙_, subst}
 use mathlib.Core.List.{List, [], _∷_}
 use mathlib.Core.Bool.{Bool, true, false}
@@ -8,7 +8,7 @@ use lib.ListN.{length, getD}
 use lib.Dec.{eqb}
 use borrow.Author.Tests.{eq-eqb, ne-eqb}
 use Rattle.window.specs.Memory.{if_then_else_}
-use Rattle.window.specs.Access.{Prog, ret, _>>=_, _>>_, run, run-bind}
+use Rattle.window.specs.Access.{Prog, ret, _>>=_, run, run-bind}
 use Rattle.register.specs.Words.{wordsIn}
 use Rattle.register.specs.Module.{Module}
 use Rattle.register.specs.Encode.{flag}
@@ -70,7 +70,9 @@ module _ {R : Type 0} (g : ℕ → List Module → List ℕ → R) (records name
           } in
           subst (λ q. Going g records names q (seen + 1) v end) p o
 
-its-base : {records names : List ℕ} {place : ℕ} {m : Module} {r : Record} → r ≡ recordAt records place → Stands records names place m → r .base ≡ m .base
+its-base
+    : {records names : List ℕ} {place : ℕ} {m : Module} {r : Record} → r ≡ recordAt records place → Stands records names place m
+    → r .base ≡ m .base
 its-base e s = ap (λ (x : Record). x .base) (e ∙ s .words)
 
 -- the exports of a new module to all but the last

@@ -21,7 +21,8 @@ returns : tie.Need-returns
 returns c =
     let p2 = c .before .before in
     let a = p2 .before .before .before .before .before .args in
-    c .first-with-name .ensures ∙ ap (λ x. placeFrom 32 (modulesOf (a .records .now) (a .names .now)) (hasName x)) (name-is _ _ (p2 .read-name .ensures))
+    c .first-with-name .ensures ∙ ap (λ x. placeFrom 32 (modulesOf (a .records .now) (a .names .now)) (hasName x))
+    (name-is _ _ (p2 .read-name .ensures))
 
 pub module-by-name-spec : {M : Type 1} → statement M
 module-by-name-spec =

@@ -28,7 +28,9 @@ module-count-requires c κs = search needs
 loop-holds : tie.Need-loop-holds Inv-loop μ-loop
 loop-holds c =
     let p4 = c .before .before .before .before in
-    (omega arith, refl, going-starts (serving (p4 .args .at) (moduleAt (p4 .args .records .now) (p4 .args .names .now) (p4 .args .place))) (p4 .args .records .now) (p4 .args .names .now) (p4 .args .w .now) (p4 .pre))
+    let a = p4 .args in
+    let m = moduleAt (a .records .now) (a .names .now) (a .place) in
+    (omega arith, refl, going-starts (serving (a .at) m) (a .records .now) (a .names .now) (a .w .now) (p4 .pre))
 
 record-at-requires : tie.Need-record-at-requires Inv-loop μ-loop
 record-at-requires c κs = search needs
@@ -43,8 +45,10 @@ record-end-requires c κs =
     let p6 = p5 .before in
     let p7 = p6 .before in
     let p11 = p7 .before .before .before .before in
+    let a = p11 .args in
+    let m = moduleAt (a .records .now) (a .names .now) (a .place) in
     let f =
-    going-fits (serving (p11 .args .at) (moduleAt (p11 .args .records .now) (p11 .args .names .now) (p11 .args .place))) (p11 .args .records .now) (p11 .args .names .now) (p6 .loop .next) (p6 .loop .k - 1) (p6 .loop .w)
+    going-fits (serving (a .at) m) (a .records .now) (a .names .now) (p6 .loop .next) (p6 .loop .k - 1) (p6 .loop .w)
     (p6 .loop .inv .2) (omega (arith, p5 .loop-test .taken, p6 .loop .inv .0, p7 .module-count .ensures)) (p4 .record-at .ensures) in
     omega arith
 
@@ -61,10 +65,12 @@ loop-again c =
     let p6 = p5 .before in
     let p7 = p6 .before in
     let p8 = p7 .before in
-    let p12 = p8 .before .before .before .before in (
+    let p12 = p8 .before .before .before .before in
+    let a = p12 .args in
+    let m = moduleAt (a .records .now) (a .names .now) (a .place) in (
       omega arith,
       p3 .serve .kept .1 .0 ∙ p7 .loop .inv .1,
-      served-turn (p12 .args .at) (moduleAt (p12 .args .records .now) (p12 .args .names .now) (p12 .args .place)) (p12 .args .records .now) (p12 .args .names .now) (p7 .loop .next)
+      served-turn (a .at) m (a .records .now) (a .names .now) (p7 .loop .next)
           (p7 .loop .k) (p7 .loop .w) (p7 .loop .inv .2) (p7 .loop .inv .0) (omega (arith, p6 .loop-test .taken, p8 .module-count .ensures))
           (p5 .record-at .ensures) (c .record-end .ensures) (p3 .serve .ensures),
     )
@@ -79,7 +85,9 @@ returns c =
     let p1 = c .before in
     let p2 = p1 .before in
     let p6 = p2 .before .before .before .before in
-    served-all (p6 .args .at) (moduleAt (p6 .args .records .now) (p6 .args .names .now) (p6 .args .place)) (p6 .args .records .now) (p6 .args .names .now) (p1 .loop .next) (p1 .loop .k - 1) (p1 .loop .w) (p1 .loop .inv .2)
+    let a = p6 .args in
+    let m = moduleAt (a .records .now) (a .names .now) (a .place) in
+    served-all (a .at) m (a .records .now) (a .names .now) (p1 .loop .next) (p1 .loop .k - 1) (p1 .loop .w) (p1 .loop .inv .2)
     (omega (arith, c .loop-test .left, p2 .module-count .ensures))
 
 pub apply-exports-to-loaded-spec : {M : Type 1} → statement M

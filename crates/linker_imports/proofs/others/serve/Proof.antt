@@ -19,7 +19,9 @@ returns c =
     let p2 = c .before .before in
     let p6 = p2 .before .before .before .before in
     let p11 = p6 .before .before .before .before .before in
-    both-served (p11 .args .at) (p11 .args .base) (p11 .args .w .now) (moduleAt (p11 .args .records .now) (p11 .args .names .now) (p11 .args .place)) (p6 .serve-all-named .ensures) (p2 .serve-all-modules .ensures)
+    let a = p11 .args in
+    let m = moduleAt (a .records .now) (a .names .now) (a .place) in
+    both-served (a .at) (a .base) (a .w .now) m (p6 .serve-all-named .ensures) (p2 .serve-all-modules .ensures)
 
 pub serve-spec : {M : Type 1} → statement M
 serve-spec =

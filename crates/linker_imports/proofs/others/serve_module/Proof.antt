@@ -32,9 +32,11 @@ returns c =
     let p8 = p7 .before in
     let p9 = p8 .before in
     let p14 = p9 .before .before .before .before .before in
-    entry-served (p14 .args .at) (p14 .args .base) (p14 .args .entry) (p14 .args .w .now) (moduleAt (p14 .args .records .now) (p14 .args .names .now) (p14 .args .place)) (p9 .read32 .ensures)
-    (own-name (p14 .args .records .now) (p14 .args .names .now) (p14 .args .place) (p8 .record-at .ensures) (p7 .record-name .ensures))
-    (p5 .is-name .ensures) (p4 .if1 .taken) (p2 .imports-of .ensures (p14 .args .names .now))
+    let a = p14 .args in
+    let m = moduleAt (a .records .now) (a .names .now) (a .place) in
+    entry-served (a .at) (a .base) (a .entry) (a .w .now) m (p9 .read32 .ensures)
+    (own-name (a .records .now) (a .names .now) (a .place) (p8 .record-at .ensures) (p7 .record-name .ensures))
+    (p5 .is-name .ensures) (p4 .if1 .taken) (p2 .imports-of .ensures (a .names .now))
 
 same-length-2 : tie.Need-same-length-2
 same-length-2 c = search needs
@@ -46,8 +48,10 @@ returns-2 c =
     let p4 = p3 .before in
     let p5 = p4 .before in
     let p10 = p5 .before .before .before .before .before in
-    entry-passed (p10 .args .at) (p10 .args .base) (p10 .args .entry) (p10 .args .w .now) (moduleAt (p10 .args .records .now) (p10 .args .names .now) (p10 .args .place)) (p5 .read32 .ensures)
-    (own-name (p10 .args .records .now) (p10 .args .names .now) (p10 .args .place) (p4 .record-at .ensures) (p3 .record-name .ensures))
+    let a = p10 .args in
+    let m = moduleAt (a .records .now) (a .names .now) (a .place) in
+    entry-passed (a .at) (a .base) (a .entry) (a .w .now) m (p5 .read32 .ensures)
+    (own-name (a .records .now) (a .names .now) (a .place) (p4 .record-at .ensures) (p3 .record-name .ensures))
     (p1 .is-name .ensures) (c .if1 .left)
 
 pub serve-module-spec : {M : Type 1} → statement M

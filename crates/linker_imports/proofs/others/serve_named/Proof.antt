@@ -36,8 +36,11 @@ returns c =
     let p11 = p9 .before .before in
     let p12 = p11 .before in
     let p17 = p12 .before .before .before .before .before in
-    serve-waits (p17 .args .at) (p17 .args .base) (p17 .args .entry) (p17 .args .w .now) (moduleAt (p17 .args .records .now) (p17 .args .names .now) (p17 .args .place))
-    (p12 .wrapping-add-u32 .ensures) (p11 .read32 .ensures) (p9 .is-unresolved .ensures) (p8 .if1 .taken) (p6 .read322 .ensures) (p4 .export-of .ensures)
+    let a = p17 .args in
+    let m = moduleAt (a .records .now) (a .names .now) (a .place) in
+    serve-waits (a .at) (a .base) (a .entry) (a .w .now) m
+    (p12 .wrapping-add-u32 .ensures) (p11 .read32 .ensures) (p9 .is-unresolved .ensures) (p8 .if1 .taken) (p6 .read322 .ensures)
+    (p4 .export-of .ensures)
     (p2 .resolve .ensures)
 
 same-length-2 : tie.Need-same-length-2
@@ -49,7 +52,9 @@ returns-2 c =
     let p3 = p1 .before .before in
     let p4 = p3 .before in
     let p9 = p4 .before .before .before .before .before in
-    serve-passed (p9 .args .at) (p9 .args .base) (p9 .args .entry) (p9 .args .w .now) (moduleAt (p9 .args .records .now) (p9 .args .names .now) (p9 .args .place))
+    let a = p9 .args in
+    let m = moduleAt (a .records .now) (a .names .now) (a .place) in
+    serve-passed (a .at) (a .base) (a .entry) (a .w .now) m
     (p4 .wrapping-add-u32 .ensures) (p3 .read32 .ensures) (p1 .is-unresolved .ensures) (c .if1 .left)
 
 pub serve-named-spec : {M : Type 1} → statement M

@@ -7,7 +7,7 @@ use borrow.Author.Needs.{needs}
 use Rattle.window.specs.Access.{run}
 use Rattle.register.specs.Decode.{registerOf}
 use Rattle.linker.specs.Imports.{applyImportNamedSymbols}
-use Rattle.linker_imports.proofs.Missing.{Reached, reached-starts, reached-valid, reached-next, reached-over}
+use Rattle.linker_imports.proofs.Missing.{Reached, reached-starts, reached-next, reached-over}
 use Rattle.linker_imports.proofs.own.apply_import_named_symbols.Statement.{statement}
 use Rattle.linker_imports.proofs.own.apply_import_named_symbols.Tie as tie
 
@@ -32,13 +32,14 @@ field-requires-2 c κs = search needs
 loop-holds : tie.Need-loop-holds Inv-loop μ-loop
 loop-holds c =
     let p2 = c .before .before in
-    let p8 = p2 .before .before .before .before .before .before in (
+    let p8 = p2 .before .before .before .before .before .before in
+    let a = p8 .args in (
       omega arith,
       refl,
       refl,
       refl,
-      reached-starts (p8 .args .at) (p8 .args .base) (p8 .args .records .now) (p8 .args .names .now) (p8 .args .missing .now)
-          (p8 .args .w .now) (p8 .pre) (p2 .field .ensures) (c .field2 .ensures),
+      reached-starts (a .at) (a .base) (a .records .now) (a .names .now) (a .missing .now)
+          (a .w .now) (p8 .pre) (p2 .field .ensures) (c .field2 .ensures),
     )
 
 entry-address-requires : tie.Need-entry-address-requires Inv-loop μ-loop
@@ -62,12 +63,13 @@ loop-again c =
     let p13 = p12 .before in
     let p15 = p13 .before .before in
     let p21 = p15 .before .before .before .before .before .before in
-    let r = registerOf (p21 .args .records .now) (p21 .args .names .now) (p21 .args .missing .now) in (
+    let a = p21 .args in
+    let r = registerOf (a .records .now) (a .names .now) (a .missing .now) in (
       omega arith,
       p6 .import-named .kept .1 .0 ∙ p12 .loop .inv .1,
       p6 .import-named .kept .1 .1 .0 ∙ p12 .loop .inv .2,
       p6 .import-named .kept .1 .1 .1 .1 .0 ∙ p12 .loop .inv .3,
-      reached-next (p21 .args .at) (p21 .args .base) (p15 .field .result) r (p12 .loop .records) (p21 .args .names .now) (p12 .loop .missing)
+      reached-next (a .at) (a .base) (p15 .field .result) r (p12 .loop .records) (a .names .now) (p12 .loop .missing)
           (p12 .loop .index) (p13 .field2 .result) (p12 .loop .w) _ (p12 .loop .inv .4) _ _ (p11 .loop-test .taken) (p10 .entry-address .ensures)
           (p6 .import-named .ensures),
     )
@@ -93,8 +95,9 @@ returns c =
     let p2 = p1 .before in
     let p4 = p2 .before .before in
     let p10 = p4 .before .before .before .before .before .before in
-    reached-over (p10 .args .at) (p10 .args .base) (p4 .field .result)
-    (registerOf (p10 .args .records .now) (p10 .args .names .now) (p10 .args .missing .now)) (p1 .loop .records) (p10 .args .names .now) (p1 .loop .missing)
+    let a = p10 .args in
+    reached-over (a .at) (a .base) (p4 .field .result)
+    (registerOf (a .records .now) (a .names .now) (a .missing .now)) (p1 .loop .records) (a .names .now) (p1 .loop .missing)
     (p1 .loop .index) (p2 .field2 .result) (p1 .loop .w) _ (p1 .loop .inv .4) (c .loop-test .left)
 
 pub apply-import-named-symbols-spec : {M : Type 1} → statement M

@@ -35,7 +35,12 @@ loop-holds : tie.Need-loop-holds Inv-loop μ-loop
 loop-holds c =
     let p2 = c .before .before in
     let p7 = p2 .before .before .before .before .before in
-    (omega arith, refl, imports-start (p7 .args .at) (p7 .args .base) (p7 .args .w .now) (modulesOf (p7 .args .records .now) (p7 .args .names .now)) (p2 .field .ensures) (c .field2 .ensures))
+    let a = p7 .args in (
+      omega arith,
+      refl,
+      imports-start (a .at) (a .base) (a .w .now) (modulesOf (a .records .now) (a .names .now)) (p2 .field .ensures)
+          (c .field2 .ensures),
+    )
 
 entry-address-requires : tie.Need-entry-address-requires Inv-loop μ-loop
 entry-address-requires c κs = search needs
@@ -57,10 +62,12 @@ loop-again c =
     let p6 = p5 .before in
     let p7 = p6 .before in
     let p9 = p7 .before .before in
-    let p14 = p9 .before .before .before .before .before in (
+    let p14 = p9 .before .before .before .before .before in
+    let a = p14 .args in (
       omega arith,
       p2 .import-module .kept .1 .0 ∙ p6 .loop .inv .1,
-      step-made (p14 .args .at) (importModule (modulesOf (p14 .args .records .now) (p14 .args .names .now)) (p14 .args .base)) (λ i. entryAt (p9 .field .result) i importModuleEntrySize) (p6 .loop .index)
+      step-made (a .at) (importModule (modulesOf (a .records .now) (a .names .now)) (a .base))
+          (λ i. entryAt (p9 .field .result) i importModuleEntrySize) (p6 .loop .index)
           (p7 .field2 .result) (p6 .loop .w) (p6 .loop .inv .2) (p5 .loop-test .taken) (p4 .entry-address .ensures) (p2 .import-module .ensures),
     )
 
@@ -75,7 +82,9 @@ returns c =
     let p2 = p1 .before in
     let p4 = p2 .before .before in
     let p9 = p4 .before .before .before .before .before in
-    steps-over (p9 .args .at) (importModule (modulesOf (p9 .args .records .now) (p9 .args .names .now)) (p9 .args .base)) (λ i. entryAt (p4 .field .result) i importModuleEntrySize) (p1 .loop .index)
+    let a = p9 .args in
+    steps-over (a .at) (importModule (modulesOf (a .records .now) (a .names .now)) (a .base))
+    (λ i. entryAt (p4 .field .result) i importModuleEntrySize) (p1 .loop .index)
     (p2 .field2 .result) (p1 .loop .w) (p1 .loop .inv .2) (c .loop-test .left)
 
 pub apply-module-imports-spec : {M : Type 1} → statement M

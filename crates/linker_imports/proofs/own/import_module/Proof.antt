@@ -24,7 +24,8 @@ returns c =
     let p2 = c .before .before in
     let p4 = p2 .before .before in
     let p9 = p4 .before .before .before .before .before in
-    module-missing (p9 .args .records .now) (p9 .args .names .now) (p9 .args .at) (p9 .args .base) (p9 .args .entry) (p9 .args .w .now)
+    let a = p9 .args in
+    module-missing (a .records .now) (a .names .now) (a .at) (a .base) (a .entry) (a .w .now)
     (p4 .read32 .ensures) (p2 .module-by-name .ensures) (c .enum-told .given .1)
 
 imports-of-requires : tie.Need-imports-of-requires
@@ -40,8 +41,9 @@ returns-2 c =
     let p7 = p5 .before .before in
     let p9 = p7 .before .before in
     let p14 = p9 .before .before .before .before .before in
-    module-found (p14 .args .records .now) (p14 .args .names .now) (p14 .args .at) (p14 .args .base) (p14 .args .entry) (p14 .args .w .now)
-    (p9 .read32 .ensures) (p7 .module-by-name .ensures) (p14 .pre) (p5 .place .given .1) (p2 .imports-of .ensures (p14 .args .names .now))
+    let a = p14 .args in
+    module-found (a .records .now) (a .names .now) (a .at) (a .base) (a .entry) (a .w .now)
+    (p9 .read32 .ensures) (p7 .module-by-name .ensures) (p14 .pre) (p5 .place .given .1) (p2 .imports-of .ensures (a .names .now))
 
 pub import-module-spec : {M : Type 1} → statement M
 import-module-spec =

@@ -57,8 +57,9 @@ push-missing-requires c κs =
     let p8 = c .before .before .before .before .before .before .before .before in
     let p11 = p8 .before .before .before in
     let p23 = p11 .before .before .before .before .before .before .before .before .before .before .before .before in
-    let s = register-sizes (p23 .args .records .now) (p23 .args .names .now) (p23 .args .missing .now) (p23 .pre) in
-    (s .0, s .1, name-short (p23 .args .at) (p11 .read322 .result) (p23 .args .w .now) _ (p8 .read-name .ensures))
+    let a = p23 .args in
+    let s = register-sizes (a .records .now) (a .names .now) (a .missing .now) (p23 .pre) in
+    (s .0, s .1, name-short (a .at) (p11 .read322 .result) (a .w .now) _ (p8 .read-name .ensures))
 
 same-length : tie.Need-same-length
 same-length c = search needs
@@ -78,7 +79,8 @@ returns c =
     let p18 = p16 .before .before in
     let p19 = p18 .before in
     let p25 = p19 .before .before .before .before .before .before in
-    own-found (p25 .args .records .now) (p25 .args .names .now) (p25 .args .missing .now) (p25 .args .at) (p25 .args .base) (p25 .args .entry) (p25 .args .w .now) (p25 .pre) (p19 .wrapping-add-u32 .ensures)
+    let a = p25 .args in
+    own-found (a .records .now) (a .names .now) (a .missing .now) (a .at) (a .base) (a .entry) (a .w .now) (p25 .pre) (p19 .wrapping-add-u32 .ensures)
     (p18 .read32 .ensures) (p16 .is-unresolved .ensures) _ (p15 .if1 .taken) (p13 .read322 .ensures) (p10 .read-name .ensures) (p7 .lookup .ensures)
     (p5 .symbol .given .1) (p2 .apply-relocation-batch .ensures)
 
@@ -103,7 +105,9 @@ returns-2 c =
     let p21 = p19 .before .before in
     let p22 = p21 .before in
     let p28 = p22 .before .before .before .before .before .before in
-    own-missing (p28 .args .records .now) (p28 .args .names .now) (p28 .args .missing .now) (p28 .args .at) (p28 .args .base) (p28 .args .entry) (p28 .args .w .now) (p28 .pre) (p22 .wrapping-add-u32 .ensures)
+    let a = p28 .args in
+    own-missing (a .records .now) (a .names .now) (a .missing .now) (a .at) (a .base) (a .entry) (a .w .now) (p28 .pre)
+    (p22 .wrapping-add-u32 .ensures)
     (p21 .read32 .ensures) (p19 .is-unresolved .ensures) _ (p18 .if1 .taken) (p16 .read322 .ensures) (p13 .read-name .ensures) (p10 .lookup .ensures)
     (p8 .enum-told .given .1) (p4 .push-missing .ensures)
 
@@ -116,7 +120,8 @@ returns-3 c =
     let p3 = p1 .before .before in
     let p4 = p3 .before in
     let p10 = p4 .before .before .before .before .before .before in
-    own-passed (p10 .args .records .now) (p10 .args .names .now) (p10 .args .missing .now) (p10 .args .at) (p10 .args .base) (p10 .args .entry) (p10 .args .w .now) (p10 .pre) (p4 .wrapping-add-u32 .ensures)
+    let a = p10 .args in
+    own-passed (a .records .now) (a .names .now) (a .missing .now) (a .at) (a .base) (a .entry) (a .w .now) (p10 .pre) (p4 .wrapping-add-u32 .ensures)
     (p3 .read32 .ensures) (p1 .is-unresolved .ensures) (c .if1 .left)
 
 pub import-named-spec : {M : Type 1} → statement M

@@ -7,7 +7,8 @@ use Rattle.linker_imports.proofs.resets.reset.Tie as tie
 returns : tie.Need-returns
 returns c =
     let p2 = c .before .before in
-    reset-none (p2 .args .at) (p2 .args .base) (p2 .args .handler) (p2 .args .batch) (p2 .args .w .now) (c .if1 .taken)
+    let a = p2 .args in
+    reset-none (a .at) (a .base) (a .handler) (a .batch) (a .w .now) (c .if1 .taken)
 
 batch-is-resolved-requires : tie.Need-batch-is-resolved-requires
 batch-is-resolved-requires c κs = search needs
@@ -25,7 +26,8 @@ returns-2 c =
     let p5 = p4 .before in
     let p7 = p5 .before .before in
     let p9 = p7 .before .before in
-    reset-made (p9 .args .at) (p9 .args .base) (p9 .args .handler) (p9 .args .batch) (p9 .args .w .now) (p7 .if1 .left) (p5 .batch-is-resolved .ensures) (p4 .if2 .taken)
+    let a = p9 .args in
+    reset-made (a .at) (a .base) (a .handler) (a .batch) (a .w .now) (p7 .if1 .left) (p5 .batch-is-resolved .ensures) (p4 .if2 .taken)
     (p2 .apply-relocation-batch .ensures)
 
 same-length-2 : tie.Need-same-length-2
@@ -36,7 +38,8 @@ returns-3 c =
     let p1 = c .before in
     let p3 = p1 .before .before in
     let p5 = p3 .before .before in
-    reset-left (p5 .args .at) (p5 .args .base) (p5 .args .handler) (p5 .args .batch) (p5 .args .w .now) (p3 .if1 .left) (p1 .batch-is-resolved .ensures) (c .if2 .left)
+    let a = p5 .args in
+    reset-left (a .at) (a .base) (a .handler) (a .batch) (a .w .now) (p3 .if1 .left) (p1 .batch-is-resolved .ensures) (c .if2 .left)
 
 pub reset-spec : {M : Type 1} → statement M
 reset-spec =

@@ -20,7 +20,8 @@ abbrev Inv-loop : tie.InvT-loop
 Inv-loop at w₀ records names place base handler table count index₀ w index =
     (index ≤ count)
     × (length w ≡ length w₀)
-    × (run at (loop (λ i _. resetModule (moduleAt records names place) base handler (entryAt table i importModuleEntrySize)) index (count - index) tt) w
+    × (run at (loop (λ i _. resetModule (moduleAt records names place) base handler (entryAt table i importModuleEntrySize)) index (count - index)
+    tt) w
     ≡ run at (resetAllModules (moduleAt records names place) base handler) w₀)
 
 abbrev μ-loop : tie.MeasureT-loop
@@ -36,7 +37,9 @@ loop-holds : tie.Need-loop-holds Inv-loop μ-loop
 loop-holds c =
     let p2 = c .before .before in
     let p7 = p2 .before .before .before .before .before in
-    (omega arith, refl, modules-start (p7 .args .at) (p7 .args .base) (p7 .args .handler) (p7 .args .w .now) (moduleAt (p7 .args .records .now) (p7 .args .names .now) (p7 .args .place)) (p2 .field .ensures) (c .field2 .ensures))
+    let a = p7 .args in
+    let m = moduleAt (a .records .now) (a .names .now) (a .place) in
+    (omega arith, refl, modules-start (a .at) (a .base) (a .handler) (a .w .now) m (p2 .field .ensures) (c .field2 .ensures))
 
 entry-address-requires : tie.Need-entry-address-requires Inv-loop μ-loop
 entry-address-requires c κs = search needs
@@ -58,10 +61,12 @@ loop-again c =
     let p6 = p5 .before in
     let p7 = p6 .before in
     let p9 = p7 .before .before in
-    let p14 = p9 .before .before .before .before .before in (
+    let p14 = p9 .before .before .before .before .before in
+    let a = p14 .args in
+    let m = moduleAt (a .records .now) (a .names .now) (a .place) in (
       omega arith,
       p2 .reset-module .kept .1 .0 ∙ p6 .loop .inv .1,
-      step-made (p14 .args .at) (resetModule (moduleAt (p14 .args .records .now) (p14 .args .names .now) (p14 .args .place)) (p14 .args .base) (p14 .args .handler)) (λ i. entryAt (p9 .field .result) i importModuleEntrySize) (p6 .loop .index)
+      step-made (a .at) (resetModule m (a .base) (a .handler)) (λ i. entryAt (p9 .field .result) i importModuleEntrySize) (p6 .loop .index)
           (p7 .field2 .result) (p6 .loop .w) (p6 .loop .inv .2) (p5 .loop-test .taken) (p4 .entry-address .ensures) (p2 .reset-module .ensures),
     )
 
@@ -76,7 +81,9 @@ returns c =
     let p2 = p1 .before in
     let p4 = p2 .before .before in
     let p9 = p4 .before .before .before .before .before in
-    steps-over (p9 .args .at) (resetModule (moduleAt (p9 .args .records .now) (p9 .args .names .now) (p9 .args .place)) (p9 .args .base) (p9 .args .handler)) (λ i. entryAt (p4 .field .result) i importModuleEntrySize) (p1 .loop .index)
+    let a = p9 .args in
+    let m = moduleAt (a .records .now) (a .names .now) (a .place) in
+    steps-over (a .at) (resetModule m (a .base) (a .handler)) (λ i. entryAt (p4 .field .result) i importModuleEntrySize) (p1 .loop .index)
     (p2 .field2 .result) (p1 .loop .w) (p1 .loop .inv .2) (c .loop-test .left)
 
 pub reset-all-modules-spec : {M : Type 1} → statement M

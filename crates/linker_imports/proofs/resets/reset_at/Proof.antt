@@ -21,7 +21,8 @@ returns c =
     let p4 = p2 .before .before in
     let p5 = p4 .before in
     let p8 = p5 .before .before .before in
-    reset-entry (p8 .args .at) (p8 .args .base) (p8 .args .handler) (p8 .args .entry) (p8 .args .w .now) (p5 .wrapping-add-u32 .ensures) (p4 .read32 .ensures) (p2 .reset .ensures)
+    let a = p8 .args in
+    reset-entry (a .at) (a .base) (a .handler) (a .entry) (a .w .now) (p5 .wrapping-add-u32 .ensures) (p4 .read32 .ensures) (p2 .reset .ensures)
 
 pub reset-at-spec : {M : Type 1} → statement M
 reset-at-spec =

@@ -23,7 +23,9 @@ returns c =
     let p6 = p2 .before .before .before .before in
     let p8 = p6 .before .before in
     let p13 = p8 .before .before .before .before .before in
-    both-reset (p13 .args .at) (p13 .args .base) (p13 .args .w .now) (moduleAt (p13 .args .records .now) (p13 .args .names .now) (p13 .args .place)) (p8 .unresolved-symbol .ensures)
+    let a = p13 .args in
+    let m = moduleAt (a .records .now) (a .names .now) (a .place) in
+    both-reset (a .at) (a .base) (a .w .now) m (p8 .unresolved-symbol .ensures)
     (p6 .reset-all-named .ensures) (p2 .reset-all-modules .ensures)
 
 pub reset-imports-spec : {M : Type 1} → statement M

@@ -69,8 +69,10 @@ returns c =
     let p24 = p23 .before in
     let p25 = p24 .before in
     let p30 = p25 .before .before .before .before .before in
-    module-reset (p30 .args .at) (p30 .args .base) (p30 .args .handler) (p30 .args .entry) (p30 .args .w .now) (moduleAt (p30 .args .records .now) (p30 .args .names .now) (p30 .args .place)) (p25 .read32 .ensures)
-    (own-name (p30 .args .records .now) (p30 .args .names .now) (p30 .args .place) (p24 .record-at .ensures) (p23 .record-name .ensures))
+    let a = p30 .args in
+    let m = moduleAt (a .records .now) (a .names .now) (a .place) in
+    module-reset (a .at) (a .base) (a .handler) (a .entry) (a .w .now) m (p25 .read32 .ensures)
+    (own-name (a .records .now) (a .names .now) (a .place) (p24 .record-at .ensures) (p23 .record-name .ensures))
     (p21 .is-name .ensures) (p20 .if1 .taken) (p18 .wrapping-add-u32 .ensures) (p17 .read322 .ensures) (p15 .wrapping-add-u322 .ensures)
     (p14 .read323 .ensures) (p12 .wrapping-add-u323 .ensures) (p11 .read324 .ensures) (p9 .wrapping-add-u324 .ensures) (p8 .read325 .ensures)
     (p6 .reset-table .ensures) (p2 .reset-table2 .ensures)
@@ -85,8 +87,10 @@ returns-2 c =
     let p4 = p3 .before in
     let p5 = p4 .before in
     let p10 = p5 .before .before .before .before .before in
-    module-kept (p10 .args .at) (p10 .args .base) (p10 .args .handler) (p10 .args .entry) (p10 .args .w .now) (moduleAt (p10 .args .records .now) (p10 .args .names .now) (p10 .args .place)) (p5 .read32 .ensures)
-    (own-name (p10 .args .records .now) (p10 .args .names .now) (p10 .args .place) (p4 .record-at .ensures) (p3 .record-name .ensures))
+    let a = p10 .args in
+    let m = moduleAt (a .records .now) (a .names .now) (a .place) in
+    module-kept (a .at) (a .base) (a .handler) (a .entry) (a .w .now) m (p5 .read32 .ensures)
+    (own-name (a .records .now) (a .names .now) (a .place) (p4 .record-at .ensures) (p3 .record-name .ensures))
     (p1 .is-name .ensures) (c .if1 .left)
 
 pub reset-module-spec : {M : Type 1} → statement M

@@ -25,7 +25,9 @@ returns c =
     let p2 = c .before .before in
     let p4 = p2 .before .before in
     let p9 = p4 .before .before .before .before .before in
-    named-kept (p9 .args .at) (p9 .args .base) (p9 .args .handler) (p9 .args .entry) (p9 .args .w .now) (moduleAt (p9 .args .records .now) (p9 .args .names .now) (p9 .args .place)) (p4 .read32 .ensures) (p2 .export-of .ensures)
+    let a = p9 .args in
+    let m = moduleAt (a .records .now) (a .names .now) (a .place) in
+    named-kept (a .at) (a .base) (a .handler) (a .entry) (a .w .now) m (p4 .read32 .ensures) (p2 .export-of .ensures)
     (c .enum-told2 .given .1)
 
 reset-at-requires : tie.Need-reset-at-requires
@@ -41,7 +43,9 @@ returns-2 c =
     let p6 = p4 .before .before in
     let p8 = p6 .before .before in
     let p13 = p8 .before .before .before .before .before in
-    named-reset (p13 .args .at) (p13 .args .base) (p13 .args .handler) (p13 .args .entry) (p13 .args .w .now) (moduleAt (p13 .args .records .now) (p13 .args .names .now) (p13 .args .place)) (p8 .read32 .ensures) (p6 .export-of .ensures)
+    let a = p13 .args in
+    let m = moduleAt (a .records .now) (a .names .now) (a .place) in
+    named-reset (a .at) (a .base) (a .handler) (a .entry) (a .w .now) m (p8 .read32 .ensures) (p6 .export-of .ensures)
     (p4 .enum-told .given .1) (p2 .reset-at .ensures)
 
 pub reset-named-spec : {M : Type 1} → statement M

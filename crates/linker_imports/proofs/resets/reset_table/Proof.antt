@@ -28,7 +28,8 @@ abbrev μ-loop : tie.MeasureT-loop
 loop-holds : tie.Need-loop-holds Inv-loop μ-loop
 loop-holds c =
     let p1 = c .before in
-    (omega arith, refl, resets-start (p1 .args .at) (p1 .args .base) (p1 .args .handler) (p1 .args .w .now) (p1 .args .table) (p1 .args .count))
+    let a = p1 .args in
+    (omega arith, refl, resets-start (a .at) (a .base) (a .handler) (a .w .now) (a .table) (a .count))
 
 entry-address-requires : tie.Need-entry-address-requires Inv-loop μ-loop
 entry-address-requires c κs = search needs
@@ -48,11 +49,12 @@ loop-again c =
     let p4 = p2 .before .before in
     let p5 = p4 .before in
     let p6 = p5 .before in
-    let p8 = p6 .before .before in (
+    let p8 = p6 .before .before in
+    let a = p8 .args in (
       omega arith,
       p2 .reset-at .kept .1 .0 ∙ p6 .loop .inv .1,
-      step-made (p8 .args .at) (resetAt (p8 .args .base) (p8 .args .handler)) (λ i. entryAt (p8 .args .table) i importIndexedSymbolEntrySize) (p6 .loop .index)
-          (p8 .args .count) (p6 .loop .w) (p6 .loop .inv .2) (p5 .loop-test .taken) (p4 .entry-address .ensures) (p2 .reset-at .ensures),
+      step-made (a .at) (resetAt (a .base) (a .handler)) (λ i. entryAt (a .table) i importIndexedSymbolEntrySize) (p6 .loop .index)
+          (a .count) (p6 .loop .w) (p6 .loop .inv .2) (p5 .loop-test .taken) (p4 .entry-address .ensures) (p2 .reset-at .ensures),
     )
 
 same-length : tie.Need-same-length Inv-loop μ-loop
@@ -64,8 +66,9 @@ returns : tie.Need-returns Inv-loop μ-loop
 returns c =
     let p1 = c .before in
     let p3 = p1 .before .before in
-    steps-over (p3 .args .at) (resetAt (p3 .args .base) (p3 .args .handler)) (λ i. entryAt (p3 .args .table) i importIndexedSymbolEntrySize) (p1 .loop .index)
-    (p3 .args .count) (p1 .loop .w) (p1 .loop .inv .2) (c .loop-test .left)
+    let a = p3 .args in
+    steps-over (a .at) (resetAt (a .base) (a .handler)) (λ i. entryAt (a .table) i importIndexedSymbolEntrySize) (p1 .loop .index)
+    (a .count) (p1 .loop .w) (p1 .loop .inv .2) (c .loop-test .left)
 
 pub reset-table-spec : {M : Type 1} → statement M
 reset-table-spec =

@@ -22,7 +22,8 @@ returns c =
     let p2 = c .before .before in
     let p3 = p2 .before in
     let p5 = p3 .before .before in
-    λ names. anonymous-none (moduleAt (p5 .args .records .now) names (p5 .args .place)) (p5 .args .tag .0) (p3 .segment .ensures)
+    let a = p5 .args in
+    λ names. anonymous-none (moduleAt (a .records .now) names (a .place)) (a .tag .0) (p3 .segment .ensures)
     (p2 .segment-address .ensures names) (c .enum-told .given .1)
 
 offset-requires : tie.Need-offset-requires
@@ -38,7 +39,8 @@ returns-2 c =
     let p5 = p3 .before .before in
     let p6 = p5 .before in
     let p8 = p6 .before .before in
-    λ names. anonymous-some (moduleAt (p8 .args .records .now) names (p8 .args .place)) (p8 .args .tag .0) (p6 .segment .ensures)
+    let a = p8 .args in
+    λ names. anonymous-some (moduleAt (a .records .now) names (a .place)) (a .tag .0) (p6 .segment .ensures)
     (p5 .segment-address .ensures names) (p3 .start .given .1) (p1 .offset .ensures) (c .wrapping-add-u32 .ensures)
 
 pub anonymous-address-spec : {M : Type 1} → statement M

@@ -37,8 +37,9 @@ returns c =
     let p9 = p8 .before in
     let p11 = p9 .before .before in
     let p15 = p11 .before .before .before .before in
-    λ names. from-waits (p15 .args .at) (p15 .args .base) (p15 .args .entry) (p15 .args .w .now)
-    (symbolOf (p15 .args .kind) (moduleAt (p15 .args .records .now) names (p15 .args .place))) (p11 .read32 .ensures) (p9 .wrapping-add-u32 .ensures)
+    let a = p15 .args in
+    λ names. from-waits (a .at) (a .base) (a .entry) (a .w .now)
+    (symbolOf (a .kind) (moduleAt (a .records .now) names (a .place))) (p11 .read32 .ensures) (p9 .wrapping-add-u32 .ensures)
     (p8 .read322 .ensures) (p6 .is-unresolved .ensures) (p5 .if1 .taken) (p3 .symbol-of .ensures names) (p2 .resolve .ensures)
 
 same-length-2 : tie.Need-same-length-2
@@ -51,8 +52,9 @@ returns-2 c =
     let p4 = p3 .before in
     let p6 = p4 .before .before in
     let p10 = p6 .before .before .before .before in
-    λ names. from-passed (p10 .args .at) (p10 .args .base) (p10 .args .entry) (p10 .args .w .now)
-    (symbolOf (p10 .args .kind) (moduleAt (p10 .args .records .now) names (p10 .args .place))) (p6 .read32 .ensures) (p4 .wrapping-add-u32 .ensures)
+    let a = p10 .args in
+    λ names. from-passed (a .at) (a .base) (a .entry) (a .w .now)
+    (symbolOf (a .kind) (moduleAt (a .records .now) names (a .place))) (p6 .read32 .ensures) (p4 .wrapping-add-u32 .ensures)
     (p3 .read322 .ensures) (p1 .is-unresolved .ensures) (c .if1 .left)
 
 pub import-from-spec : {M : Type 1} → statement M

@@ -22,7 +22,8 @@ Inv-loop at w₀ records place kind base table count index₀ w index =
     (index ≤ count)
     × (length w ≡ length w₀)
     × ((names : List ℕ)
-    → run at (loop (λ i _. importFrom (symbolOf kind (moduleAt records names place)) base (entryAt table i importIndexedSymbolEntrySize)) index (count - index) tt) w
+    → run at (loop (λ i _. importFrom (symbolOf kind (moduleAt records names place)) base (entryAt table i importIndexedSymbolEntrySize))
+    index (count - index) tt) w
     ≡ run at (importTable kind (moduleAt records names place) base table count) w₀)
 
 abbrev μ-loop : tie.MeasureT-loop
@@ -30,11 +31,12 @@ abbrev μ-loop : tie.MeasureT-loop
 
 loop-holds : tie.Need-loop-holds Inv-loop μ-loop
 loop-holds c =
-    let p2 = c .before .before in (
+    let p2 = c .before .before in
+    let a = p2 .args in (
       omega arith,
       refl,
-      λ names. table-starts (p2 .args .at) (p2 .args .base) (p2 .args .table) (p2 .args .count) (p2 .args .kind)
-          (moduleAt (p2 .args .records .now) names (p2 .args .place)) (p2 .args .w .now),
+      λ names. table-starts (a .at) (a .base) (a .table) (a .count) (a .kind)
+          (moduleAt (a .records .now) names (a .place)) (a .w .now),
     )
 
 entry-address-requires : tie.Need-entry-address-requires Inv-loop μ-loop
@@ -55,11 +57,12 @@ loop-again c =
     let p4 = p2 .before .before in
     let p5 = p4 .before in
     let p6 = p5 .before in
-    let p9 = p6 .before .before .before in (
+    let p9 = p6 .before .before .before in
+    let a = p9 .args in (
       omega arith,
       p2 .import-from .kept .1 .0 ∙ p6 .loop .inv .1,
-      λ names. step-made (p9 .args .at) (importFrom (symbolOf (p9 .args .kind) (moduleAt (p9 .args .records .now) names (p9 .args .place))) (p9 .args .base))
-          (λ i. entryAt (p9 .args .table) i importIndexedSymbolEntrySize) (p6 .loop .index) (p9 .args .count) (p6 .loop .w) (p6 .loop .inv .2 names)
+      λ names. step-made (a .at) (importFrom (symbolOf (a .kind) (moduleAt (a .records .now) names (a .place))) (a .base))
+          (λ i. entryAt (a .table) i importIndexedSymbolEntrySize) (p6 .loop .index) (a .count) (p6 .loop .w) (p6 .loop .inv .2 names)
           (p5 .loop-test .taken) (p4 .entry-address .ensures) (p2 .import-from .ensures names),
     )
 
@@ -72,8 +75,9 @@ returns : tie.Need-returns Inv-loop μ-loop
 returns c =
     let p1 = c .before in
     let p4 = p1 .before .before .before in
-    λ names. steps-over (p4 .args .at) (importFrom (symbolOf (p4 .args .kind) (moduleAt (p4 .args .records .now) names (p4 .args .place))) (p4 .args .base))
-    (λ i. entryAt (p4 .args .table) i importIndexedSymbolEntrySize) (p1 .loop .index) (p4 .args .count) (p1 .loop .w) (p1 .loop .inv .2 names)
+    let a = p4 .args in
+    λ names. steps-over (a .at) (importFrom (symbolOf (a .kind) (moduleAt (a .records .now) names (a .place))) (a .base))
+    (λ i. entryAt (a .table) i importIndexedSymbolEntrySize) (p1 .loop .index) (a .count) (p1 .loop .w) (p1 .loop .inv .2 names)
     (c .loop-test .left)
 
 pub import-table-spec : {M : Type 1} → statement M

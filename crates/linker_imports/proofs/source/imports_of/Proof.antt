@@ -51,9 +51,12 @@ returns c =
     let p17 = p15 .before .before in
     let p18 = p17 .before in
     let p22 = p18 .before .before .before .before in
-    λ names. tables-made (p22 .args .at) (p22 .args .base) (p22 .args .entry) (moduleAt (p22 .args .records .now) names (p22 .args .place)) (p22 .args .w .now)
-    (p18 .wrapping-add-u32 .ensures) (p17 .read32 .ensures) (p15 .wrapping-add-u322 .ensures) (p14 .read322 .ensures) (p12 .wrapping-add-u323 .ensures)
-    (p11 .read323 .ensures) (p9 .wrapping-add-u324 .ensures) (p8 .read324 .ensures) (p6 .import-table .ensures names) (p2 .import-table2 .ensures names)
+    let a = p22 .args in
+    λ names. tables-made (a .at) (a .base) (a .entry) (moduleAt (a .records .now) names (a .place)) (a .w .now)
+    (p18 .wrapping-add-u32 .ensures) (p17 .read32 .ensures) (p15 .wrapping-add-u322 .ensures) (p14 .read322 .ensures)
+    (p12 .wrapping-add-u323 .ensures)
+    (p11 .read323 .ensures) (p9 .wrapping-add-u324 .ensures) (p8 .read324 .ensures) (p6 .import-table .ensures names)
+    (p2 .import-table2 .ensures names)
 
 pub imports-of-spec : {M : Type 1} → statement M
 imports-of-spec =

@@ -21,14 +21,16 @@ returns : tie.Need-returns
 returns c =
     let p1 = c .before in
     let p4 = p1 .before .before .before in
-    λ names. symbol-indexed (moduleAt (p4 .args .records .now) names (p4 .args .place)) (p4 .args .number) (p1 .enum-told .given .1)
+    let a = p4 .args in
+    λ names. symbol-indexed (moduleAt (a .records .now) names (a .place)) (a .number) (p1 .enum-told .given .1)
     (c .export-indexed .ensures names)
 
 returns-2 : tie.Need-returns-2
 returns-2 c =
     let p1 = c .before in
     let p4 = p1 .before .before .before in
-    λ names. symbol-anonymous (moduleAt (p4 .args .records .now) names (p4 .args .place)) (p4 .args .number) (p1 .enum-told2 .given .1)
+    let a = p4 .args in
+    λ names. symbol-anonymous (moduleAt (a .records .now) names (a .place)) (a .number) (p1 .enum-told2 .given .1)
     (c .anonymous-address .ensures names)
 
 pub symbol-of-spec : {M : Type 1} → statement M
