@@ -167,7 +167,8 @@ module _ (records names : ℕ) (r : Register) (m : Module) (p : proper r ≡ tru
       subst (Below (2 ^ 32)) (sym (words-with (r .modules) m))
       (below-append (recordWords 0 (r .modules)) (moduleWords q m) (2 ^ 32)
       (λ i. s (suc (suc (suc (suc (suc (suc (suc (suc i)))))))))
-      (module-small q m sm (omega (arith, names-with (r .modules) m, their-room .1, room-word names)) (omega (arith, their-room .0, room-word records))))
+      (module-small q m sm (omega (arith, names-with (r .modules) m, their-room .1, room-word names))
+      (omega (arith, their-room .0, room-word records))))
 
   module _ (c : Crs) (missing : List (List ℕ)) (hc : crsBase c < 2 ^ 32) where
     abbrev pub with : Register

@@ -1,0 +1,166 @@
+-- A named import of the new module: what it leaves of the window and of the register.
+use Prim.Native.Nat.{ℕ, _+_, _-_, _≤_, _<_}
+use mathlib.Core.Path.{_≡_, refl, ap, _∙_}
+use mathlib.Core.List.{List}
+use mathlib.Core.Bool.{Bool, true, false}
+use native.Mathlib.Omega.{arith}
+use lib.ListN.{length, take}
+use lib.Dec.{leb}
+use borrow.Author.Tests.{leb-true}
+use Rattle.window.specs.Memory.{if_then_else_, _⊕_, wordAt}
+use Rattle.window.specs.Access.{Prog, ret, _>>=_, _>>_, run, run-bind}
+use Rattle.window.specs.Loop.{loop}
+use Rattle.window.specs.Name.{noZero, isName, nameAt, nameAt-reads, nameAt-isName, laidOver}
+use Rattle.window.specs.Tests.{both}
+use Rattle.layout.specs.Header.{importNamedSymbolTableOffset, importNamedSymbolNum, importNamedSymbolEntrySize}
+use Rattle.layout.specs.Segments.{field, entryAt}
+use Rattle.register.specs.Module.{Register}
+use Rattle.register.specs.Decode.{readRegister, registerOf, isRegister}
+use Rattle.register.specs.CheckIs.{long}
+use Rattle.register.specs.Buffers.{names-are}
+use Rattle.register.specs.Change.{withMissing}
+use Rattle.register_read.specs.Read.{modulesOf, lookupIn}
+use Rattle.register_read.specs.declared.Symbol.{Symbol}
+use Rattle.register_read.specs.declared.Symbol.the-variants.{At, Nothing}
+use Rattle.register_change.specs.Bytes.{pushMissing}
+use Rattle.register_change.specs.Encoded.{register-parts}
+use Rattle.register_change.specs.Kept.{push-kept}
+use Rattle.linker.specs.Relocation.{applyRelocationBatch}
+use Rattle.linker.specs.Imports.{isUnresolved, resolve, noted, importNamed, applyImportNamedSymbols}
+use Rattle.linker.specs.Calls.{missingNow}
+use Rattle.linker_relocation.specs.Runs.{after-reads, turn-made, turns-over}
+use Rattle.linker_imports.specs.Missing.{Noted}
+use Rattle.linker_imports.proofs.Laws.{name-is, waiting-reads, first-read, unresolved-stays, resolved-by}
+
+-- the lengths of a register's buffers, and of a name
+
+pub register-sizes : (records names missing : List ℕ) → isRegister records names missing ≡ true → (32 ≤ length records) × (length missing ≡ 32896)
+register-sizes records names missing h =
+    let r = registerOf records names missing in
+    let p = register-parts records names missing h in
+    (let l = long records names missing r (p .0) (p .1) .1 in omega arith, names-are records names missing r (p .1) .2)
+
+pub name-short
+    : (at p : ℕ) (w old : List ℕ) {n : ℕ} {buffer : List ℕ} → (n, buffer) ≡ laidOver (run at (nameAt p) w .0) old → length (take n buffer) ≤ 512
+unfolding isName
+name-short at p w old e =
+    let name = run at (nameAt p) w .0 in
+    let k = leb-true (length name) 512 (both (leb (length name) 512) (noZero name) (nameAt-isName at p w) .0) in
+    rw (name-is name old e) k
+
+-- one import
+
+module _ (records names missing : List ℕ) (at base entry : ℕ) (w : List ℕ) (pre : isRegister records names missing ≡ true) {y batch : ℕ} {t : Bool}
+    (ey : y ≡ entry ⊕ 4) (eb : batch ≡ wordAt at w y) (et : t ≡ run at (isUnresolved batch) w .0) where
+  abbrev r : Register
+  r = registerOf records names missing
+
+  abbrev x : List (List ℕ) × List ℕ
+  x = run at (importNamed (r .modules) base entry (r .missing)) w
+
+  abbrev after : List ℕ → Prog (List (List ℕ))
+  after name = resolve base batch (lookupIn (r .modules) name) >> ret (noted (lookupIn (r .modules) name) name (r .missing))
+
+  import-is : x ≡ run at (if t then (nameAt (wordAt at w entry) >>= after) else ret (r .missing)) w
+  unfolding importNamed run _>>=_
+  import-is =
+      let b = wordAt at w (entry ⊕ 4) in
+      rw (et, eb, ey)
+      (after-reads at (isUnresolved b) _ w (waiting-reads b) ∙ first-read at entry (run at (isUnresolved b) w .0) _ (ret (r .missing)) w)
+
+  pub own-passed : t ≡ false → (w ≡ x .1) × Noted r records names missing (x .0)
+  unfolding run missingNow
+  own-passed e = rw (import-is, e, run) (refl, (pre, refl))
+
+  module _ (old : List ℕ) (e : t ≡ true) {p n : ℕ} {buffer : List ℕ} {s : Symbol} (ep : p ≡ wordAt at w entry)
+      (en : (n, buffer) ≡ laidOver (run at (nameAt p) w .0) old) (es : s ≡ lookupIn (modulesOf records names) (take n buffer)) where
+    abbrev name : List ℕ
+    name = run at (nameAt p) w .0
+
+    found : s ≡ lookupIn (r .modules) name
+    unfolding registerOf readRegister modulesOf
+    found = es ∙ ap (lookupIn (modulesOf records names)) (name-is name old en)
+
+    waits-is : x ≡ (noted s name (r .missing), run at (resolve base batch s) w .1)
+    unfolding run
+    waits-is =
+        let q = wordAt at w entry in
+        import-is
+        ∙ rw (e, after-reads at (nameAt q) after w (nameAt-reads q), ← ep, ← found)
+        (run-bind at (resolve base batch s) (λ _. ret (noted s name (r .missing))) w)
+
+    pub own-found
+        : {a k : ℕ} {v : List ℕ} → s ≡ At a → (k, v) ≡ run at (applyRelocationBatch base batch a true) w
+        → (v ≡ x .1) × Noted r records names missing (x .0)
+    unfolding noted missingNow
+    own-found f h = rw waits-is (resolved-by at base batch w f h, (pre, rw (f, noted)))
+
+    pub own-missing
+        : {records′ missing′ : List ℕ} → s ≡ Nothing → (records′, missing′) ≡ pushMissing records missing (take n buffer)
+        → (w ≡ x .1) × Noted r records′ names missing′ (x .0)
+    unfolding noted missingNow withMissing
+    own-missing {records′} {missing′} f h =
+        let g = push-kept records names missing name (nameAt-isName at p w) pre in
+        let h′ : (records′, missing′) ≡ pushMissing records missing name = h ∙ ap (pushMissing records missing) (name-is name old en) in
+        let a : records′ ≡ pushMissing records missing name .0 = ap (λ (z : List ℕ × List ℕ). z .0) h′ in
+        let b : missing′ ≡ pushMissing records missing name .1 = ap (λ (z : List ℕ × List ℕ). z .1) h′ in
+        rw waits-is (unresolved-stays at base batch w f, (rw (a, b) (g .0), rw (a, b, f, noted) (g .1)))
+
+-- the imports of a table, in turn
+
+module _ (at base table : ℕ) (r₀ : Register) where
+  abbrev pub turn : ℕ → List (List ℕ) → Prog (List (List ℕ))
+  turn i ns = importNamed (r₀ .modules) base (entryAt table i importNamedSymbolEntrySize) ns
+
+  pub own-starts
+      : (w : List ℕ) {count : ℕ} → table ≡ run at (field base importNamedSymbolTableOffset) w .0
+      → count ≡ run at (field base importNamedSymbolNum) w .0
+      → run at (loop turn 0 (count - 0) (r₀ .missing)) w ≡ run at (applyImportNamedSymbols (r₀ .modules) base (r₀ .missing)) w
+  unfolding applyImportNamedSymbols field run _>>=_
+  own-starts w {count} t n = let z : count - 0 ≡ count = omega arith in rw (z, t, n)
+
+  -- i turns are made, and the register has the missing names ns
+  abbrev pub Reached : List ℕ → List ℕ → List ℕ → ℕ → ℕ → List ℕ → List (List ℕ) × List ℕ → Type 0
+  Reached records names missing i n w end =
+      (ns : List (List ℕ)) × (Noted r₀ records names missing ns × (run at (loop turn i (n - i) ns) w ≡ end))
+
+  module _ (records names missing : List ℕ) (i n : ℕ) (w : List ℕ) (end : List (List ℕ) × List ℕ) (h : Reached records names missing i n w end) where
+    pub reached-over : n ≤ i → (w ≡ end .1) × Noted r₀ records names missing (end .0)
+    reached-over l =
+        let e = turns-over at turn i n (h .0) w (h .1 .1) l in
+        rw (← e) (refl, h .1 .0)
+
+    pub reached-next
+        : (records′ missing′ : List ℕ) {entry : ℕ} {v : List ℕ} → i < n → entry ≡ entryAt table i importNamedSymbolEntrySize
+        → (v ≡ run at (importNamed (registerOf records names missing .modules) base entry (registerOf records names missing .missing)) w .1)
+        × Noted (registerOf records names missing) records′ names missing′
+        (run at (importNamed (registerOf records names missing .modules) base entry (registerOf records names missing .missing)) w .0)
+        → Reached records′ names missing′ (i + 1) n v end
+    unfolding missingNow
+    reached-next records′ missing′ {entry} {v} l e g =
+        let ns = h .0 in
+        let r = registerOf records names missing in
+        let er : r ≡ missingNow r₀ ns = h .1 .0 .1 in
+        let k : run at (importNamed (r .modules) base entry (r .missing)) w ≡ run at (turn i ns) w =
+        ap (λ (z : Register). run at (importNamed (z .modules) base entry (z .missing)) w) er
+        ∙ ap (λ z. run at (importNamed (r₀ .modules) base z ns) w) e in (
+          run at (turn i ns) w .0,
+          (
+            (
+              g .1 .0,
+              g .1 .1
+                  ∙ ap (λ (z : Register). missingNow z (run at (importNamed (r .modules) base entry (r .missing)) w .0)) er
+                  ∙ ap (λ (z : List (List ℕ) × List ℕ). missingNow r₀ (z .0)) k,
+            ),
+            turn-made at turn i n ns w (h .1 .1) l (ap (λ z. (run at (turn i ns) w .0, z)) (g .0 ∙ ap (λ (z : List (List ℕ) × List ℕ). z .1) k)),
+          ),
+        )
+
+pub reached-starts
+    : (at base : ℕ) (records names missing w : List ℕ) {table count : ℕ} → isRegister records names missing ≡ true
+    → table ≡ run at (field base importNamedSymbolTableOffset) w .0 → count ≡ run at (field base importNamedSymbolNum) w .0
+    → Reached at base table (registerOf records names missing) records names missing 0 count w
+    (run at (applyImportNamedSymbols (registerOf records names missing .modules) base (registerOf records names missing .missing)) w)
+unfolding missingNow
+reached-starts at base records names missing w {table} h t n =
+    (registerOf records names missing .missing, ((h, refl), own-starts at base table (registerOf records names missing) w t n))

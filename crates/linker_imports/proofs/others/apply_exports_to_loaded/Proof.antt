@@ -1,0 +1,108 @@
+-- A walk over the records: `going-starts`, `served-turn`, `served-all`.
+use Prim.Native.Nat.{_-_, _≤_}
+use mathlib.Core.Path.{_≡_, refl, _∙_}
+use native.Mathlib.Omega.{arith}
+use lib.ListN.{length}
+use borrow.Author.Needs.{needs}
+use Rattle.window.specs.Access.{run}
+use Rattle.register_read.specs.Read.{modulesOf, moduleAt}
+use Rattle.linker.specs.Imports.{applyExportsToLoaded}
+use Rattle.linker_imports.specs.Modules.{butLast}
+use Rattle.linker_imports.proofs.Walks.{Going, going-starts, going-fits, serving, served-turn, served-all}
+use Rattle.linker_imports.proofs.others.apply_exports_to_loaded.Statement.{statement}
+use Rattle.linker_imports.proofs.others.apply_exports_to_loaded.Tie as tie
+
+abbrev Inv-loop : tie.InvT-loop
+Inv-loop at w₀ records names place count next₀ k₀ w next k =
+    (1 ≤ k)
+    × (length w ≡ length w₀)
+    × Going (serving at (moduleAt records names place)) records names next (k - 1) w
+    (run at (applyExportsToLoaded (moduleAt records names place) (butLast (modulesOf records names))) w₀)
+
+abbrev μ-loop : tie.MeasureT-loop
+μ-loop at w₀ records names place count next₀ k₀ w next k = count - k
+
+module-count-requires : tie.Need-module-count-requires Inv-loop μ-loop
+module-count-requires c κs = search needs
+
+loop-holds : tie.Need-loop-holds Inv-loop μ-loop
+loop-holds c =
+    let p4 = c .before .before .before .before in
+    let a = p4 .args in
+    let m = moduleAt (a .records .now) (a .names .now) (a .place) in
+    (omega arith, refl, going-starts (serving (a .at) m) (a .records .now) (a .names .now) (a .w .now) (p4 .pre))
+
+record-at-requires : tie.Need-record-at-requires Inv-loop μ-loop
+record-at-requires c κs = search needs
+
+serve-requires : tie.Need-serve-requires Inv-loop μ-loop
+serve-requires c κs = search needs
+
+record-end-requires : tie.Need-record-end-requires Inv-loop μ-loop
+record-end-requires c κs =
+    let p4 = c .before .before .before .before in
+    let p5 = p4 .before in
+    let p6 = p5 .before in
+    let p7 = p6 .before in
+    let p11 = p7 .before .before .before .before in
+    let a = p11 .args in
+    let m = moduleAt (a .records .now) (a .names .now) (a .place) in
+    let f =
+    going-fits (serving (a .at) m) (a .records .now) (a .names .now) (p6 .loop .next) (p6 .loop .k - 1) (p6 .loop .w)
+    (p6 .loop .inv .2) (omega (arith, p5 .loop-test .taken, p6 .loop .inv .0, p7 .module-count .ensures)) (p4 .record-at .ensures) in
+    omega arith
+
+add-k : tie.Need-add-k Inv-loop μ-loop
+add-k c = omega arith
+
+loop-less : tie.Need-loop-less Inv-loop μ-loop
+loop-less c = omega arith
+
+loop-again : tie.Need-loop-again Inv-loop μ-loop
+loop-again c =
+    let p3 = c .before .before .before in
+    let p5 = p3 .before .before in
+    let p6 = p5 .before in
+    let p7 = p6 .before in
+    let p8 = p7 .before in
+    let p12 = p8 .before .before .before .before in
+    let a = p12 .args in
+    let m = moduleAt (a .records .now) (a .names .now) (a .place) in (
+      omega arith,
+      p3 .serve .kept .1 .0 ∙ p7 .loop .inv .1,
+      served-turn (a .at) m (a .records .now) (a .names .now) (p7 .loop .next)
+          (p7 .loop .k) (p7 .loop .w) (p7 .loop .inv .2) (p7 .loop .inv .0) (omega (arith, p6 .loop-test .taken, p8 .module-count .ensures))
+          (p5 .record-at .ensures) (c .record-end .ensures) (p3 .serve .ensures),
+    )
+
+same-length : tie.Need-same-length Inv-loop μ-loop
+same-length c =
+    let p1 = c .before in
+    p1 .loop .inv .1
+
+returns : tie.Need-returns Inv-loop μ-loop
+returns c =
+    let p1 = c .before in
+    let p2 = p1 .before in
+    let p6 = p2 .before .before .before .before in
+    let a = p6 .args in
+    let m = moduleAt (a .records .now) (a .names .now) (a .place) in
+    served-all (a .at) m (a .records .now) (a .names .now) (p1 .loop .next) (p1 .loop .k - 1) (p1 .loop .w) (p1 .loop .inv .2)
+    (omega (arith, c .loop-test .left, p2 .module-count .ensures))
+
+pub apply-exports-to-loaded-spec : {M : Type 1} → statement M
+apply-exports-to-loaded-spec =
+    tie.close
+    (tie.spec
+    Inv-loop
+    μ-loop
+    module-count-requires
+    loop-holds
+    record-at-requires
+    serve-requires
+    record-end-requires
+    add-k
+    loop-less
+    loop-again
+    same-length
+    returns)

@@ -1,0 +1,28 @@
+-- Its named imports, then its module entries.
+use borrow.Author.Needs.{needs}
+use Rattle.register_read.specs.Read.{moduleAt}
+use Rattle.linker_imports.proofs.Laws.{both-served}
+use Rattle.linker_imports.proofs.others.serve.Statement.{statement}
+use Rattle.linker_imports.proofs.others.serve.Tie as tie
+
+serve-all-named-requires : tie.Need-serve-all-named-requires
+serve-all-named-requires c κs = search needs
+
+serve-all-modules-requires : tie.Need-serve-all-modules-requires
+serve-all-modules-requires c κs = search needs
+
+same-length : tie.Need-same-length
+same-length c = search needs
+
+returns : tie.Need-returns
+returns c =
+    let p2 = c .before .before in
+    let p6 = p2 .before .before .before .before in
+    let p11 = p6 .before .before .before .before .before in
+    let a = p11 .args in
+    let m = moduleAt (a .records .now) (a .names .now) (a .place) in
+    both-served (a .at) (a .base) (a .w .now) m (p6 .serve-all-named .ensures) (p2 .serve-all-modules .ensures)
+
+pub serve-spec : {M : Type 1} → statement M
+serve-spec =
+    tie.close (tie.spec serve-all-named-requires serve-all-modules-requires same-length returns)

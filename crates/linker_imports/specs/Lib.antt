@@ -1,0 +1,4 @@
+-- Laws that the proofs of `linker_imports` share.
+pub mod Source
+pub mod Missing
+pub mod Modules

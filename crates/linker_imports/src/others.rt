@@ -1,0 +1,118 @@
+// The imports of the modules that stand, served by the module whose record begins at a place.
+ghost use mathlib.Core.Path.{_≡_};
+ghost use Rattle.window.specs.Access.{run};
+ghost use Rattle.register_read.specs.Read.{Encoded, modulesOf, moduleAt};
+ghost use Rattle.linker.specs.Imports.{serveNamed, serveModule, serve, applyExportsToLoaded};
+ghost use Rattle.linker_imports.specs.Source.{serveAllNamed, serveAllModules};
+ghost use Rattle.linker_imports.specs.Modules.{butLast};
+use super::batch::is_unresolved;
+use super::batch::resolve;
+use super::names::export_of;
+use super::names::is_name;
+use super::source::imports_of;
+use layout::fields::entry_address;
+use layout::fields::field;
+use layout::format::IMPORT_MODULE_ENTRY_SIZE;
+use layout::format::IMPORT_NAMED_SYMBOL_ENTRY_SIZE;
+use layout::header::IMPORT_MODULE_NUM;
+use layout::header::IMPORT_MODULE_TABLE_OFFSET;
+use layout::header::IMPORT_NAMED_SYMBOL_NUM;
+use layout::header::IMPORT_NAMED_SYMBOL_TABLE_OFFSET;
+use register_read::modules::module_count;
+use register_read::record_at;
+use register_read::record_end;
+use register_read::record_name;
+
+// One named import, if it still waits and the module exports its name.
+fn serve_named(
+    at: u32,
+    w: &mut [u8],
+    records: &[u8],
+    names: &[u8],
+    place: usize,
+    base: u32,
+    entry: u32,
+)
+    ensures { λ _. ⌜ now (w .exit)
+        ≡ run at (serveNamed (moduleAt (now (records .entry)) (now (names .entry)) place) base entry) (now (w .entry)) .1 ⌝ }
+{
+    let batch = window::read32(at, w, std::num::wrapping_add_u32(entry, 4));
+    if is_unresolved(at, w, batch) {
+        let address = window::read32(at, w, entry);
+        let symbol = export_of(at, w, records, names, place, address);
+        resolve(at, w, base, batch, symbol);
+    }
+}
+
+// The imports of one module entry, if it names the module.
+fn serve_module(
+    at: u32,
+    w: &mut [u8],
+    records: &[u8],
+    names: &[u8],
+    place: usize,
+    base: u32,
+    entry: u32,
+)
+    ensures { λ _. ⌜ now (w .exit)
+        ≡ run at (serveModule (moduleAt (now (records .entry)) (now (names .entry)) place) base entry) (now (w .entry)) .1 ⌝ }
+{
+    let address = window::read32(at, w, entry);
+    let name = record_name(names, record_at(records, place));
+    if is_name(at, w, address, name) {
+        imports_of(at, w, records, place, base, entry);
+    }
+}
+
+// The named imports of the module at base.
+fn serve_all_named(at: u32, w: &mut [u8], records: &[u8], names: &[u8], place: usize, base: u32)
+    ensures { λ _. ⌜ now (w .exit)
+        ≡ run at (serveAllNamed (moduleAt (now (records .entry)) (now (names .entry)) place) base) (now (w .entry)) .1 ⌝ }
+{
+    let table = field(at, w, base, IMPORT_NAMED_SYMBOL_TABLE_OFFSET);
+    let count = field(at, w, base, IMPORT_NAMED_SYMBOL_NUM);
+    for index in 0..count {
+        let entry = entry_address(table, index, IMPORT_NAMED_SYMBOL_ENTRY_SIZE);
+        serve_named(at, w, records, names, place, base, entry);
+    }
+}
+
+// The module entries of the module at base.
+fn serve_all_modules(at: u32, w: &mut [u8], records: &[u8], names: &[u8], place: usize, base: u32)
+    ensures { λ _. ⌜ now (w .exit)
+        ≡ run at (serveAllModules (moduleAt (now (records .entry)) (now (names .entry)) place) base) (now (w .entry)) .1 ⌝ }
+{
+    let table = field(at, w, base, IMPORT_MODULE_TABLE_OFFSET);
+    let count = field(at, w, base, IMPORT_MODULE_NUM);
+    for index in 0..count {
+        let entry = entry_address(table, index, IMPORT_MODULE_ENTRY_SIZE);
+        serve_module(at, w, records, names, place, base, entry);
+    }
+}
+
+// Resolves the imports of the module at base that the module at the place satisfies.
+pub fn serve(at: u32, w: &mut [u8], records: &[u8], names: &[u8], place: usize, base: u32)
+    ensures { λ _. ⌜ now (w .exit)
+        ≡ run at (serve (moduleAt (now (records .entry)) (now (names .entry)) place) base) (now (w .entry)) .1 ⌝ }
+{
+    serve_all_named(at, w, records, names, place, base);
+    serve_all_modules(at, w, records, names, place, base);
+}
+
+// Resolves the imports that the module at the place satisfies in all modules but the last, which is the new one itself.
+pub fn apply_exports_to_loaded(at: u32, w: &mut [u8], records: &[u8], names: &[u8], place: usize)
+    requires { ⌜ Encoded (now records) (now names) ⌝ }
+    ensures { λ _. ⌜ now (w .exit)
+        ≡ run at (applyExportsToLoaded (moduleAt (now (records .entry)) (now (names .entry)) place)
+        (butLast (modulesOf (now (records .entry)) (now (names .entry))))) (now (w .entry)) .1 ⌝ }
+{
+    let count = module_count(records);
+    let mut next: usize = 32;
+    let mut k: u32 = 1;
+    while k < count {
+        let record = record_at(records, next);
+        serve(at, w, records, names, place, record.base);
+        next = record_end(record);
+        k += 1;
+    }
+}
