@@ -1,0 +1,3 @@
+-- The record of a module, read from its image and written after the last one.
+pub mod Read
+pub mod Writing
