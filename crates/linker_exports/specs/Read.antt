@@ -109,7 +109,7 @@ module _ (at : ℕ) (w : List ℕ) (base : ℕ) where
   unfolding segmentsTo
   segments-loop n = let z : 0 + n ≡ n = omega arith in loop-gives at one w segmentsTo segment-turn 0 n ∙ ap (λ k. (segmentsTo k, w)) z
 
-  length-segments : (i : ℕ) → length (segmentsTo i) ≡ i
+  pub length-segments : (i : ℕ) → length (segmentsTo i) ≡ i
   unfolding segmentsTo
   length-segments zero = refl
   length-segments (suc i) = length-append (segmentsTo i) (segmentOf i ∷ []) ∙ omega (arith, length-segments i)
