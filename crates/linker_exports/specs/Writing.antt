@@ -133,6 +133,10 @@ unfoldable pub tried : Draft → Drafted → List ℕ → List ℕ → Drafted �
 tried d (Open e) rs ns = (Open e, rs, ns)
 tried d Full rs ns = (Full, givenUp rs ns d .0, givenUp rs ns d .1)
 
+-- an export put, or the record given up
+unfoldable pub putTried : Draft → List ℕ → List ℕ → List ℕ → ℕ → Drafted × List ℕ × List ℕ
+putTried d rs ns name a = tried d (putExport rs ns d name a .0) (putExport rs ns d name a .1) (putExport rs ns d name a .2)
+
 -- the words of a module with one thing more
 
 more-segment : (q : ℕ) (m : Module) (a : ℕ) → length (moduleWords q (withSegment m a)) ≡ length (moduleWords q m) + 1
@@ -296,7 +300,8 @@ module _ (g : Ground) (m : Module) (d : Draft) (rs ns : List ℕ) (h : Writing g
           go true false p q = rest true false refl p q
           go false s p q = rest false s refl p q
 
-    pub export-tried : Writing g m′ (exported name a .0) (exported name a .1) (exported name a .2)
+    pub export-tried : Writing g m′ (putTried d rs ns name a .0) (putTried d rs ns name a .1) (putTried d rs ns name a .2)
+    unfolding putTried
     export-tried = go (findExport (m .named) name) refl
       where
         go : (f : Found) → findExport (m .named) name ≡ f → Writing g m′ (exported name a .0) (exported name a .1) (exported name a .2)

@@ -19,7 +19,7 @@ same-length-2 : tie.Need-same-length-2
 same-length-2 c = search needs
 
 returns : tie.Need-returns
-returns c = 
+returns c =
     let a = c .before .before .before .before .before .before .before .before .before .before .before .before .before .before .before .args in
     added-segment (a .at) (a .w .now) (a .base) (a .i) _ (a .before) (a .records .now) (a .names .now) _ _ _ _ _ (c .before .before .before .before .before .before .before .before .before .before .before .segment-offset .ensures)
     (c .before .before .before .before .before .before .before .before .before .before .before .segment-offset .ok) (c .before .before .before .before .before .before .before .before .before .push-segment .ensures) (c .before .before .before .before .kept .ensures)
