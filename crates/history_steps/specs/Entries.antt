@@ -29,7 +29,7 @@ use Rattle.history_steps.specs.Shows.{shows-view}
 use Rattle.history_steps.specs.Reading.{plain-sum, four-at, reads-name}
 use Rattle.history_steps.specs.Links.{Links, Stands}
 use Rattle.history_steps.specs.Changes.{Change, change-then, change-iff, Changed}
-use Rattle.history_steps.specs.Runs.{Begins, Linking, RunBegins, by-index, by-tag, links-run, unlinks-run}
+use Rattle.history_steps.specs.Runs.{Begins, Linking, RunBegins, EntryBegins, by-index, by-tag, links-run, unlinks-run}
 
 module _ (m : Image) (laid : WellLaid m) (low : Low (Area m)) {T : Memory} (view : View m T) (n v : ℕ) where
   abbrev F : ℕ → ℕ
@@ -54,21 +54,14 @@ module _ (m : Image) (laid : WellLaid m) (low : Low (Area m)) {T : Memory} (view
         let z : base + entry F moduleEntries j ⊕ k ≡ base + (entry F moduleEntries j + k) = omega (arith, b) in
         rw z (reads-get32 S _ (four-at m laid low (entry F moduleEntries j + k) (omega (arith, inside))) e)
 
-    -- its name
-    pub reads-entry-name
-        : {M : Memory} → View m M
-        → Reads S (get32 (base + entry F moduleEntries j) >>= nameAt) (nameOf F (word F (entry F moduleEntries j))) M
-    reads-entry-name w =
-        reads-then S (get32 (base + entry F moduleEntries j)) nameAt (movedOffset base (word F (entry F moduleEntries j)))
-        (reads-get32 S _ (four-at m laid low (entry F moduleEntries j) (omega (arith, inside))) (w .moved (entry F moduleEntries j) (entry-name j l)))
-        (reads-name m laid low w (word F (entry F moduleEntries j)) (of-entry j l))
-
-    -- the entries of either run that begin batches
-    abbrev pub EntryBegins : ℕ → Type 0
-    EntryBegins e = (i : Import) × IsImport F i × InRun F j i × Begins F i e
+    -- the pointer of its name
+    pub reads-entry-pointer
+        : {M : Memory} → View m M → Reads S (get32 (base + entry F moduleEntries j)) (movedOffset base (word F (entry F moduleEntries j))) M
+    reads-entry-pointer w =
+        reads-get32 S _ (four-at m laid low (entry F moduleEntries j) (omega (arith, inside))) (w .moved (entry F moduleEntries j) (entry-name j l))
 
     -- the two runs have no import in common
-    runs-apart : (e : ℕ) → RunBegins m laid low view n v indexed j e → RunBegins m laid low view n v anonymous j e → ⊥
+    runs-apart : (e : ℕ) → RunBegins F indexed j e → RunBegins F anonymous j e → ⊥
     runs-apart e (i, a, r, b) (k, c, s, d) =
         let z : indexed i ≡ anonymous k = laid .alone .own-batch (indexed i) (anonymous k) a c (b ∙ sym d) in absurd (omega (arith, ap sortOf z))
       where
@@ -81,15 +74,15 @@ module _ (m : Image) (laid : WellLaid m) (low : Low (Area m)) {T : Memory} (view
     unfolding InRun runCount
     no-run i (k, h, e) = omega (arith, h)
 
-    both-runs : {φ ψ χ : Links} {R : ℕ → Option ℕ → Option ℕ → Type 0} → Change (RunBegins m laid low view n v indexed j) R φ ψ
-        → Change (RunBegins m laid low view n v anonymous j) R ψ χ → Change EntryBegins R φ χ
+    both-runs : {φ ψ χ : Links} {R : ℕ → Option ℕ → Option ℕ → Type 0} → Change (RunBegins F indexed j) R φ ψ
+        → Change (RunBegins F anonymous j) R ψ χ → Change (EntryBegins F j) R φ χ
     both-runs c d = change-iff into out (change-then runs-apart c d)
       where
-        into : (e : ℕ) → RunBegins m laid low view n v indexed j e ⊎ RunBegins m laid low view n v anonymous j e → EntryBegins e
+        into : (e : ℕ) → RunBegins F indexed j e ⊎ RunBegins F anonymous j e → EntryBegins F j e
         into e (inl (i, a, r, b)) = (indexed i, a, r, b)
         into e (inr (i, a, r, b)) = (anonymous i, a, r, b)
 
-        out : (e : ℕ) → EntryBegins e → RunBegins m laid low view n v indexed j e ⊎ RunBegins m laid low view n v anonymous j e
+        out : (e : ℕ) → EntryBegins F j e → RunBegins F indexed j e ⊎ RunBegins F anonymous j e
         out e (named i, a, r, b) = absurd (no-run i r)
         out e (indexed i, a, r, b) = inl (i, a, r, b)
         out e (anonymous i, a, r, b) = inr (i, a, r, b)
@@ -117,7 +110,7 @@ module _ (m : Image) (laid : WellLaid m) (low : Low (Area m)) {T : Memory} (view
         → ((i : ℕ) → IsImport F (indexed i) → InRun F j (indexed i) → read.entryOf (r .indexed) (wanted F (indexed i)) ≡ offered (indexed i))
         → ((i : ℕ) → IsImport F (anonymous i) → InRun F j (anonymous i) → imports.anonymousOf r (wanted F (anonymous i)) ≡ offered (anonymous i))
         → Stands m T φ n v M
-        → Does S (importsOf (some r) base (base + entry F moduleEntries j)) (λ _ N. Changed m T n v S (Linking F offered) EntryBegins φ N) M
+        → Does S (importsOf (some r) base (base + entry F moduleEntries j)) (λ _ N. Changed m T n v S (Linking F offered) (EntryBegins F j) φ N) M
     unfolding importsOf linkFrom
     links-entry {φ} {M} offered r f g s =
         let w = shows-view m laid view (s .shows) in

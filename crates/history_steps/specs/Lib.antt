@@ -12,3 +12,4 @@ pub mod Turns
 pub mod Records
 pub mod Runs
 pub mod Entries
+pub mod Serving

@@ -34,6 +34,13 @@ use Rattle.history_steps.specs.Turns.{linkTo, import-inside, reads-batch
 abbrev pub Begins : (ℕ → ℕ) → Import → ℕ → Type 0
 Begins F i e = batch F i ≡ entry F externals e
 
+-- the entries that begin batches of the run of module entry j, of one kind or of both
+abbrev pub RunBegins : (ℕ → ℕ) → (ℕ → Import) → ℕ → ℕ → Type 0
+RunBegins F make j e = (i : ℕ) × IsImport F (make i) × InRun F j (make i) × Begins F (make i) e
+
+abbrev pub EntryBegins : (ℕ → ℕ) → ℕ → ℕ → Type 0
+EntryBegins F j e = (i : Import) × IsImport F i × InRun F j i × Begins F i e
+
 -- each import whose batch begins at e gets what is offered to it
 abbrev pub Linking : (ℕ → ℕ) → (Import → Symbol) → ℕ → Option ℕ → Option ℕ → Type 0
 Linking F offered e x y = (i : Import) → IsImport F i → Begins F i e → y ≡ linkTo x (offered i)
@@ -137,10 +144,6 @@ module _ (m : Image) (laid : WellLaid m) (low : Low (Area m)) {T : Memory} (view
         asks = λ i l N w. w .kept (entry F anonymousImports i) (import-tag i l);
       }
 
-  -- the entries of the run of module entry j that begin batches
-  abbrev pub RunBegins : (ℕ → Import) → ℕ → ℕ → Type 0
-  RunBegins make j e = (i : ℕ) × IsImport F (make i) × InRun F j (make i) × Begins F (make i) e
-
   module _ (make : ℕ → Import) (t : ℕ) (q : Kind make t) (j : ℕ) (l : j < count F moduleEntries) where
     -- import i is the run's k-th
     record At-run (k i : ℕ) : Type 0 where
@@ -212,7 +215,7 @@ module _ (m : Image) (laid : WellLaid m) (low : Low (Area m)) {T : Memory} (view
         o (other-import k d i g (rw (← z) at h))
 
     run-begins : {φ ψ : Links} {R : ℕ → Option ℕ → Option ℕ → Type 0}
-        → Change (λ e. (k : ℕ) × (k < runCount F j (make 0)) × AtBegins k e) R φ ψ → Change (RunBegins make j) R φ ψ
+        → Change (λ e. (k : ℕ) × (k < runCount F j (make 0)) × AtBegins k e) R φ ψ → Change (RunBegins F make j) R φ ψ
     run-begins c =
         change-iff (λ e h. (h .2 .0, h .2 .1 .is, in-run (h .0) (h .2 .0) (h .1) (h .2 .1), h .2 .2))
         (λ e h. let r = of-run (h .0) (h .1) (h .2) in (r .0, r .1, (h .0, r .2, h .3))) c
@@ -228,7 +231,7 @@ module _ (m : Image) (laid : WellLaid m) (low : Low (Area m)) {T : Memory} (view
         → ((i : ℕ) → IsImport F (make i) → InRun F j (make i) → symbol (wanted F (make i)) ≡ offered (make i)) → Stands m T φ n v M
         → Does S
         (loop (λ k _. importFrom symbol base (entryAt (movedOffset base (runStart F j (make 0))) k 8)) 0 (runCount F j (make 0)) (tt {0}))
-        (λ _ N. Changed m T n v S (Linking F offered) (RunBegins make j) φ N) M
+        (λ _ N. Changed m T n v S (Linking F offered) (RunBegins F make j) φ N) M
     links-run {φ} {M} offered symbol same s =
         does-mono S
         (changes-loop m T n v S (Linking F offered)
@@ -247,7 +250,7 @@ module _ (m : Image) (laid : WellLaid m) (low : Low (Area m)) {T : Memory} (view
         : {φ : Links} {M : Memory} → Stands m T φ n v M
         → Does S
         (loop (λ k _. resetAt base (handler m) (entryAt (movedOffset base (runStart F j (make 0))) k 8)) 0 (runCount F j (make 0)) (tt {0}))
-        (λ _ N. Changed m T n v S (λ e x y. y ≡ none) (RunBegins make j) φ N) M
+        (λ _ N. Changed m T n v S (λ e x y. y ≡ none) (RunBegins F make j) φ N) M
     unlinks-run {φ} {M} s =
         does-mono S
         (changes-loop m T n v S (λ e x y. y ≡ none)

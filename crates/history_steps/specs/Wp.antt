@@ -174,3 +174,10 @@ module _ (S : ℕ → Type 0) where
   pub reads-get32 : (p : ℕ) {v : ℕ} {M : Memory} → Four S p → word M p ≡ v → Reads (get32 p) v M
   unfolding WithinM runM
   reads-get32 p s e = record { lies = (s, tt); gives = (e, refl) }
+
+  -- a read before what is done under a test
+  pub if-reads
+      : {A B : Type 0} (c : Bool) (m : Prog A) (f : A → Prog B) (v : A) (u : Prog B) {Q : B → Memory → Type 0} {M : Memory} → Reads m v M
+      → Does S (if c then f v else u) Q M → Does S (if c then (m >>= f) else u) Q M
+  if-reads true m f v u h k = does-read m f v h k
+  if-reads false m f v u h k = k

@@ -1,0 +1,141 @@
+-- A new module's exports reach a standing one: each of its imports that asks for one gets it, if it is not linked yet.
+use Prim.Native.Nat.{ℕ, zero, suc, _+_, _*_, _^_, _≤_, _<_}
+use mathlib.Core.Path.{_≡_, refl, sym, ap, _∙_}
+use mathlib.Core.Logic.{_≢_, _⊎_, inl, inr}
+use mathlib.Core.List.{List}
+use mathlib.Core.Option.{Option, some, none}
+use mathlib.Core.Bool.{Bool, true, false}
+use native.Mathlib.Omega.{arith}
+use lib.Dec.{lit<, lit≤}
+use Rattle.window.specs.Memory.{if_then_else_, _⊕_}
+use Rattle.window.specs.Access.{Prog, ret, _>>=_, _>>_, get32}
+use Rattle.window.specs.Loop.{loop}
+use Rattle.window.specs.Name.{nameAt}
+use Rattle.window.specs.Within.{Low}
+use Rattle.window.specs.Mirror.{word}
+use Rattle.layout.specs.Segments.{field, entryAt}
+use Rattle.register.specs.Words.{same}
+use Rattle.register.specs.Lists.{same-true, same-refl}
+use Rattle.register.specs.Module.{Module}
+use Rattle.register_read.specs.Read as read
+use Rattle.register_read.specs.declared.Symbol.{Symbol}
+use Rattle.linker.specs.Imports as imports
+use Rattle.linker.specs.Imports.{isUnresolved, resolve, importsOf, serveNamed, serveModule, serve}
+use Rattle.history.specs.Image.{tables, namedImports, moduleEntries, externals, start, count, entry, nameOf, moduleName}
+use Rattle.history.specs.Arrival.{Image, baseOf, sizeOf, movedOffset, Area}
+use Rattle.history.specs.Imports.{Import, named, indexed, anonymous, importEntry, importNumber, IsImport, wanted, batch, InRun, From}
+use Rattle.history.specs.WellLaid.{table, tableNumber, Pointer, of-import, of-entry, WellLaid}
+use Rattle.history_steps.specs.Wp.{Memory, Does, Reads, does-mono, does-ret, does-then, does-read, reads-then, reads-get32, if-reads}
+use Rattle.history_steps.specs.View.{View, import-name}
+use Rattle.history_steps.specs.Parts.{part-inside, entry-in-table}
+use Rattle.history_steps.specs.Shows.{shows-view}
+use Rattle.history_steps.specs.Reading.{four-at, entry-at, reads-start, reads-count, reads-name}
+use Rattle.history_steps.specs.Links.{Links, isSome, relink, Stands}
+use Rattle.history_steps.specs.Changes.{Change, change-none, change-then, change-iff, Changed, changes-loop}
+use Rattle.history_steps.specs.Turns.{linkTo, import-inside, reads-batch, reads-unresolved, resolves}
+use Rattle.history_steps.specs.Records.{asSymbol, Recorded, offer, Asks}
+use Rattle.history_steps.specs.Runs.{Begins, EntryBegins, Linking, relinked}
+use Rattle.history_steps.specs.Entries.{reads-entry-pointer, links-entry}
+
+true-false : _≡_ {A = Bool} true false → ⊥
+true-false e = absurd (omega (arith, ap number e))
+  where
+    number : Bool → ℕ
+    number true = 1
+    number false = 0
+
+module _ (m : Image) (laid : WellLaid m) (low : Low (Area m)) {T : Memory} (view : View m T) (n v : ℕ) where
+  abbrev F : ℕ → ℕ
+  F = m .file
+
+  abbrev base : ℕ
+  base = baseOf (m .coming)
+
+  abbrev S : ℕ → Type 0
+  S = Area m
+
+  -- the pointer of the name that a named import asks for
+  pub reads-import-name
+      : {M : Memory} → View m M → (i : ℕ) → i < count F namedImports
+      → Reads S (get32 (base + importEntry F (named i))) (movedOffset base (wanted F (named i))) M
+  unfolding importEntry wanted
+  reads-import-name w i l =
+      let e = import-inside m laid low (named i) l in
+      reads-get32 S _ (four-at m laid low (importEntry F (named i)) (omega (arith, e))) (w .moved (entry F namedImports i) (import-name i l))
+
+  import-pointer : (i : ℕ) → i < count F namedImports → Pointer F (wanted F (named i))
+  unfolding importEntry wanted
+  import-pointer i l = of-import i l
+
+  -- named imports begin different batches
+  named-apart : (i j e : ℕ) → i < count F namedImports → j < count F namedImports → i ≢ j → Begins F (named i) e → Begins F (named j) e → ⊥
+  named-apart i j e l g o a b = o (ap importNumber (laid .alone .own-batch (named i) (named j) l g (a ∙ sym b)))
+
+  -- the address of a named import's entry
+  named-at : (i : ℕ) → i < count F namedImports → entryAt (movedOffset base (start F namedImports)) i 8 ≡ base + importEntry F (named i)
+  unfolding importEntry tables
+  named-at i l = let e = import-inside m laid low (named i) l in entry-at m laid low 6 i (lit< tt) l (omega (arith, e))
+
+  entry-start : (j : ℕ) → j < count F moduleEntries → entryAt (movedOffset base (start F moduleEntries)) j 20 ≡ base + entry F moduleEntries j
+  unfolding tables
+  entry-start j l =
+      let e = part-inside m laid (table 4) _ (entry-in-table F 4 j 0 (lit< tt) l (lit< tt)) in
+      entry-at m laid low 4 j (lit< tt) l (omega (arith, e))
+
+  module _ (x : Image) (r : Module) (rec : Recorded x r) where
+    offers-indexed : (i : ℕ) → read.entryOf (r .indexed) (wanted F (indexed i)) ≡ offer x m (indexed i)
+    unfolding offer
+    offers-indexed i = rec .indexes (wanted F (indexed i))
+
+    offers-anonymous : (i : ℕ) → imports.anonymousOf r (wanted F (anonymous i)) ≡ offer x m (anonymous i)
+    unfolding offer
+    offers-anonymous i = rec .anonymous (wanted F (anonymous i))
+
+    -- one named import
+    serves-one
+        : {φ : Links} {M : Memory} (i : ℕ) → i < count F namedImports → Stands m T φ n v M
+        → Does S (serveNamed r base (base + importEntry F (named i)))
+        (λ _ N. Changed m T n v S (Linking F (offer x m)) (Begins F (named i)) φ N) M
+    unfolding serveNamed offer
+    serves-one {φ} {M} i l s =
+        let w = shows-view m laid view (s .shows) in
+        let b = laid .alone .batches (named i) l in
+        let name = nameOf F (wanted F (named i)) in
+        let c : Bool = if isSome (φ (b .0)) then false else true in
+        does-read S (get32 (base + importEntry F (named i) ⊕ 4)) _ (base + entry F externals (b .0))
+        (reads-batch m laid low view n v w (named i) l (b .0) (b .1) (b .2))
+        (does-read S (isUnresolved (base + entry F externals (b .0))) _ c (reads-unresolved m laid low view n v (named i) (b .0) (b .1) (b .2) s)
+        (if-reads S c (get32 (base + importEntry F (named i))) _ (movedOffset base (wanted F (named i))) (ret tt) (reads-import-name w i l)
+        (if-reads S c (nameAt (movedOffset base (wanted F (named i)))) _ name (ret tt)
+        (reads-name m laid low w (wanted F (named i)) (import-pointer i l))
+        (does-mono S (resolves m laid low view n v (named i) (b .0) (b .1) (read.exportOf r name) (b .2) s)
+        (λ _ N t.
+        (relink φ (b .0) (linkTo (φ (b .0)) (offer x m (named i))), rw (rec .exports name) at t, relinked m laid low view n v (offer x m) (named i) l (b .0) (b .1) (b .2)))))))
+
+    -- one module entry: if it names x, both its runs
+    abbrev EntryAsks : ℕ → ℕ → Type 0
+    EntryAsks j e = (nameOf F (word F (entry F moduleEntries j)) ≡ moduleName (x .file)) × EntryBegins F j e
+
+    serves-entry
+        : {φ : Links} {M : Memory} (j : ℕ) → j < count F moduleEntries → Stands m T φ n v M
+        → Does S (serveModule r base (base + entry F moduleEntries j))
+        (λ _ N. Changed m T n v S (Linking F (offer x m)) (EntryAsks j) φ N) M
+    unfolding serveModule
+    serves-entry {φ} {M} j l s =
+        let w = shows-view m laid view (s .shows) in
+        let name = nameOf F (word F (entry F moduleEntries j)) in
+        does-read S (get32 (base + entry F moduleEntries j)) _ _ (reads-entry-pointer m laid low view n v j l w)
+        (does-read S (nameAt (movedOffset base (word F (entry F moduleEntries j)))) _ name
+        (reads-name m laid low w (word F (entry F moduleEntries j)) (of-entry j l)) (go (same name (r .name)) refl))
+      where
+        go
+            : (b : Bool) → same (nameOf F (word F (entry F moduleEntries j))) (r .name) ≡ b
+            → Does S (if b then importsOf (some r) base (base + entry F moduleEntries j) else ret tt)
+            (λ _ N. Changed m T n v S (Linking F (offer x m)) (EntryAsks j) φ N) M
+        go true h =
+            let e : nameOf F (word F (entry F moduleEntries j)) ≡ moduleName (x .file) = same-true _ _ h ∙ rec .name in
+            does-mono S
+            (links-entry m laid low view n v j l (offer x m) r (λ i a b. offers-indexed i) (λ i a b. offers-anonymous i) s)
+            (λ _ N c. (c .0, c .1, change-iff (λ d g. (e, g)) (λ d g. g .1) (c .2)))
+        go false h =
+            does-ret S (φ, s, change-none (λ d g. true-false (sym (rw (g .0 ∙ sym (rec .name)) (same-refl (r .name))) ∙ h)))
