@@ -70,7 +70,7 @@ module _ (m : Image) (laid : WellLaid m) (low : Low (Area m)) {T : Memory} (view
         sortOf (indexed x) = 1
         sortOf (anonymous x) = 2
 
-    no-run : (i : ℕ) → InRun F j (named i) → ⊥
+    pub no-run : (i : ℕ) → InRun F j (named i) → ⊥
     unfolding InRun runCount
     no-run i (k, h, e) = omega (arith, h)
 

@@ -35,7 +35,11 @@ use Rattle.history_steps.specs.Changes.{Change, change-none, change-then
 use Rattle.history_steps.specs.Turns.{linkTo, import-inside, reads-batch, reads-unresolved, resolves}
 use Rattle.history_steps.specs.Records.{asSymbol, Recorded, offer, Asks}
 use Rattle.history_steps.specs.Runs.{Begins, EntryBegins, Linking, relinked}
-use Rattle.history_steps.specs.Entries.{reads-entry-pointer, links-entry}
+use Rattle.history_steps.specs.Entries.{reads-entry-pointer, no-run, links-entry}
+
+-- entry e begins the batch of an import of m that asks x
+abbrev pub Served : Image → Image → ℕ → Type 0
+Served x m e = (i : Import) × IsImport (m .file) i × Asks x m i × Begins (m .file) i e
 
 true-false : _≡_ {A = Bool} true false → ⊥
 true-false e = absurd (omega (arith, ap number e))
@@ -139,3 +143,57 @@ module _ (m : Image) (laid : WellLaid m) (low : Low (Area m)) {T : Memory} (view
             (λ _ N c. (c .0, c .1, change-iff (λ d g. (e, g)) (λ d g. g .1) (c .2)))
         go false h =
             does-ret S (φ, s, change-none (λ d g. true-false (sym (rw (g .0 ∙ sym (rec .name)) (same-refl (r .name))) ∙ h)))
+
+    -- imports of different entries begin different batches
+    entries-apart : (i j e : ℕ) → i < count F moduleEntries → j < count F moduleEntries → i ≢ j → EntryAsks i e → EntryAsks j e → ⊥
+    entries-apart i j e l g o (a, (p, b, c, d)) (a′, (p′, b′, c′, d′)) =
+        let z : p ≡ p′ = laid .alone .own-batch p p′ b b′ (d ∙ sym d′) in o (laid .alone .one-run p b i j l g c (rw (← z) at c′))
+
+    abbrev ByName : ℕ → Type 0
+    ByName e = (i : ℕ) × (i < count F namedImports) × Begins F (named i) e
+
+    abbrev ByEntry : ℕ → Type 0
+    ByEntry e = (j : ℕ) × (j < count F moduleEntries) × EntryAsks j e
+
+    kinds-apart : (e : ℕ) → ByName e → ByEntry e → ⊥
+    kinds-apart e (i, l, b) (j, g, (a, (p, h, c, d))) =
+        let z : p ≡ named i = laid .alone .own-batch p (named i) h l (d ∙ sym b) in no-run m laid low view n v j g i (rw z at c)
+
+    asks-entry : (j : ℕ) (i : Import) → j < count F moduleEntries → nameOf F (word F (entry F moduleEntries j)) ≡ moduleName (x .file) → InRun F j i → Asks x m i
+    unfolding Asks From
+    asks-entry j (named i) l e h = tt
+    asks-entry j (indexed i) l e h = (j, l, h, sym e)
+    asks-entry j (anonymous i) l e h = (j, l, h, sym e)
+
+    serves-all : (e : ℕ) → ByName e ⊎ ByEntry e → Served x m e
+    unfolding Asks
+    serves-all e (inl (i, l, b)) = (named i, l, tt, b)
+    serves-all e (inr (j, g, (a, (p, h, c, d)))) = (p, h, asks-entry j p g a c, d)
+
+    serves-only : (e : ℕ) → Served x m e → ByName e ⊎ ByEntry e
+    unfolding Asks From
+    serves-only e (named i, l, a, b) = inl (i, l, b)
+    serves-only e (indexed i, l, (j, g, h, z), b) = inr (j, g, (sym z, (indexed i, l, h, b)))
+    serves-only e (anonymous i, l, (j, g, h, z), b) = inr (j, g, (sym z, (anonymous i, l, h, b)))
+
+    -- all imports of the module
+    pub serves
+        : {φ : Links} {M : Memory} → Stands m T φ n v M
+        → Does S (serve r base) (λ _ N. Changed m T n v S (Linking F (offer x m)) (Served x m) φ N) M
+    unfolding serve tables
+    serves {φ} {M} s =
+        let w = shows-view m laid view (s .shows) in
+        does-read S (field base 0x100) _ (movedOffset base (start F namedImports)) (reads-start m laid low w 6 (lit< tt))
+        (does-read S (field base 0x104) _ (count F namedImports) (reads-count m laid low w 6 (lit< tt))
+        (does-then S (loop (λ i _. serveNamed r base (entryAt (movedOffset base (start F namedImports)) i 8)) 0 (count F namedImports) (tt {0})) _
+        (changes-loop m T n v S (Linking F (offer x m)) (λ i _. serveNamed r base (entryAt (movedOffset base (start F namedImports)) i 8))
+        (λ i. Begins F (named i)) (count F namedImports) (tt {0}) (λ i j e l g o a b. named-apart i j e l g o a b)
+        (λ i b ψ N l t. rw (named-at i l) (serves-one i l t)) s)
+        (λ _ N c.
+        let u = shows-view m laid view (c .1 .shows) in
+        does-read S (field base 0xf0) _ (movedOffset base (start F moduleEntries)) (reads-start m laid low u 4 (lit< tt))
+        (does-read S (field base 0xf4) _ (count F moduleEntries) (reads-count m laid low u 4 (lit< tt))
+        (does-mono S
+        (changes-loop m T n v S (Linking F (offer x m)) (λ j _. serveModule r base (entryAt (movedOffset base (start F moduleEntries)) j 20)) EntryAsks
+        (count F moduleEntries) (tt {0}) entries-apart (λ j b ψ L l t. rw (entry-start j l) (serves-entry j l t)) (c .1))
+        (λ _ L d. (d .0, d .1, change-iff serves-all serves-only (change-then kinds-apart (c .2) (d .2)))))))))
