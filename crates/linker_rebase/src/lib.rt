@@ -1,6 +1,4 @@
-// Rebasing a module and taking that back, the lists that the title walks, and fixing: the port of that part of cro/mod.rs.
-pub mod fix;
-pub mod lists;
+// Rebasing a module, and taking that back: the port of that part of cro/mod.rs.
 pub mod rebase;
 pub mod segments;
 pub mod tables;

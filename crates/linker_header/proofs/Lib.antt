@@ -1,0 +1,3 @@
+-- What the proofs of `linker_header` share.
+pub mod ListLaws
+pub mod FixLaws
