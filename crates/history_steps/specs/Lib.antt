@@ -12,4 +12,5 @@ pub mod Turns
 pub mod Records
 pub mod Runs
 pub mod Entries
+pub mod Asking
 pub mod Serving

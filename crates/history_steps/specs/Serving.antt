@@ -1,14 +1,12 @@
 -- A new module's exports reach a standing one: each of its imports that asks for one gets it, if it is not linked yet.
-use Prim.Native.Nat.{ℕ, zero, suc, _+_, _*_, _^_, _≤_, _<_}
-use mathlib.Core.Path.{_≡_, refl, sym, ap, _∙_}
-use mathlib.Core.Logic.{_≢_, _⊎_, inl, inr}
-use mathlib.Core.List.{List}
-use mathlib.Core.Option.{Option, some, none}
+use Prim.Native.Nat.{ℕ, _+_, _<_}
+use mathlib.Core.Path.{_≡_, refl, sym, _∙_}
+use mathlib.Core.Logic.{_⊎_, inl, inr}
+use mathlib.Core.Option.{some}
 use mathlib.Core.Bool.{Bool, true, false}
-use native.Mathlib.Omega.{arith}
-use lib.Dec.{lit<, lit≤}
+use lib.Dec.{lit<}
 use Rattle.window.specs.Memory.{if_then_else_, _⊕_}
-use Rattle.window.specs.Access.{Prog, ret, _>>=_, _>>_, get32}
+use Rattle.window.specs.Access.{ret, get32}
 use Rattle.window.specs.Loop.{loop}
 use Rattle.window.specs.Name.{nameAt}
 use Rattle.window.specs.Within.{Low}
@@ -18,35 +16,27 @@ use Rattle.register.specs.Words.{same}
 use Rattle.register.specs.Lists.{same-true, same-refl}
 use Rattle.register.specs.Module.{Module}
 use Rattle.register_read.specs.Read as read
-use Rattle.register_read.specs.declared.Symbol.{Symbol}
 use Rattle.linker.specs.Imports as imports
-use Rattle.linker.specs.Imports.{isUnresolved, resolve, importsOf, serveNamed, serveModule, serve}
+use Rattle.linker.specs.Imports.{isUnresolved, importsOf, serveNamed, serveModule, serve}
 use Rattle.history.specs.Image.{tables, namedImports, moduleEntries, externals, start, count, entry, nameOf, moduleName}
-use Rattle.history.specs.Arrival.{Image, baseOf, sizeOf, movedOffset, Area}
-use Rattle.history.specs.Imports.{Import, named, indexed, anonymous, importEntry, importNumber, IsImport, wanted, batch, InRun, From}
-use Rattle.history.specs.WellLaid.{table, tableNumber, Pointer, of-import, of-entry, WellLaid}
-use Rattle.history_steps.specs.Wp.{Memory, Does, Reads, does-mono, does-ret, does-then, does-read, reads-then, reads-get32, if-reads}
-use Rattle.history_steps.specs.View.{View, import-name}
-use Rattle.history_steps.specs.Parts.{part-inside, entry-in-table}
+use Rattle.history.specs.Arrival.{Image, baseOf, movedOffset, Area}
+use Rattle.history.specs.Imports.{Import, named, indexed, anonymous, importEntry, IsImport, wanted, From}
+use Rattle.history.specs.WellLaid.{of-entry, WellLaid}
+use Rattle.history_steps.specs.Wp.{Memory, Does, does-mono, does-ret, does-then, does-read, if-reads}
+use Rattle.history_steps.specs.View.{View}
 use Rattle.history_steps.specs.Shows.{shows-view}
-use Rattle.history_steps.specs.Reading.{four-at, entry-at, reads-start, reads-count, reads-name}
+use Rattle.history_steps.specs.Reading.{reads-start, reads-count, reads-name}
 use Rattle.history_steps.specs.Links.{Links, isSome, relink, Stands}
-use Rattle.history_steps.specs.Changes.{Change, change-none, change-then, change-iff, Changed, changes-loop}
-use Rattle.history_steps.specs.Turns.{linkTo, import-inside, reads-batch, reads-unresolved, resolves}
-use Rattle.history_steps.specs.Records.{asSymbol, Recorded, offer, Asks}
-use Rattle.history_steps.specs.Runs.{Begins, EntryBegins, Linking, relinked}
-use Rattle.history_steps.specs.Entries.{reads-entry-pointer, no-run, links-entry}
+use Rattle.history_steps.specs.Changes.{change-none, change-then, change-iff, Changed, changes-loop}
+use Rattle.history_steps.specs.Turns.{linkTo, reads-batch, reads-unresolved, resolves}
+use Rattle.history_steps.specs.Records.{Recorded, offer, Asks}
+use Rattle.history_steps.specs.Runs.{Begins, Linking, relinked}
+use Rattle.history_steps.specs.Asking.{true-false, reads-import-name, import-pointer, named-apart, named-at, entry-start, EntryAsks, entries-apart, ByName, ByEntry, kinds-apart, asks-entry}
+use Rattle.history_steps.specs.Entries.{reads-entry-pointer, links-entry}
 
 -- entry e begins the batch of an import of m that asks x
 abbrev pub Served : Image → Image → ℕ → Type 0
 Served x m e = (i : Import) × IsImport (m .file) i × Asks x m i × Begins (m .file) i e
-
-true-false : _≡_ {A = Bool} true false → ⊥
-true-false e = absurd (omega (arith, ap number e))
-  where
-    number : Bool → ℕ
-    number true = 1
-    number false = 0
 
 module _ (m : Image) (laid : WellLaid m) (low : Low (Area m)) {T : Memory} (view : View m T) (n v : ℕ) where
   abbrev F : ℕ → ℕ
@@ -57,34 +47,6 @@ module _ (m : Image) (laid : WellLaid m) (low : Low (Area m)) {T : Memory} (view
 
   abbrev S : ℕ → Type 0
   S = Area m
-
-  -- the pointer of the name that a named import asks for
-  pub reads-import-name
-      : {M : Memory} → View m M → (i : ℕ) → i < count F namedImports
-      → Reads S (get32 (base + importEntry F (named i))) (movedOffset base (wanted F (named i))) M
-  unfolding importEntry wanted
-  reads-import-name w i l =
-      let e = import-inside m laid low (named i) l in
-      reads-get32 S _ (four-at m laid low (importEntry F (named i)) (omega (arith, e))) (w .moved (entry F namedImports i) (import-name i l))
-
-  import-pointer : (i : ℕ) → i < count F namedImports → Pointer F (wanted F (named i))
-  unfolding importEntry wanted
-  import-pointer i l = of-import i l
-
-  -- named imports begin different batches
-  named-apart : (i j e : ℕ) → i < count F namedImports → j < count F namedImports → i ≢ j → Begins F (named i) e → Begins F (named j) e → ⊥
-  named-apart i j e l g o a b = o (ap importNumber (laid .alone .own-batch (named i) (named j) l g (a ∙ sym b)))
-
-  -- the address of a named import's entry
-  named-at : (i : ℕ) → i < count F namedImports → entryAt (movedOffset base (start F namedImports)) i 8 ≡ base + importEntry F (named i)
-  unfolding importEntry tables
-  named-at i l = let e = import-inside m laid low (named i) l in entry-at m laid low 6 i (lit< tt) l (omega (arith, e))
-
-  entry-start : (j : ℕ) → j < count F moduleEntries → entryAt (movedOffset base (start F moduleEntries)) j 20 ≡ base + entry F moduleEntries j
-  unfolding tables
-  entry-start j l =
-      let e = part-inside m laid (table 4) _ (entry-in-table F 4 j 0 (lit< tt) l (lit< tt)) in
-      entry-at m laid low 4 j (lit< tt) l (omega (arith, e))
 
   module _ (x : Image) (r : Module) (rec : Recorded x r) where
     offers-indexed : (i : ℕ) → read.entryOf (r .indexed) (wanted F (indexed i)) ≡ offer x m (indexed i)
@@ -109,21 +71,18 @@ module _ (m : Image) (laid : WellLaid m) (low : Low (Area m)) {T : Memory} (view
         does-read S (get32 (base + importEntry F (named i) ⊕ 4)) _ (base + entry F externals (b .0))
         (reads-batch m laid low view n v w (named i) l (b .0) (b .1) (b .2))
         (does-read S (isUnresolved (base + entry F externals (b .0))) _ c (reads-unresolved m laid low view n v (named i) (b .0) (b .1) (b .2) s)
-        (if-reads S c (get32 (base + importEntry F (named i))) _ (movedOffset base (wanted F (named i))) (ret tt) (reads-import-name w i l)
+        (if-reads S c (get32 (base + importEntry F (named i))) _ (movedOffset base (wanted F (named i))) (ret tt) (reads-import-name m laid low view n v w i l)
         (if-reads S c (nameAt (movedOffset base (wanted F (named i)))) _ name (ret tt)
-        (reads-name m laid low w (wanted F (named i)) (import-pointer i l))
+        (reads-name m laid low w (wanted F (named i)) (import-pointer m laid low view n v i l))
         (does-mono S (resolves m laid low view n v (named i) (b .0) (b .1) (read.exportOf r name) (b .2) s)
         (λ _ N t.
         (relink φ (b .0) (linkTo (φ (b .0)) (offer x m (named i))), rw (rec .exports name) at t, relinked m laid low view n v (offer x m) (named i) l (b .0) (b .1) (b .2)))))))
 
     -- one module entry: if it names x, both its runs
-    abbrev EntryAsks : ℕ → ℕ → Type 0
-    EntryAsks j e = (nameOf F (word F (entry F moduleEntries j)) ≡ moduleName (x .file)) × EntryBegins F j e
-
     serves-entry
         : {φ : Links} {M : Memory} (j : ℕ) → j < count F moduleEntries → Stands m T φ n v M
         → Does S (serveModule r base (base + entry F moduleEntries j))
-        (λ _ N. Changed m T n v S (Linking F (offer x m)) (EntryAsks j) φ N) M
+        (λ _ N. Changed m T n v S (Linking F (offer x m)) (EntryAsks m laid low view n v x j) φ N) M
     unfolding serveModule
     serves-entry {φ} {M} j l s =
         let w = shows-view m laid view (s .shows) in
@@ -135,7 +94,7 @@ module _ (m : Image) (laid : WellLaid m) (low : Low (Area m)) {T : Memory} (view
         go
             : (b : Bool) → same (nameOf F (word F (entry F moduleEntries j))) (r .name) ≡ b
             → Does S (if b then importsOf (some r) base (base + entry F moduleEntries j) else ret tt)
-            (λ _ N. Changed m T n v S (Linking F (offer x m)) (EntryAsks j) φ N) M
+            (λ _ N. Changed m T n v S (Linking F (offer x m)) (EntryAsks m laid low view n v x j) φ N) M
         go true h =
             let e : nameOf F (word F (entry F moduleEntries j)) ≡ moduleName (x .file) = same-true _ _ h ∙ rec .name in
             does-mono S
@@ -144,33 +103,12 @@ module _ (m : Image) (laid : WellLaid m) (low : Low (Area m)) {T : Memory} (view
         go false h =
             does-ret S (φ, s, change-none (λ d g. true-false (sym (rw (g .0 ∙ sym (rec .name)) (same-refl (r .name))) ∙ h)))
 
-    -- imports of different entries begin different batches
-    entries-apart : (i j e : ℕ) → i < count F moduleEntries → j < count F moduleEntries → i ≢ j → EntryAsks i e → EntryAsks j e → ⊥
-    entries-apart i j e l g o (a, (p, b, c, d)) (a′, (p′, b′, c′, d′)) =
-        let z : p ≡ p′ = laid .alone .own-batch p p′ b b′ (d ∙ sym d′) in o (laid .alone .one-run p b i j l g c (rw (← z) at c′))
-
-    abbrev ByName : ℕ → Type 0
-    ByName e = (i : ℕ) × (i < count F namedImports) × Begins F (named i) e
-
-    abbrev ByEntry : ℕ → Type 0
-    ByEntry e = (j : ℕ) × (j < count F moduleEntries) × EntryAsks j e
-
-    kinds-apart : (e : ℕ) → ByName e → ByEntry e → ⊥
-    kinds-apart e (i, l, b) (j, g, (a, (p, h, c, d))) =
-        let z : p ≡ named i = laid .alone .own-batch p (named i) h l (d ∙ sym b) in no-run m laid low view n v j g i (rw z at c)
-
-    asks-entry : (j : ℕ) (i : Import) → j < count F moduleEntries → nameOf F (word F (entry F moduleEntries j)) ≡ moduleName (x .file) → InRun F j i → Asks x m i
-    unfolding Asks From
-    asks-entry j (named i) l e h = tt
-    asks-entry j (indexed i) l e h = (j, l, h, sym e)
-    asks-entry j (anonymous i) l e h = (j, l, h, sym e)
-
-    serves-all : (e : ℕ) → ByName e ⊎ ByEntry e → Served x m e
+    serves-all : (e : ℕ) → ByName m laid low view n v x e ⊎ ByEntry m laid low view n v x e → Served x m e
     unfolding Asks
     serves-all e (inl (i, l, b)) = (named i, l, tt, b)
-    serves-all e (inr (j, g, (a, (p, h, c, d)))) = (p, h, asks-entry j p g a c, d)
+    serves-all e (inr (j, g, (a, (p, h, c, d)))) = (p, h, asks-entry m laid low view n v x j p g a c, d)
 
-    serves-only : (e : ℕ) → Served x m e → ByName e ⊎ ByEntry e
+    serves-only : (e : ℕ) → Served x m e → ByName m laid low view n v x e ⊎ ByEntry m laid low view n v x e
     unfolding Asks From
     serves-only e (named i, l, a, b) = inl (i, l, b)
     serves-only e (indexed i, l, (j, g, h, z), b) = inr (j, g, (sym z, (indexed i, l, h, b)))
@@ -187,13 +125,13 @@ module _ (m : Image) (laid : WellLaid m) (low : Low (Area m)) {T : Memory} (view
         (does-read S (field base 0x104) _ (count F namedImports) (reads-count m laid low w 6 (lit< tt))
         (does-then S (loop (λ i _. serveNamed r base (entryAt (movedOffset base (start F namedImports)) i 8)) 0 (count F namedImports) (tt {0})) _
         (changes-loop m T n v S (Linking F (offer x m)) (λ i _. serveNamed r base (entryAt (movedOffset base (start F namedImports)) i 8))
-        (λ i. Begins F (named i)) (count F namedImports) (tt {0}) (λ i j e l g o a b. named-apart i j e l g o a b)
-        (λ i b ψ N l t. rw (named-at i l) (serves-one i l t)) s)
+        (λ i. Begins F (named i)) (count F namedImports) (tt {0}) (λ i j e l g o a b. named-apart m laid low view n v i j e l g o a b)
+        (λ i b ψ N l t. rw (named-at m laid low view n v i l) (serves-one i l t)) s)
         (λ _ N c.
         let u = shows-view m laid view (c .1 .shows) in
         does-read S (field base 0xf0) _ (movedOffset base (start F moduleEntries)) (reads-start m laid low u 4 (lit< tt))
         (does-read S (field base 0xf4) _ (count F moduleEntries) (reads-count m laid low u 4 (lit< tt))
         (does-mono S
-        (changes-loop m T n v S (Linking F (offer x m)) (λ j _. serveModule r base (entryAt (movedOffset base (start F moduleEntries)) j 20)) EntryAsks
-        (count F moduleEntries) (tt {0}) entries-apart (λ j b ψ L l t. rw (entry-start j l) (serves-entry j l t)) (c .1))
-        (λ _ L d. (d .0, d .1, change-iff serves-all serves-only (change-then kinds-apart (c .2) (d .2)))))))))
+        (changes-loop m T n v S (Linking F (offer x m)) (λ j _. serveModule r base (entryAt (movedOffset base (start F moduleEntries)) j 20)) (EntryAsks m laid low view n v x)
+        (count F moduleEntries) (tt {0}) (entries-apart m laid low view n v x) (λ j b ψ L l t. rw (entry-start m laid low view n v j l) (serves-entry j l t)) (c .1))
+        (λ _ L d. (d .0, d .1, change-iff serves-all serves-only (change-then (kinds-apart m laid low view n v x) (c .2) (d .2)))))))))
