@@ -18,8 +18,9 @@ use Rattle.register_read.specs.Read as read
 use Rattle.register_read.specs.declared.Symbol.{Symbol}
 use Rattle.linker.specs.Imports as imports
 use Rattle.linker.specs.Imports.{importFrom, linkFrom, importsOf}
+use Rattle.linker.specs.Resets.{resetAt}
 use Rattle.history.specs.Image.{tables, moduleEntries, externals, count, entry, nameOf}
-use Rattle.history.specs.Arrival.{Image, baseOf, sizeOf, movedOffset, Area}
+use Rattle.history.specs.Arrival.{Image, baseOf, sizeOf, movedOffset, handler, Area}
 use Rattle.history.specs.Imports.{Import, named, indexed, anonymous, IsImport, wanted, runStart, runCount, InRun}
 use Rattle.history.specs.WellLaid.{table, of-entry, WellLaid}
 use Rattle.history_steps.specs.Wp.{Memory, Does, Reads, does-mono, does-ret, does-then, does-read, reads-then, reads-get32}
@@ -124,4 +125,29 @@ module _ (m : Image) (laid : WellLaid m) (low : Low (Area m)) {T : Memory} (view
         _ (links-run m laid low view n v indexed 7 (by-index m laid low view n v) j l offered (read.entryOf (r .indexed)) f s)
         (λ _ N c.
         does-mono S (links-run m laid low view n v anonymous 8 (by-tag m laid low view n v) j l offered (imports.anonymousOf r) g (c .1))
+        (λ _ L d. (d .0, d .1, both-runs (c .2) (d .2))))))))
+
+    -- both runs unlinked
+    pub unlinks-entry
+        : {φ : Links} {M : Memory} → Stands m T φ n v M
+        → Does S
+        (do
+          a ← get32 (base + entry F moduleEntries j ⊕ 4)
+          b ← get32 (base + entry F moduleEntries j ⊕ 8)
+          c ← get32 (base + entry F moduleEntries j ⊕ 12)
+          d ← get32 (base + entry F moduleEntries j ⊕ 16)
+          loop (λ k _. resetAt base (handler m) (entryAt a k 8)) 0 b (tt {0})
+          loop (λ k _. resetAt base (handler m) (entryAt c k 8)) 0 d (tt {0}))
+        (λ _ N. Changed m T n v S (λ e x y. y ≡ none) (EntryBegins F j) φ N) M
+    unlinks-entry {φ} {M} s =
+        let w = shows-view m laid view (s .shows) in
+        does-read S (get32 (base + entry F moduleEntries j ⊕ 4)) _ _ (starts-indexed w)
+        (does-read S (get32 (base + entry F moduleEntries j ⊕ 8)) _ _ (counts-indexed w)
+        (does-read S (get32 (base + entry F moduleEntries j ⊕ 12)) _ _ (starts-anonymous w)
+        (does-read S (get32 (base + entry F moduleEntries j ⊕ 16)) _ _ (counts-anonymous w)
+        (does-then S
+        (loop (λ k _. resetAt base (handler m) (entryAt (movedOffset base (runStart F j (indexed 0))) k 8)) 0 (runCount F j (indexed 0)) (tt {0})) _
+        (unlinks-run m laid low view n v indexed 7 (by-index m laid low view n v) j l s)
+        (λ _ N c.
+        does-mono S (unlinks-run m laid low view n v anonymous 8 (by-tag m laid low view n v) j l (c .1))
         (λ _ L d. (d .0, d .1, both-runs (c .2) (d .2))))))))

@@ -14,3 +14,4 @@ pub mod Runs
 pub mod Entries
 pub mod Asking
 pub mod Serving
+pub mod Resetting
