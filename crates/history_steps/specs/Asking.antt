@@ -67,6 +67,11 @@ module _ (m : Image) (laid : WellLaid m) (low : Low (Area m)) {T : Memory} (view
       let e = part-inside m laid (table 4) _ (entry-in-table F 4 j 0 (lit< tt) l (lit< tt)) in
       entry-at m laid low 4 j (lit< tt) l (omega (arith, e))
 
+  -- no import is in two runs
+  pub runs-other : (i j e : ℕ) → i < count F moduleEntries → j < count F moduleEntries → i ≢ j → EntryBegins F i e → EntryBegins F j e → ⊥
+  runs-other i j e l g o (p, b, c, d) (p′, b′, c′, d′) =
+      let z : p ≡ p′ = laid .alone .own-batch p p′ b b′ (d ∙ sym d′) in o (laid .alone .one-run p b i j l g c (rw (← z) at c′))
+
   module _ (x : Image) where
     -- the batches of a module entry that names x
     abbrev pub EntryAsks : ℕ → ℕ → Type 0
@@ -74,8 +79,7 @@ module _ (m : Image) (laid : WellLaid m) (low : Low (Area m)) {T : Memory} (view
 
     -- imports of different entries begin different batches
     pub entries-apart : (i j e : ℕ) → i < count F moduleEntries → j < count F moduleEntries → i ≢ j → EntryAsks i e → EntryAsks j e → ⊥
-    entries-apart i j e l g o (a, (p, b, c, d)) (a′, (p′, b′, c′, d′)) =
-        let z : p ≡ p′ = laid .alone .own-batch p p′ b b′ (d ∙ sym d′) in o (laid .alone .one-run p b i j l g c (rw (← z) at c′))
+    entries-apart i j e l g o a b = runs-other i j e l g o (a .1) (b .1)
 
     abbrev pub ByName : ℕ → Type 0
     ByName e = (i : ℕ) × (i < count F namedImports) × Begins F (named i) e

@@ -23,7 +23,7 @@ use Rattle.history.specs.Image.{tables, moduleEntries, externals, count, entry,
 use Rattle.history.specs.Arrival.{Image, baseOf, sizeOf, movedOffset, handler, Area}
 use Rattle.history.specs.Imports.{Import, named, indexed, anonymous, IsImport, wanted, runStart, runCount, InRun}
 use Rattle.history.specs.WellLaid.{table, of-entry, WellLaid}
-use Rattle.history_steps.specs.Wp.{Memory, Does, Reads, does-mono, does-ret, does-then, does-read, reads-then, reads-get32}
+use Rattle.history_steps.specs.Wp.{Memory, Does, Reads, does-mono, does-ret, does-then, does-read, reads-then, reads-ret, reads-get32}
 use Rattle.history_steps.specs.View.{View, entry-name, entry-indexed, entry-anonymous, indexed-count, anonymous-count}
 use Rattle.history_steps.specs.Parts.{part-inside, entry-in-table}
 use Rattle.history_steps.specs.Shows.{shows-view}
@@ -104,6 +104,17 @@ module _ (m : Image) (laid : WellLaid m) (low : Low (Area m)) {T : Memory} (view
     counts-anonymous : {M : Memory} → View m M → Reads S (get32 (base + entry F moduleEntries j ⊕ 16)) (runCount F j (anonymous 0)) M
     unfolding runCount
     counts-anonymous w = reads-at 16 (lit≤ tt) (w .kept (entry F moduleEntries j + 16) (anonymous-count j l))
+
+    -- with no module to link to, its words are only read
+    pub reads-runs
+        : {φ : Links} {M : Memory} → Stands m T φ n v M → Reads S (importsOf none base (base + entry F moduleEntries j)) tt M
+    unfolding importsOf linkFrom
+    reads-runs s =
+        let w = shows-view m laid view (s .shows) in
+        reads-then S (get32 (base + entry F moduleEntries j ⊕ 4)) _ _ (starts-indexed w)
+        (reads-then S (get32 (base + entry F moduleEntries j ⊕ 8)) _ _ (counts-indexed w)
+        (reads-then S (get32 (base + entry F moduleEntries j ⊕ 12)) _ _ (starts-anonymous w)
+        (reads-then S (get32 (base + entry F moduleEntries j ⊕ 16)) _ _ (counts-anonymous w) (reads-ret S tt))))
 
     -- both runs linked to the exports of a record
     pub links-entry

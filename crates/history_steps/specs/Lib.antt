@@ -13,5 +13,6 @@ pub mod Records
 pub mod Runs
 pub mod Entries
 pub mod Asking
+pub mod Importing
 pub mod Serving
 pub mod Resetting

@@ -162,6 +162,8 @@ module _ (m : Image) (laid : WellLaid m) (low : Low (Area m)) {T : Memory} (view
         (λ j _. resetModule r base (handler m) (entryAt (movedOffset base (start F moduleEntries)) j 20)) (EntryAsks m laid low view n v x)
         (count F moduleEntries) (tt {0}) (entries-apart m laid low view n v x)
         (λ j b ψ L l t. rw (entry-start m laid low view n v j l) (resets-entry j l t)) (c .1))
-        (λ _ L d.
-        (d .0, d .1,
-        change-iff drops-all drops-only (change-then (λ e a b. kinds-apart m laid low view n v x e (a .0, a .1, a .2 .1) b) (c .2) (d .2))))))))))
+        (λ _ L d. (
+          d .0,
+          d .1,
+          change-iff drops-all drops-only (change-then (λ e a b. kinds-apart m laid low view n v x e (a .0, a .1, a .2 .1) b) (c .2) (d .2)),
+        ))))))))

@@ -181,3 +181,11 @@ module _ (S : ℕ → Type 0) where
       → Does S (if c then f v else u) Q M → Does S (if c then (m >>= f) else u) Q M
   if-reads true m f v u h k = does-read m f v h k
   if-reads false m f v u h k = k
+
+  -- what is done under a test, whatever is given after it
+  pub if-then
+      : {A : Type 0} (c : Bool) (m : Prog (Unit {0})) (x y : A) {Q : Memory → Type 0} {M : Memory} → Does S (if c then m else ret tt) (λ _ N. Q N) M
+      → Does S (if c then (m >>= λ _. ret x) else ret y) (λ _ N. Q N) M
+  unfolding runM
+  if-then true m x y h = does-then m (λ _. ret x) h (λ _ N q. does-ret q)
+  if-then false m x y h = does-ret (h .gives)
