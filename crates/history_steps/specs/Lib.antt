@@ -16,3 +16,4 @@ pub mod Asking
 pub mod Importing
 pub mod Serving
 pub mod Resetting
+pub mod World
