@@ -17,3 +17,4 @@ pub mod Importing
 pub mod Serving
 pub mod Resetting
 pub mod World
+pub mod Listing
