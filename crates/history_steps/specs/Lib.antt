@@ -18,3 +18,4 @@ pub mod Serving
 pub mod Resetting
 pub mod World
 pub mod Listing
+pub mod Leaving

@@ -30,11 +30,11 @@ pub record Listed (b : ℕ → ℕ) (n : ℕ) (next previous : ℕ → ℕ) : Ty
   pub nexts : (k : ℕ) → k < n → next k ≡ nextIn b n k
   pub previouses : (k : ℕ) → k < n → previous k ≡ previousIn b n k
 
-next-more : (b : ℕ → ℕ) (n k : ℕ) → suc k < n → nextIn b n k ≡ b (suc k)
+pub next-more : (b : ℕ → ℕ) (n k : ℕ) → suc k < n → nextIn b n k ≡ b (suc k)
 unfolding nextIn
 next-more b n k l = rw (lt-ltb (suc k) n l) refl
 
-next-last : (b : ℕ → ℕ) (n k : ℕ) → n ≤ suc k → nextIn b n k ≡ 0
+pub next-last : (b : ℕ → ℕ) (n k : ℕ) → n ≤ suc k → nextIn b n k ≡ 0
 unfolding nextIn
 next-last b n k l = rw (le-ltb (suc k) n l) refl
 
@@ -82,7 +82,7 @@ module _ (C : Cast) (sound : Sound C) (nonzero : (k : ℕ) → k < C .number →
   abbrev b : ℕ → ℕ
   b = base C sound
 
-  base-low : (k : ℕ) → k < C .number → b k < 2 ^ 32
+  pub base-low : (k : ℕ) → k < C .number → b k < 2 ^ 32
   base-low k l =
       let p = plain-sum (C .image k) (sound .laid k l) (sound .low k l) 0 (omega (arith, sound .laid k l .alone .header-inside)) in omega (arith, p)
 
