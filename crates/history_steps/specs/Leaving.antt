@@ -1,6 +1,6 @@
 -- A module leaves the list: the one before it and the one after it close the gap.
 use Prim.Native.Nat.{ℕ, zero, suc, pred, _+_, _-_, _^_, _≤_, _<_}
-use mathlib.Core.Path.{_≡_, refl, sym, ap, _∙_}
+use mathlib.Core.Path.{_≡_, refl, sym, ap, _∙_, subst}
 use mathlib.Core.Logic.{_≢_}
 use mathlib.Core.Bool.{Bool, true, false}
 use native.Mathlib.Omega.{arith}
@@ -140,3 +140,131 @@ module _ (b : ℕ → ℕ) (n d : ℕ) (above : 0 < d) (below : d < n) {x y : �
   previous-alone s i l =
       let z : i ≡ 0 = omega arith in
       rw (z, skip-low d 0 above, previous-0 (λ k. b (skip d k)) (pred n)) (h .previouses 0 (omega arith) ∙ previous-0 b n)
+
+pub skip-not : (d i : ℕ) → skip d i ≢ d
+skip-not d i e = go (decLt i d)
+  where
+    go : Dec (i < d) → ⊥
+    go (yes l) = omega (arith, e, skip-low d i l)
+    go (no l) = omega (arith, e, skip-high d i (omega arith))
+
+module _ (C : Cast) (sound : Sound C) (nonzero : (k : ℕ) → k < C .number → base C sound k ≢ 0) where
+  abbrev S : ℕ → Type 0
+  S = All C sound
+
+  abbrev b : ℕ → ℕ
+  b = base C sound
+
+  -- different modules have different bases
+  distinct : (j k : ℕ) → j < C .number → k < C .number → j ≢ k → b j ≢ b k
+  distinct j k l g o e =
+      sound .apart j k (b j + 0) l g o (image-area (C .image j) (sound .laid j l) 0 (omega (arith, sound .laid j l .alone .header-inside)))
+      (rw e (image-area (C .image k) (sound .laid k g) 0 (omega (arith, sound .laid k g .alone .header-inside))))
+
+  module _ (n d : ℕ) (all : C .number ≡ n) (above : 0 < d) (below : d < n) (φ : ℕ → Links) (x y : ℕ → ℕ) (h : Listed b n x y) where
+    inside : (k : ℕ) → k < n → k < C .number
+    inside k l = rw all l
+
+    -- the list words of the others are those of the list without d
+    abbrev Gone : Memory → Type 0
+    Gone N = (u : ℕ → ℕ) × (t : ℕ → ℕ) × World C φ u t N × Listed (λ k. b (skip d k)) (pred n) (λ k. u (skip d k)) (λ k. t (skip d k))
+
+    next-is : x d ≡ nextIn b n d
+    next-is = h .nexts d below
+
+    previous-is : y d ≡ previousIn b n d
+    previous-is = h .previouses d below
+
+    next-low : nextIn b n d < 2 ^ 32
+    next-low = go (decLt (suc d) n)
+      where
+        go : Dec (suc d < n) → nextIn b n d < 2 ^ 32
+        go (yes l) = rw (next-more b n d l) (base-low C sound nonzero (suc d) (inside (suc d) l))
+        go (no l) = rw (next-last b n d (omega arith)) (omega arith)
+
+    -- the one before it is module p
+    before : (p : ℕ) × (p < n) × (0 < p) × (previousIn b n d ≡ b p)
+    before = go (ℕ-discrete d 1)
+      where
+        go : Dec (d ≡ 1) → (p : ℕ) × (p < n) × (0 < p) × (previousIn b n d ≡ b p)
+        go (yes e) = (pred n, omega arith, omega arith, ap (previousIn b n) e ∙ previous-1 b n)
+        go (no o) = (pred d, omega arith, omega arith, previous-2 b n d (omega arith))
+
+    previous-low : previousIn b n d < 2 ^ 32
+    previous-low = let p = before in rw (p .3) (base-low C sound nonzero (p .0) (inside (p .0) (p .1)))
+
+    previous-not : previousIn b n d ≢ 0
+    previous-not e = let p = before in nonzero (p .0) (inside (p .0) (p .1)) (sym (p .3) ∙ e)
+
+    -- the CRS's two words
+    head-is : x 0 ≡ b 1
+    head-is = h .nexts 0 (omega arith) ∙ next-more b n 0 (omega arith)
+
+    other-is : y 0 ≡ 0
+    other-is = h .previouses 0 (omega arith) ∙ previous-0 b n
+
+    gone
+        : {M : Memory} (t : ℕ → ℕ) → World C φ (put x (pred d) (nextIn b n d)) t M
+        → ((i : ℕ) → i < pred n → t (skip d i) ≡ previousIn (λ k. b (skip d k)) (pred n) i) → Gone M
+    gone t w f = (put x (pred d) (nextIn b n d), t, w, record { nexts = next-left b n d above below h; previouses = f })
+
+    -- the head leaves
+    head-goes : {M : Memory} → d ≡ 1 → World C φ x y M → Does S (headLeaves (b 0) 0x88 (nextIn b n d) (previousIn b n d)) (λ _ N. Gone N) M
+    unfolding headLeaves
+    head-goes {M} e w = go (decLt (suc d) n)
+      where
+        z : 0 ≡ pred d
+        z = omega arith
+
+        go : Dec (suc d < n) → Does S (headLeaves (b 0) 0x88 (nextIn b n d) (previousIn b n d)) (λ _ N. Gone N) M
+        go (yes l) =
+            let m = next-more b n d l in
+            does-then S (if eqb (nextIn b n d) 0 then ret tt else setField (nextIn b n d) 0x8c (previousIn b n d)) _
+            (rw (m, ne-eqb (b (suc d)) 0 (nonzero (suc d) (inside (suc d) l))) (sets-previous C sound (suc d) (previousIn b n d) (inside (suc d) l) w))
+            (λ _ N u.
+            does-mono S (sets-next C sound 0 (nextIn b n d) (inside 0 (omega arith)) u)
+            (λ _ L t. gone (put y (suc d) (previousIn b n d)) (rw (← z) t) (previous-middle b n d above below h l)))
+        go (no l) =
+            let m = next-last b n d (omega arith) in
+            does-then S (if eqb (nextIn b n d) 0 then ret tt else setField (nextIn b n d) 0x8c (previousIn b n d)) _
+            (rw m (does-ret S w))
+            (λ _ N u.
+            does-mono S (sets-next C sound 0 (nextIn b n d) (inside 0 (omega arith)) u)
+            (λ _ L t. gone y (rw (← z) t) (previous-alone b n d above below h (omega arith))))
+
+    -- one of the middle leaves
+    middle-goes
+        : {M : Memory} → suc d < n → 1 < d → World C φ x y M → Does S (middleLeaves (nextIn b n d) (previousIn b n d)) (λ _ N. Gone N) M
+    unfolding middleLeaves
+    middle-goes l g w =
+        let m = next-more b n d l in
+        let p = previous-2 b n d g in
+        does-then S (setField (previousIn b n d) 0x88 (nextIn b n d)) _ {R = λ _ N. World C φ (put x (pred d) (nextIn b n d)) y N}
+        (rw p (sets-next C sound (pred d) (nextIn b n d) (inside (pred d) (omega arith)) w))
+        (λ _ N u.
+        does-mono S (subst (λ a. Does S (setField a 0x8c (previousIn b n d)) (λ _ L. World C φ (put x (pred d) (nextIn b n d)) (put y (suc d) (previousIn b n d)) L) N) (sym m)
+        (sets-previous C sound (suc d) (previousIn b n d) (inside (suc d) l) u))
+        (λ _ L t. gone (put y (suc d) (previousIn b n d)) t (previous-middle b n d above below h l)))
+
+    -- the last of several leaves
+    tail-goes : {M : Memory} → suc d ≡ n → 1 < d → World C φ x y M → Does S (tailLeaves (b 0) (b d) (previousIn b n d)) (λ _ N. Gone N) M
+    unfolding tailLeaves newTail
+    tail-goes {M} s g w =
+        let m : nextIn b n d ≡ 0 = next-last b n d (omega arith) in
+        let p = previous-2 b n d g in
+        let z₀ : put x (pred d) 0 0 ≡ b 1 = put-other x (pred d) 0 0 (λ e. absurd (omega arith)) ∙ head-is in
+        let z₁ : y 1 ≡ b d = h .previouses 1 (omega arith) ∙ previous-1 b n ∙ ap b (let q : pred n ≡ d = omega arith in q) in
+        let t₀ : put y 1 (b (pred d)) 0 ≡ 0 = put-other y 1 (b (pred d)) 0 (λ e. absurd (omega arith)) ∙ other-is in
+        rw p
+        (does-then S (setField (b (pred d)) 0x88 0) _ (sets-next C sound (pred d) 0 (inside (pred d) (omega arith)) w)
+        (λ _ N u.
+        does-then S (newTail (b 0) 0x88 (b d) (b (pred d))) _ {R = λ _ L. World C φ (put x (pred d) 0) (put y 1 (b (pred d))) L}
+        (does-read S (field (b 0) 0x88) _ (b 1)
+        (rw z₀ at (reads-next C sound 0 (inside 0 (omega arith)) (rw z₀ (base-low C sound nonzero 1 (inside 1 (omega arith)))) u))
+        (rw (ne-eqb (b 1) 0 (nonzero 1 (inside 1 (omega arith))))
+        (does-read S (field (b 1) 0x8c) _ (b d)
+        (rw z₁ at (reads-previous C sound 1 (inside 1 (omega arith)) (rw z₁ (base-low C sound nonzero d (inside d below))) u))
+        (rw (eq-eqb (b d) (b d) refl) (sets-previous C sound 1 (b (pred d)) (inside 1 (omega arith)) u)))))
+        (λ _ L t.
+        does-read S (field (b 0) 0x8c) _ 0 (rw t₀ at (reads-previous C sound 0 (inside 0 (omega arith)) (rw t₀ (omega arith)) t))
+        (does-ret S (gone (put y 1 (b (pred d))) (rw m t) (previous-tail b n d above below h s g))))))
