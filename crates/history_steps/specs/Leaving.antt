@@ -268,3 +268,55 @@ module _ (C : Cast) (sound : Sound C) (nonzero : (k : ℕ) → k < C .number →
         (λ _ L t.
         does-read S (field (b 0) 0x8c) _ 0 (rw t₀ at (reads-previous C sound 0 (inside 0 (omega arith)) (rw t₀ (omega arith)) t))
         (does-ret S (gone (put y 1 (b (pred d))) (rw m t) (previous-tail b n d above below h s g))))))
+
+    -- whichever it is
+    goes
+        : {M : Memory} → World C φ x y M → Does S (leaves (b 0) (b d) (nextIn b n d) (previousIn b n d)) (λ _ N. Gone N) M
+    unfolding leaves otherLeaves
+    goes {M} w =
+        does-read S (field (b 0) 0x88) _ (b 1)
+        (rw head-is at (reads-next C sound 0 (inside 0 (omega arith)) (rw head-is (base-low C sound nonzero 1 (inside 1 (omega arith)))) w))
+        (go (ℕ-discrete d 1) (decLt (suc d) n))
+      where
+        go
+            : Dec (d ≡ 1) → Dec (suc d < n)
+            → Does S
+            (if eqb (b 1) (b d) then headLeaves (b 0) 0x88 (nextIn b n d) (previousIn b n d) else (field (b 0) 0x8c >>= λ second.
+            if eqb second (b d) then headLeaves (b 0) 0x8c (nextIn b n d) (previousIn b n d)
+            else otherLeaves (b 0) (b d) (nextIn b n d) (previousIn b n d)))
+            (λ _ N. Gone N) M
+        go (yes e) f = rw (eq-eqb (b 1) (b d) (ap b (sym e))) (head-goes e w)
+        go (no o) f =
+            rw (ne-eqb (b 1) (b d) (distinct 1 d (inside 1 (omega arith)) (inside d below) (λ e. o (sym e))))
+            (does-read S (field (b 0) 0x8c) _ 0
+            (rw other-is at (reads-previous C sound 0 (inside 0 (omega arith)) (rw other-is (omega arith)) w))
+            (rw (ne-eqb 0 (b d) (λ e. nonzero d (inside d below) (sym e))) (at f)))
+          where
+            at : Dec (suc d < n)
+                → Does S (if eqb (nextIn b n d) 0 then tailLeaves (b 0) (b d) (previousIn b n d) else middleLeaves (nextIn b n d) (previousIn b n d))
+                (λ _ N. Gone N) M
+            at (yes l) =
+                let q : nextIn b n d ≢ 0 = λ e. nonzero (suc d) (inside (suc d) l) (sym (next-more b n d l) ∙ e) in
+                rw (ne-eqb (nextIn b n d) 0 q) (middle-goes l (omega arith) w)
+            at (no l) = rw (eq-eqb (nextIn b n d) 0 (next-last b n d (omega arith))) (tail-goes (omega arith) (omega arith) w)
+
+    -- its own words are 0 then
+    pub unregisters : {M : Memory} → World C φ x y M → Does S (unregister (b 0) (b d)) (λ _ N. Gone N) M
+    unfolding unregister
+    unregisters {M} w =
+        does-read S (field (b d) 0x88) _ (nextIn b n d)
+        (rw next-is at (reads-next C sound d (inside d below) (rw next-is next-low) w))
+        (does-read S (field (b d) 0x8c) _ (previousIn b n d)
+        (rw previous-is at (reads-previous C sound d (inside d below) (rw previous-is previous-low) w))
+        (rw (ne-eqb (previousIn b n d) 0 previous-not)
+        (does-then S (leaves (b 0) (b d) (nextIn b n d) (previousIn b n d)) _ (goes w)
+        (λ _ N g.
+        does-then S (setField (b d) 0x88 0) _ (sets-next C sound d 0 (inside d below) (g .2))
+        (λ _ L u.
+        does-mono S (sets-previous C sound d 0 (inside d below) u)
+        (λ _ K t.
+        (put (g .0) d 0, put (g .1) d 0, t,
+        record {
+          nexts = λ i l. put-other (g .0) d 0 (skip d i) (skip-not d i) ∙ g .3 .nexts i l;
+          previouses = λ i l. put-other (g .1) d 0 (skip d i) (skip-not d i) ∙ g .3 .previouses i l;
+        })))))))
