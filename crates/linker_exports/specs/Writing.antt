@@ -12,9 +12,9 @@ use borrow.Author.Tests.{lt-ltb, ltb-true, leb-true, le-leb, lt-leb}
 use Rattle.window.specs.Memory.{if_then_else_}
 use Rattle.window.specs.Tests.{both, also}
 use Rattle.register.specs.Words.{flat}
-use Rattle.register.specs.Module.{Export, Module, Register, named-ok, findExport, proper}
+use Rattle.register.specs.Module.{Export, Module, Register, named-ok, findExport, proper, properModule}
 use Rattle.register.specs.Encode.{moduleNames, moduleWords, recordWords, recordNames, encodeWords, exportNames}
-use Rattle.register.specs.Decode.{encodes}
+use Rattle.register.specs.Decode.{encodes, isRegister, registerOf}
 use Rattle.register.specs.Change.{newModule, withSegment, withIndexed, withExport, appended}
 use Rattle.register.specs.Buffers.{Below, encodeRecords, encodeNames}
 use Rattle.register.specs.declared.exports.Found.{Found}
@@ -26,6 +26,7 @@ use Rattle.register_append.specs.Draft.{roomIn, longer, pushListed, addedTo, pu
 use Rattle.register_append.specs.Held.{Held, words-long, words-again, names-again, words-export, names-export}
 use Rattle.register_append.specs.Steps.{listed-none, step-segment, step-indexed, step-again, step-export, step-export-none}
 use Rattle.register_append.specs.Append.{words-append, names-append, finished, finished-names, given-up, begun, not-begun}
+use Rattle.register_append.specs.Stands.{stands, still-register}
 use Rattle.linker.specs.Calls.{fits}
 
 -- buffers that encode a register
@@ -202,6 +203,16 @@ module _ (g : Ground) (m : Module) (d : Draft) (rs ns : List ℕ) (h : Writing g
   finishes = (
     finished (g .records) (g .names) (g .missing) (g .register) (g .right) (g .holds) (g .bytes) d m rs ns held starts begins few,
     finished-names (g .records) (g .names) (g .missing) (g .register) (g .right) (g .holds) (g .bytes) d m rs ns held starts begins,
+  )
+
+  -- and a register again
+  pub stays
+      : properModule m ≡ true
+      → (isRegister (finishRecord rs d) ns (g .missing) ≡ true)
+      × (registerOf (finishRecord rs d) ns (g .missing) ≡ appended (g .register) m)
+  stays p = (
+    still-register (g .records) (g .names) (g .missing) (g .register) (g .right) (g .holds) (g .bytes) d m rs ns held starts begins few p,
+    stands (g .records) (g .names) (g .missing) (g .register) (g .right) (g .holds) (g .bytes) d m rs ns held starts begins few p,
   )
 
   -- an address more, in word `field`
