@@ -291,7 +291,8 @@ module _ (g : Ground) (m : Module) (d : Draft) (rs ns : List ℕ) (h : Writing g
       export-new = go (leb (d .end + 12) (roomIn (length (g .records)))) (leb (d .last + length name) (roomIn (length (g .names)))) refl refl
         where
           rest : (t s : Bool) → (t && s) ≡ false → leb (d .end + 12) (roomIn (length (g .records))) ≡ t
-              → leb (d .last + length name) (roomIn (length (g .names))) ≡ s → Writing g m′ (exported name a .0) (exported name a .1) (exported name a .2)
+              → leb (d .last + length name) (roomIn (length (g .names))) ≡ s
+              → Writing g m′ (exported name a .0) (exported name a .1) (exported name a .2)
           rest t s z p q =
               let e : (leb (d .end + 12) (roomIn (length (g .records))) && leb (d .last + length name) (roomIn (length (g .names)))) ≡ false =
               rw (p, q) z in
