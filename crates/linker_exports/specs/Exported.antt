@@ -1,8 +1,8 @@
 -- What `index_exports` answers, and what it leaves in the records and names that it is lent.
 use Prim.Native.Nat.{ℕ, _^_, _<_}
 use mathlib.Core.Path.{_≡_, refl, sym, ap, _∙_, subst}
-use mathlib.Core.List.{List, []}
-use mathlib.Core.Bool.{Bool, true, false}
+use mathlib.Core.List.{List}
+use mathlib.Core.Bool.{Bool, true}
 use lib.ListN.{length}
 use Rattle.window.specs.Memory.{if_then_else_}
 use Rattle.window.specs.Access.{run}

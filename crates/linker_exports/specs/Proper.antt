@@ -1,23 +1,22 @@
 -- What is read from an image is a proper module: names are names, segments are at most 16, and its exports' names are distinct.
-use Prim.Native.Nat.{ℕ, zero, suc, _+_, _≤_, _<_}
+use Prim.Native.Nat.{ℕ, zero, suc, _+_, _≤_}
 use mathlib.Core.Path.{_≡_, refl, sym, ap, _∙_}
-use mathlib.Core.List.{List, [], _∷_, _++_}
-use mathlib.Core.Bool.{Bool, true, false, _&&_}
+use mathlib.Core.List.{List, [], _∷_}
+use mathlib.Core.Bool.{Bool, true, false}
 use native.Mathlib.Omega.{arith}
 use native.Mathlib.Decide.{decLt}
 use lib.ListN.{length}
-use lib.Dec.{ltb, leb}
 use borrow.Author.Tests.{lt-ltb, le-ltb, le-leb}
 use Rattle.window.specs.Memory.{if_then_else_}
 use Rattle.window.specs.Access.{run}
 use Rattle.window.specs.Tests.{both, also}
-use Rattle.window.specs.Name.{isName, nameAt-isName}
+use Rattle.window.specs.Name.{nameAt-isName}
 use Rattle.layout.specs.Header.{exportNamedSymbolNum, segmentNum}
 use Rattle.layout.specs.declared.segments.Address.{Address}
 use Rattle.layout.specs.declared.segments.Address.the-variants as address
 use Rattle.register.specs.Words.{same}
 use Rattle.register.specs.Lists.{same-true, same-refl}
-use Rattle.register.specs.Module.{Export, Module, named-ok, findFrom, findExport, isNothing, distinct, properModule}
+use Rattle.register.specs.Module.{Export, named-ok, findFrom, findExport, isNothing, distinct, properModule}
 use Rattle.register.specs.Change.{putNamed}
 use Rattle.register.specs.declared.exports.Found.{Found}
 use Rattle.register.specs.declared.exports.Found.the-variants.{At, Nothing}
