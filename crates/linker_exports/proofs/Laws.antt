@@ -1,13 +1,12 @@
 -- From the code's steps and loops to `Turns`.
-use Prim.Native.Nat.{ℕ, zero, suc, _+_, _-_, _^_, _≤_, _<_}
-use mathlib.Core.Path.{_≡_, refl, sym, ap, _∙_, subst}
-use mathlib.Core.List.{List, [], _∷_, _++_}
-use mathlib.Core.Bool.{Bool, true, false}
+use Prim.Native.Nat.{ℕ, suc, _+_, _-_, _^_, _≤_, _<_}
+use mathlib.Core.Path.{_≡_, sym, ap, _∙_, subst}
+use mathlib.Core.List.{List, [], _++_}
 use native.Mathlib.Omega.{arith}
 use lib.ListN.{length, take, drop, length-append}
 use lib.Seq.{length-take-le, take-append-seam}
 use borrow.Author.Tests.{lt-ltb, le-ltb}
-use Rattle.window.specs.Memory.{if_then_else_, _⊕_, wordAt}
+use Rattle.window.specs.Memory.{_⊕_, wordAt}
 use Rattle.window.specs.Access.{run}
 use Rattle.window.specs.Name.{nameAt, laidOver}
 use Rattle.layout.specs.Header.{exportNamedSymbolTableOffset, exportNamedSymbolNum, exportNamedSymbolEntrySize, exportIndexedSymbolTableOffset, exportIndexedSymbolNum, exportIndexedSymbolEntrySize, segmentNum, moduleNameOffset}

@@ -2,4 +2,5 @@
 pub mod Read
 pub mod Writing
 pub mod Modules
+pub mod Proper
 pub mod Exported

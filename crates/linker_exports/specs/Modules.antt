@@ -1,8 +1,8 @@
 -- A module with lists in place of its own, one entry longer, and that a longer list needs no less room.
-use Prim.Native.Nat.{ℕ, zero, suc, _+_, _-_, _*_, _^_, _≤_, _<_}
+use Prim.Native.Nat.{ℕ, zero, suc, _+_, _-_, _≤_}
 use mathlib.Core.Path.{_≡_, refl, sym, ap, _∙_, subst}
 use mathlib.Core.List.{List, [], _∷_, _++_}
-use mathlib.Core.Bool.{Bool, true, false, _&&_}
+use mathlib.Core.Bool.{Bool, true, false}
 use native.Mathlib.Omega.{arith}
 use lib.ListN.{length, length-append}
 use Rattle.window.specs.Memory.{if_then_else_}
@@ -12,14 +12,14 @@ use Rattle.layout.specs.declared.segments.Address.{Address}
 use Rattle.layout.specs.declared.segments.Address.the-variants.{At, Nowhere}
 use Rattle.register.specs.Words.{same}
 use Rattle.register.specs.Module.{Export, Module, named-ok}
-use Rattle.register.specs.Encode.{moduleNames, moduleWords, exportNames}
+use Rattle.register.specs.Encode.{moduleNames, exportNames}
 use Rattle.register.specs.Change.{withSegment, withIndexed, withExport, putNamed}
 use Rattle.register_append.specs.declared.draft.Draft.{Draft}
 use Rattle.register_append.specs.declared.draft.Drafted.{Drafted}
 use Rattle.register_append.specs.declared.draft.Drafted.the-variants.{Open, Full}
 use Rattle.register_append.specs.Held.{words-long}
 use Rattle.linker.specs.Exports.{putUsable}
-use Rattle.linker_exports.specs.Read.{namedTo, indexedTo, indexedOf, nameOf, addressOf, namedEntry}
+use Rattle.linker_exports.specs.Read.{namedTo, indexedTo, indexedOf, nameOf, addressOf}
 use Rattle.linker_exports.specs.Writing.{Ground, Writing, Grows, named, none-greater}
 
 unfoldable pub withSegments : Module → List ℕ → Module

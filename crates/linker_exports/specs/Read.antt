@@ -1,8 +1,8 @@
 -- What the loops over a module's tables gather, entry by entry, and so what `readModule` gives.
-use Prim.Native.Nat.{ℕ, zero, suc, _+_, _-_, _^_, _≤_, _<_}
-use mathlib.Core.Path.{_≡_, refl, sym, ap, _∙_}
+use Prim.Native.Nat.{ℕ, zero, suc, _+_, _-_}
+use mathlib.Core.Path.{_≡_, refl, ap, _∙_}
 use mathlib.Core.List.{List, [], _∷_, _++_}
-use mathlib.Core.Bool.{Bool, true, false}
+use mathlib.Core.Bool.{Bool}
 use native.Mathlib.Omega.{arith}
 use native.Mathlib.Decide.{decLt}
 use lib.ListN.{length, take, length-append}
@@ -10,7 +10,7 @@ use lib.Seq.{take-append-le, take-all}
 use lib.Dec.{ltb}
 use borrow.Author.Tests.{lt-ltb, le-ltb}
 use Rattle.window.specs.Memory.{if_then_else_, _⊕_, wordAt}
-use Rattle.window.specs.Access.{Prog, ret, _>>=_, get32, run, run-bind, Reads, reads-same}
+use Rattle.window.specs.Access.{Prog, ret, _>>=_, run, run-bind, Reads, reads-same}
 use Rattle.window.specs.Loop.{loop, loop-none, loop-more}
 use Rattle.window.specs.Name.{nameAt, nameAt-reads}
 use Rattle.layout.specs.Header.{exportNamedSymbolTableOffset, exportNamedSymbolNum, exportNamedSymbolEntrySize, exportIndexedSymbolTableOffset, exportIndexedSymbolNum, exportIndexedSymbolEntrySize, segmentNum, moduleNameOffset}

@@ -1,5 +1,5 @@
 -- A record that is being written on buffers that encode a register: it holds a module, or the module has no room and nothing changed.
-use Prim.Native.Nat.{ℕ, zero, suc, _+_, _-_, _*_, _^_, _≤_, _<_}
+use Prim.Native.Nat.{ℕ, _+_, _-_, _*_, _^_, _≤_, _<_}
 use mathlib.Core.Path.{_≡_, refl, sym, ap, _∙_, subst}
 use mathlib.Core.List.{List, [], _∷_, _++_, append-nil}
 use mathlib.Core.Bool.{Bool, true, false, _&&_}
@@ -9,12 +9,11 @@ use lib.ListN.{length, length-append, length-set}
 use lib.Seq.{sets}
 use lib.Dec.{ltb, leb}
 use borrow.Author.Tests.{lt-ltb, ltb-true, leb-true, le-leb, lt-leb}
-use Rattle.window.specs.Memory.{if_then_else_}
 use Rattle.window.specs.Tests.{both, also}
 use Rattle.register.specs.Words.{flat}
-use Rattle.register.specs.Module.{Export, Module, Register, named-ok, findExport, proper}
+use Rattle.register.specs.Module.{Module, Register, named-ok, findExport, proper, properModule}
 use Rattle.register.specs.Encode.{moduleNames, moduleWords, recordWords, recordNames, encodeWords, exportNames}
-use Rattle.register.specs.Decode.{encodes}
+use Rattle.register.specs.Decode.{encodes, isRegister, registerOf}
 use Rattle.register.specs.Change.{newModule, withSegment, withIndexed, withExport, appended}
 use Rattle.register.specs.Buffers.{Below, encodeRecords, encodeNames}
 use Rattle.register.specs.declared.exports.Found.{Found}
@@ -23,9 +22,10 @@ use Rattle.register_append.specs.declared.draft.Draft.{Draft}
 use Rattle.register_append.specs.declared.draft.Drafted.{Drafted}
 use Rattle.register_append.specs.declared.draft.Drafted.the-variants.{Open, Full}
 use Rattle.register_append.specs.Draft.{roomIn, longer, pushListed, addedTo, putExport, draftAt, beginRecord, finishRecord, givenUp}
-use Rattle.register_append.specs.Held.{Held, words-long, words-again, names-again, words-export, names-export}
+use Rattle.register_append.specs.Held.{Held, words-long, words-export, names-export}
 use Rattle.register_append.specs.Steps.{listed-none, step-segment, step-indexed, step-again, step-export, step-export-none}
 use Rattle.register_append.specs.Append.{words-append, names-append, finished, finished-names, given-up, begun, not-begun}
+use Rattle.register_append.specs.Stands.{stands, still-register}
 use Rattle.linker.specs.Calls.{fits}
 
 -- buffers that encode a register
@@ -204,6 +204,16 @@ module _ (g : Ground) (m : Module) (d : Draft) (rs ns : List ℕ) (h : Writing g
     finished-names (g .records) (g .names) (g .missing) (g .register) (g .right) (g .holds) (g .bytes) d m rs ns held starts begins,
   )
 
+  -- and a register again
+  pub stays
+      : properModule m ≡ true
+      → (isRegister (finishRecord rs d) ns (g .missing) ≡ true)
+      × (registerOf (finishRecord rs d) ns (g .missing) ≡ appended (g .register) m)
+  stays p = (
+    still-register (g .records) (g .names) (g .missing) (g .register) (g .right) (g .holds) (g .bytes) d m rs ns held starts begins few p,
+    stands (g .records) (g .names) (g .missing) (g .register) (g .right) (g .holds) (g .bytes) d m rs ns held starts begins few p,
+  )
+
   -- an address more, in word `field`
   listed
       : (field a : ℕ) (m′ : Module) (after : List ℕ)
@@ -237,19 +247,13 @@ module _ (g : Ground) (m : Module) (d : Draft) (rs ns : List ℕ) (h : Writing g
       (λ l. step-indexed (g .records) (g .names) d m rs ns held a k l)
       (more-indexed (named g) m a)
 
-  abbrev put : List ℕ → ℕ → Drafted × List ℕ × List ℕ
-  put name a = putExport rs ns d name a
-
-  abbrev exported : List ℕ → ℕ → Drafted × List ℕ × List ℕ
-  exported name a = tried d (put name a .0) (put name a .1) (put name a .2)
-
   -- a named export more, or its address replaced
   module _ (name : List ℕ) (a : ℕ) (small : a < 2 ^ 32) (no-indexed : m .indexed ≡ []) (ok : named-ok (m .named) ≡ true) where
     abbrev m′ : Module
     m′ = withExport m name a
 
-    export-again : (k : ℕ) → findExport (m .named) name ≡ At k → Writing g m′ (exported name a .0) (exported name a .1) (exported name a .2)
-    unfolding tried
+    export-again : (k : ℕ) → findExport (m .named) name ≡ At k → Writing g m′ (putTried d rs ns name a .0) (putTried d rs ns name a .1) (putTried d rs ns name a .2)
+    unfolding tried putTried
     export-again k f =
         let s = step-again (g .records) (g .names) d m rs ns held ok name a k small f in
         rw (s .0) (kept d m′ (sets (g .records) (d .start) (flat (moduleWords (d .names) m′))) ns (s .1) refl refl)
@@ -275,12 +279,13 @@ module _ (g : Ground) (m : Module) (d : Draft) (rs ns : List ℕ) (h : Writing g
           let n : named g + length (moduleNames m′) ≡ d .last + length name = omega (arith, lasts, more-names) in
           rw (w, n, e) (and-no (ltb (length (g .register .modules)) 64))
 
-      export-new : Writing g m′ (exported name a .0) (exported name a .1) (exported name a .2)
-      unfolding tried addedTo
+      export-new : Writing g m′ (putTried d rs ns name a .0) (putTried d rs ns name a .1) (putTried d rs ns name a .2)
+      unfolding tried putTried addedTo
       export-new = go (leb (d .end + 12) (roomIn (length (g .records)))) (leb (d .last + length name) (roomIn (length (g .names)))) refl refl
         where
           rest : (t s : Bool) → (t && s) ≡ false → leb (d .end + 12) (roomIn (length (g .records))) ≡ t
-              → leb (d .last + length name) (roomIn (length (g .names))) ≡ s → Writing g m′ (exported name a .0) (exported name a .1) (exported name a .2)
+              → leb (d .last + length name) (roomIn (length (g .names))) ≡ s
+              → Writing g m′ (putTried d rs ns name a .0) (putTried d rs ns name a .1) (putTried d rs ns name a .2)
           rest t s z p q =
               let e : (leb (d .end + 12) (roomIn (length (g .records))) && leb (d .last + length name) (roomIn (length (g .names)))) ≡ false =
               rw (p, q) z in
@@ -288,7 +293,7 @@ module _ (g : Ground) (m : Module) (d : Draft) (rs ns : List ℕ) (h : Writing g
               rw n (gone m′ (no-room e))
 
           go : (t s : Bool) → leb (d .end + 12) (roomIn (length (g .records))) ≡ t → leb (d .last + length name) (roomIn (length (g .names))) ≡ s
-              → Writing g m′ (exported name a .0) (exported name a .1) (exported name a .2)
+              → Writing g m′ (putTried d rs ns name a .0) (putTried d rs ns name a .1) (putTried d rs ns name a .2)
           go true true p q =
               let s =
               step-export (g .records) (g .names) d m rs ns held ok name a small no-indexed f
@@ -301,10 +306,9 @@ module _ (g : Ground) (m : Module) (d : Draft) (rs ns : List ℕ) (h : Writing g
           go false s p q = rest false s refl p q
 
     pub export-tried : Writing g m′ (putTried d rs ns name a .0) (putTried d rs ns name a .1) (putTried d rs ns name a .2)
-    unfolding putTried
     export-tried = go (findExport (m .named) name) refl
       where
-        go : (f : Found) → findExport (m .named) name ≡ f → Writing g m′ (exported name a .0) (exported name a .1) (exported name a .2)
+        go : (f : Found) → findExport (m .named) name ≡ f → Writing g m′ (putTried d rs ns name a .0) (putTried d rs ns name a .1) (putTried d rs ns name a .2)
         go (At k) e = export-again k e
         go Nothing e = export-new e
 

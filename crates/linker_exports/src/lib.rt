@@ -16,7 +16,7 @@ ghost use Rattle.linker.specs.Exports.{namedExports, indexedExports, readSegmen
 ghost use Rattle.linker_exports.specs.Read.{headerWord, segmentOf, segmentsTo, namedTo, indexedTo, atMost16, ownName};
 ghost use Rattle.linker_exports.specs.Writing.{tried, putTried};
 ghost use Rattle.linker_exports.specs.Modules.{withSegments, withNamed, withIndexeds, Turns, Bare, Unindexed, Empty, Any};
-ghost use Rattle.linker_exports.specs.Exported.{exported};
+ghost use Rattle.linker_exports.specs.Exported.{exported, registerWith};
 use layout::fields::entry_address;
 use layout::fields::field;
 use layout::format::EXPORT_INDEXED_SYMBOL_ENTRY_SIZE;
@@ -304,9 +304,13 @@ pub fn index_exports(
     auto_link: bool,
 ) -> Indexed
     ensures { λ r. ⌜ ((missing : List ℕ) → isRegister (now (records .entry)) (now (names .entry)) missing ≡ true
-        → (r, now (records .exit), now (names .exit))
+        → ((r, now (records .exit), now (names .exit))
         ≡ exported (now (records .entry)) (now (names .entry)) (registerOf (now (records .entry)) (now (names .entry)) missing)
-        (run at (readModule base size «auto_link») (now (w .entry)) .0)) ⌝ }
+        (run at (readModule base size «auto_link») (now (w .entry)) .0))
+        × (isRegister (now (records .exit)) (now (names .exit)) missing ≡ true)
+        × (registerOf (now (records .exit)) (now (names .exit)) missing
+        ≡ registerWith (now (records .entry)) (now (names .entry)) (registerOf (now (records .entry)) (now (names .entry)) missing)
+        (run at (readModule base size «auto_link») (now (w .entry)) .0))) ⌝ }
 {
     let Drafted::Open(first) = begin(at, w, base, size, auto_link, records, names) else {
         return Indexed::NoRoom;

@@ -35,7 +35,8 @@ unfolding settled
 used-zero ws e n = rw (ne-eqb (getD ws 0 0) 0 n, e)
 
 pub used-short : (records : List ℕ) → length records < 16 → 0 ≡ getD (settled (wordsIn records)) 3 0
-used-short records h = sym (List·getD-eq-default (settled (wordsIn records)) 0 (omega (arith, length-settled (wordsIn records), length-words records)))
+used-short records h =
+    sym (List·getD-eq-default (settled (wordsIn records)) 0 (omega (arith, length-settled (wordsIn records), length-words records)))
 
 -- the slots: `count` in all, k seen, place being 514 k
 

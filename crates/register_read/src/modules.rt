@@ -1,8 +1,8 @@
 // The modules in load order: their count, the first with a base or a name, and named lookup; and the missing names.
 ghost use mathlib.Core.Path.{_≡_};
 ghost use mathlib.Core.List.{List};
-ghost use Prim.Native.Nat.{ℕ, _+_, _*_, _≤_};
-ghost use lib.ListN.{length, getD};
+ghost use Prim.Native.Nat.{ℕ, _+_, _*_};
+ghost use lib.ListN.{getD};
 ghost use Rattle.register.specs.Words.{part, wordsIn};
 ghost use Rattle.register.specs.Decode.{slotName};
 ghost use Rattle.register_read.specs.Read.{Encoded, modulesOf, placeFrom, hasBase, hasName, lookupIn};

@@ -37,20 +37,29 @@ enum-told : tie.Need-enum-told Inv-loop μ-loop
 enum-told c = search needs
 
 same-length : tie.Need-same-length Inv-loop μ-loop
-same-length c = c .before .before .before .before .before .before .add-named .kept .1 .1 .1 .1 .1 .0 ∙ c .before .before .before .before .before .before .before .before .before .before .loop .inv .0
+same-length c =
+    let b₄ = c .before .before .before .before in
+    let b₈ = b₄ .before .before .before .before in
+    b₄ .before .before .add-named .kept .1 .1 .1 .1 .1 .0 ∙ b₈ .before .before .loop .inv .0
 
 same-length-2 : tie.Need-same-length-2 Inv-loop μ-loop
-same-length-2 c = c .before .before .before .before .before .before .add-named .kept .1 .1 .1 .1 .1 .1 .0 ∙ c .before .before .before .before .before .before .before .before .before .before .loop .inv .1
+same-length-2 c =
+    let b₄ = c .before .before .before .before in
+    let b₈ = b₄ .before .before .before .before in
+    b₄ .before .before .add-named .kept .1 .1 .1 .1 .1 .1 .0 ∙ b₈ .before .before .loop .inv .1
 
 returns : tie.Need-returns Inv-loop μ-loop
 returns c =
-    let a = c .before .before .before .before .before .before .before .before .before .before .before .before .before .before .before .before .args in
-    let l = c .before .before .before .before .before .before .before .before .before .before .loop in
-    named-done (a .at) (a .w .now) (a .base) _ _ _ _ _ _ _ (c .before .before .before .before .before .before .before .before .before .before .before .field2 .ensures)
+    let b₄ = c .before .before .before .before in
+    let b₈ = b₄ .before .before .before .before in
+    let b₁₂ = b₈ .before .before .before .before in
+    let b₁₆ = b₁₂ .before .before .before .before in
+    let a = b₁₆ .args in
+    let l = b₈ .before .before .loop in
+    named-done (a .at) (a .w .now) (a .base) _ _ _ _ _ _ _ (b₈ .before .before .before .field2 .ensures)
     (turn-full Unindexed (Nameds (a .at) (a .w .now) (a .base)) _ _ _ _ _ _ (l .i) (l .inv .3) _ _ _
-    (c .before .before .before .before .before .before .add-named .ensures (c .before .before .before .before .before .before .before .before .before .before .before .before .field .ensures ∙ field-word (a .at) (a .base) exportNamedSymbolTableOffset (a .w .now))) _
-    (named-to (a .at) (a .w .now) (a .base) (l .i + 1) _ (omega (arith, c .before .before .before .before .before .before .before .before .before .loop-test .taken)))
-    (c .enum-told .given .1))
+    (b₄ .before .before .add-named .ensures (b₁₂ .field .ensures ∙ field-word (a .at) (a .base) exportNamedSymbolTableOffset (a .w .now)))
+    _ (named-to (a .at) (a .w .now) (a .base) (l .i + 1) _ (omega (arith, b₈ .before .loop-test .taken))) (c .enum-told .given .1))
 
 enum-known-next : tie.Need-enum-known-next Inv-loop μ-loop
 enum-known-next c = search needs
@@ -63,14 +72,18 @@ loop-less c = omega arith
 
 loop-again : tie.Need-loop-again Inv-loop μ-loop
 loop-again c =
-    let a = c .before .before .before .before .before .before .before .before .before .before .before .before .before .before .before .before .before .args in
-    let l = c .before .before .before .before .before .before .before .before .before .before .before .loop in (
-      c .before .before .before .before .before .before .before .add-named .kept .1 .1 .1 .1 .1 .0 ∙ l .inv .0,
-      c .before .before .before .before .before .before .before .add-named .kept .1 .1 .1 .1 .1 .1 .0 ∙ l .inv .1,
-      omega (arith, c .before .before .before .before .before .before .before .before .before .before .loop-test .taken),
+    let b₄ = c .before .before .before .before in
+    let b₈ = b₄ .before .before .before .before in
+    let b₁₂ = b₈ .before .before .before .before in
+    let b₁₆ = b₁₂ .before .before .before .before in
+    let a = b₁₆ .before .args in
+    let l = b₈ .before .before .before .loop in (
+      b₄ .before .before .before .add-named .kept .1 .1 .1 .1 .1 .0 ∙ l .inv .0,
+      b₄ .before .before .before .add-named .kept .1 .1 .1 .1 .1 .1 .0 ∙ l .inv .1,
+      omega (arith, b₈ .before .before .loop-test .taken),
       turn-open Unindexed (Nameds (a .at) (a .w .now) (a .base)) _ _ _ _ _ _ (l .i) (l .inv .3) _ _ _
-          (c .before .before .before .before .before .before .before .add-named .ensures (c .before .before .before .before .before .before .before .before .before .before .before .before .before .field .ensures ∙ field-word (a .at) (a .base) exportNamedSymbolTableOffset (a .w .now))) _
-          (c .before .next .given .1),
+          (b₄ .before .before .before .add-named .ensures
+          (b₁₂ .before .field .ensures ∙ field-word (a .at) (a .base) exportNamedSymbolTableOffset (a .w .now))) _ (c .before .next .given .1),
     )
 
 same-length-3 : tie.Need-same-length-3 Inv-loop μ-loop

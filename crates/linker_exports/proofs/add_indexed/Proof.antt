@@ -23,9 +23,14 @@ same-length-2 c = search needs
 
 returns : tie.Need-returns
 returns c =
-    let a = c .before .before .before .before .before .before .before .before .before .before .before .before .before .before .before .before .args in
+    let b₄ = c .before .before .before .before in
+    let b₈ = b₄ .before .before .before .before in
+    let b₁₂ = b₈ .before .before .before .before in
+    let b₁₆ = b₁₂ .before .before .before .before in
+    let a = b₁₆ .args in
     added-indexed (a .at) (a .w .now) (a .base) (a .i) (a .table) _ _ (a .before) (a .records .now) (a .names .now) _ _ _ _ _
-    (c .before .before .before .before .before .before .before .before .before .before .before .before .entry-address .ensures) (c .before .before .before .before .before .before .before .before .before .before .before .indexed-address .ensures) (c .before .before .before .before .before .before .before .before .before .before .before .indexed-address .ok) (c .before .before .before .before .before .before .before .before .before .push-indexed .ensures) (c .before .before .before .before .kept .ensures)
+    (b₁₂ .entry-address .ensures) (b₈ .before .before .before .indexed-address .ensures) (b₈ .before .before .before .indexed-address .ok)
+    (b₈ .before .push-indexed .ensures) (b₄ .kept .ensures)
 
 pub add-indexed-spec : {M : Type 1} → statement M
 add-indexed-spec =

@@ -37,8 +37,13 @@ same-length-4 : tie.Need-same-length-4
 same-length-4 c = search needs
 
 returns-2 : tie.Need-returns-2
-returns-2 c = no-named-in _ _ _ _ _ _ _ _ _ (c .before .before .before .before .before .before .before .before .before .before .before .before .before .before .before .before .add-segments .ensures) _ (c .before .before .before .before .before .before .before .before .before .before .first .given .1) _ _ _ (c .before .before .before .before .before .before .add-all-named .ensures)
-    (c .enum-told2 .given .1)
+returns-2 c =
+    let b₄ = c .before .before .before .before in
+    let b₈ = b₄ .before .before .before .before in
+    let b₁₂ = b₈ .before .before .before .before in
+    let b₁₆ = b₁₂ .before .before .before .before in
+    no-named-in _ _ _ _ _ _ _ _ _ (b₁₆ .add-segments .ensures) _ (b₈ .before .before .first .given .1) _ _ _
+    (b₄ .before .before .add-all-named .ensures) (c .enum-told2 .given .1)
 
 add-all-indexed-requires : tie.Need-add-all-indexed-requires
 add-all-indexed-requires c κs = search needs
@@ -50,8 +55,15 @@ same-length-6 : tie.Need-same-length-6
 same-length-6 c = search needs
 
 returns-3 : tie.Need-returns-3
-returns-3 c = lists-in _ _ _ _ _ _ _ _ _ (c .before .before .before .before .before .before .before .before .before .before .before .before .before .before .before .before .before .before .before .before .before .before .before .before .add-segments .ensures) _ (c .before .before .before .before .before .before .before .before .before .before .before .before .before .before .before .before .before .before .first .given .1) _ _ _ (c .before .before .before .before .before .before .before .before .before .before .before .before .before .before .add-all-named .ensures) _
-    (c .before .before .before .before .before .before .before .before .second .given .1) _ _ _ (c .before .before .before .before .add-all-indexed .ensures)
+returns-3 c =
+    let b₄ = c .before .before .before .before in
+    let b₈ = b₄ .before .before .before .before in
+    let b₁₂ = b₈ .before .before .before .before in
+    let b₁₆ = b₁₂ .before .before .before .before in
+    let b₂₀ = b₁₆ .before .before .before .before in
+    let b₂₄ = b₂₀ .before .before .before .before in
+    lists-in _ _ _ _ _ _ _ _ _ (b₂₄ .add-segments .ensures) _ (b₁₆ .before .before .first .given .1) _ _ _
+    (b₁₂ .before .before .add-all-named .ensures) _ (b₈ .second .given .1) _ _ _ (b₄ .add-all-indexed .ensures)
 
 pub add-lists-spec : {M : Type 1} → statement M
 add-lists-spec =

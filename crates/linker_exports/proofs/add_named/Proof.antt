@@ -1,3 +1,4 @@
+use Prim.Native.Nat.{_^_, _<_}
 use borrow.Author.Needs.{needs}
 use Rattle.linker_exports.proofs.Laws.{passed-named, added-named}
 use Rattle.linker_exports.proofs.add_named.Statement.{statement}
@@ -29,10 +30,12 @@ put-named-requires c κs = search needs
 
 returns : tie.Need-returns
 returns c =
-    let a = c .before .before .before .before .before .before .before .before .before .before .args in
+    let b₄ = c .before .before .before .before in
+    let b₈ = b₄ .before .before .before .before in
+    let a = b₈ .before .before .args in
     λ h. passed-named (a .at) (a .w .now) (a .base) (a .i) (a .table) _ _ _ (a .before) (a .records .now) (a .names .now) _
-    (c .before .before .before .before .before .before .entry-address .ensures) (c .before .before .before .before .wrapping-add-u32 .ensures) (c .before .before .before .read322 .ensures) (c .before .before .tag-to-address .ensures) h
-    (c .enum-told .given .1)
+    (b₄ .before .before .entry-address .ensures) (b₄ .wrapping-add-u32 .ensures) (c .before .before .before .read322 .ensures)
+    (c .before .before .tag-to-address .ensures) h (c .enum-told .given .1)
 
 same-length : tie.Need-same-length
 same-length c = search needs
@@ -42,10 +45,16 @@ same-length-2 c = search needs
 
 returns-2 : tie.Need-returns-2
 returns-2 c =
-    let a = c .before .before .before .before .before .before .before .before .before .before .before .before .before .before .before .before .before .before .args in
+    let small : c .before .before .before .before .before .before .before .before .address .given .0 .0 < 2 ^ 32 = search needs in
+    let b₄ = c .before .before .before .before in
+    let b₈ = b₄ .before .before .before .before in
+    let b₁₂ = b₈ .before .before .before .before in
+    let b₁₆ = b₁₂ .before .before .before .before in
+    let a = b₁₆ .before .before .args in
     λ h. added-named (a .at) (a .w .now) (a .base) (a .i) (a .table) _ _ _ (a .before) (a .records .now) (a .names .now) _
-    (c .before .before .before .before .before .before .before .before .before .before .before .before .before .before .entry-address .ensures) (c .before .before .before .before .before .before .before .before .before .before .before .before .wrapping-add-u32 .ensures) (c .before .before .before .before .before .before .before .before .before .before .before .read322 .ensures) (c .before .before .before .before .before .before .before .before .before .before .tag-to-address .ensures) h
-    _ _ _ _ _ (c .before .before .before .before .before .before .before .before .address .given .1) (search needs) (c .before .before .before .before .before .before .before .before .before .before .before .before .before .read32 .ensures) (c .before .before .before .before .put-named .ensures)
+    (b₁₂ .before .before .entry-address .ensures) (b₁₂ .wrapping-add-u32 .ensures) (b₈ .before .before .before .read322 .ensures)
+    (b₈ .before .before .tag-to-address .ensures) h _ _ _ _ _ (b₈ .address .given .1) small (b₁₂ .before .read32 .ensures)
+    (b₄ .put-named .ensures)
 
 pub add-named-spec : {M : Type 1} → statement M
 add-named-spec =

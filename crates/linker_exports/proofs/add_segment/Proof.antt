@@ -20,9 +20,13 @@ same-length-2 c = search needs
 
 returns : tie.Need-returns
 returns c =
-    let a = c .before .before .before .before .before .before .before .before .before .before .before .before .before .before .before .args in
-    added-segment (a .at) (a .w .now) (a .base) (a .i) _ (a .before) (a .records .now) (a .names .now) _ _ _ _ _ (c .before .before .before .before .before .before .before .before .before .before .before .segment-offset .ensures)
-    (c .before .before .before .before .before .before .before .before .before .before .before .segment-offset .ok) (c .before .before .before .before .before .before .before .before .before .push-segment .ensures) (c .before .before .before .before .kept .ensures)
+    let b₄ = c .before .before .before .before in
+    let b₈ = b₄ .before .before .before .before in
+    let b₁₂ = b₈ .before .before .before .before in
+    let a = b₁₂ .before .before .before .args in
+    added-segment (a .at) (a .w .now) (a .base) (a .i) _ (a .before) (a .records .now) (a .names .now) _ _ _ _ _
+    (b₈ .before .before .before .segment-offset .ensures) (b₈ .before .before .before .segment-offset .ok)
+    (b₈ .before .push-segment .ensures) (b₄ .kept .ensures)
 
 pub add-segment-spec : {M : Type 1} → statement M
 add-segment-spec =

@@ -35,19 +35,29 @@ enum-told : tie.Need-enum-told Inv-loop μ-loop
 enum-told c = search needs
 
 same-length : tie.Need-same-length Inv-loop μ-loop
-same-length c = c .before .before .before .before .before .before .add-segment .kept .1 .1 .1 .1 .0 ∙ c .before .before .before .before .before .before .before .before .before .before .loop .inv .0
+same-length c =
+    let b₄ = c .before .before .before .before in
+    let b₈ = b₄ .before .before .before .before in
+    b₄ .before .before .add-segment .kept .1 .1 .1 .1 .0 ∙ b₈ .before .before .loop .inv .0
 
 same-length-2 : tie.Need-same-length-2 Inv-loop μ-loop
-same-length-2 c = c .before .before .before .before .before .before .add-segment .kept .1 .1 .1 .1 .1 .0 ∙ c .before .before .before .before .before .before .before .before .before .before .loop .inv .1
+same-length-2 c =
+    let b₄ = c .before .before .before .before in
+    let b₈ = b₄ .before .before .before .before in
+    b₄ .before .before .add-segment .kept .1 .1 .1 .1 .1 .0 ∙ b₈ .before .before .loop .inv .1
 
 returns : tie.Need-returns Inv-loop μ-loop
 returns c =
-    let a = c .before .before .before .before .before .before .before .before .before .before .before .before .before .before .before .before .args in
-    let l = c .before .before .before .before .before .before .before .before .before .before .loop in
-    segments-done (a .at) (a .w .now) (a .base) _ _ _ _ _ _ _ (segments-count (a .at) (a .w .now) (a .base) (c .before .before .before .before .before .before .before .before .before .before .before .before .field .ensures) (c .before .before .before .before .before .before .before .before .before .before .before .at-most-16 .ensures))
-    (turn-full Bare (Segments (a .at) (a .w .now) (a .base)) _ _ _ _ _ _ (l .i) (l .inv .3) _ _ _ (c .before .before .before .before .before .before .add-segment .ensures) _
-    (segments-to (a .at) (a .w .now) (a .base) (l .i + 1) _ (omega (arith, c .before .before .before .before .before .before .before .before .before .loop-test .taken)))
-    (c .enum-told .given .1))
+    let b₄ = c .before .before .before .before in
+    let b₈ = b₄ .before .before .before .before in
+    let b₁₂ = b₈ .before .before .before .before in
+    let b₁₆ = b₁₂ .before .before .before .before in
+    let a = b₁₆ .args in
+    let l = b₈ .before .before .loop in
+    segments-done (a .at) (a .w .now) (a .base) _ _ _ _ _ _ _
+    (segments-count (a .at) (a .w .now) (a .base) (b₁₂ .field .ensures) (b₈ .before .before .before .at-most-16 .ensures))
+    (turn-full Bare (Segments (a .at) (a .w .now) (a .base)) _ _ _ _ _ _ (l .i) (l .inv .3) _ _ _ (b₄ .before .before .add-segment .ensures)
+    _ (segments-to (a .at) (a .w .now) (a .base) (l .i + 1) _ (omega (arith, b₈ .before .loop-test .taken))) (c .enum-told .given .1))
 
 enum-known-next : tie.Need-enum-known-next Inv-loop μ-loop
 enum-known-next c = search needs
@@ -60,12 +70,17 @@ loop-less c = omega arith
 
 loop-again : tie.Need-loop-again Inv-loop μ-loop
 loop-again c =
-    let a = c .before .before .before .before .before .before .before .before .before .before .before .before .before .before .before .before .before .args in
-    let l = c .before .before .before .before .before .before .before .before .before .before .before .loop in (
-      c .before .before .before .before .before .before .before .add-segment .kept .1 .1 .1 .1 .0 ∙ l .inv .0,
-      c .before .before .before .before .before .before .before .add-segment .kept .1 .1 .1 .1 .1 .0 ∙ l .inv .1,
-      omega (arith, c .before .before .before .before .before .before .before .before .before .before .loop-test .taken),
-      turn-open Bare (Segments (a .at) (a .w .now) (a .base)) _ _ _ _ _ _ (l .i) (l .inv .3) _ _ _ (c .before .before .before .before .before .before .before .add-segment .ensures) _ (c .before .next .given .1),
+    let b₄ = c .before .before .before .before in
+    let b₈ = b₄ .before .before .before .before in
+    let b₁₂ = b₈ .before .before .before .before in
+    let b₁₆ = b₁₂ .before .before .before .before in
+    let a = b₁₆ .before .args in
+    let l = b₈ .before .before .before .loop in (
+      b₄ .before .before .before .add-segment .kept .1 .1 .1 .1 .0 ∙ l .inv .0,
+      b₄ .before .before .before .add-segment .kept .1 .1 .1 .1 .1 .0 ∙ l .inv .1,
+      omega (arith, b₈ .before .before .loop-test .taken),
+      turn-open Bare (Segments (a .at) (a .w .now) (a .base)) _ _ _ _ _ _ (l .i) (l .inv .3) _ _ _
+          (b₄ .before .before .before .add-segment .ensures) _ (c .before .next .given .1),
     )
 
 same-length-3 : tie.Need-same-length-3 Inv-loop μ-loop

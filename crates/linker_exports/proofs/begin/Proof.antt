@@ -28,10 +28,12 @@ same-length-2 c = search needs
 
 returns : tie.Need-returns
 returns c =
-    let a = c .before .before .before .before .before .before .before .before .before .before .before .before .before .before .args in
-    c .before .before .before .before .begin-record .ensures
-    ∙ ap (λ t. beginRecord (a .records .now) (a .names .now) (a .base) (a .size) (a .auto-link) t)
-    (laid-name _ _ (c .before .before .before .before .before .before .before .before .read-name .ensures) .2 ∙ own-name (a .at) (a .w .now) (a .base) (c .before .before .before .before .before .before .before .before .before .before .field .ensures))
+    let b₄ = c .before .before .before .before in
+    let b₈ = b₄ .before .before .before .before in
+    let b₁₂ = b₈ .before .before .before .before in
+    let a = b₁₂ .before .before .args in
+    b₄ .begin-record .ensures ∙ ap (λ t. beginRecord (a .records .now) (a .names .now) (a .base) (a .size) (a .auto-link) t)
+    (laid-name _ _ (b₈ .read-name .ensures) .2 ∙ own-name (a .at) (a .w .now) (a .base) (b₈ .before .before .field .ensures))
 
 pub begin-spec : {M : Type 1} → statement M
 begin-spec =

@@ -21,9 +21,13 @@ same-length-2 c = search needs
 
 returns : tie.Need-returns
 returns c =
-    let a = c .before .before .before .before .before .before .before .before .before .before .before .before .args in
-    λ missing h. not-begun (a .at) (a .w .now) (a .records .now) (a .names .now) (a .base) (a .size) (a .auto-link) (λ i. omega (arith, c .before .before .before .before .before .before .before .before .before .before .slice-known .given i)) (omega (arith, c .before .before .before .before .before .before .before .before .before .before .before .before .fits .base)) (omega (arith, c .before .before .before .before .before .before .before .before .before .before .before .before .fits .size))
-    missing h _ _ _ (c .before .before .before .before .before .before .begin .ensures) (c .enum-told .given .1)
+    let b₄ = c .before .before .before .before in
+    let b₈ = b₄ .before .before .before .before in
+    let b₁₂ = b₈ .before .before .before .before in
+    let a = b₁₂ .args in
+    λ missing h. not-begun (a .at) (a .w .now) (a .records .now) (a .names .now) (a .base) (a .size) (a .auto-link)
+    (λ i. omega (arith, b₈ .before .before .slice-known .given i)) (omega (arith, b₁₂ .fits .base)) (omega (arith, b₁₂ .fits .size))
+    missing h _ _ _ (b₄ .before .before .begin .ensures) (c .enum-told .given .1)
 
 add-lists-requires : tie.Need-add-lists-requires
 add-lists-requires c κs = search needs
@@ -42,9 +46,16 @@ same-length-4 c = search needs
 
 returns-2 : tie.Need-returns-2
 returns-2 c =
-    let a = c .before .before .before .before .before .before .before .before .before .before .before .before .before .before .before .before .before .before .before .before .before .before .args in
-    λ missing h. not-filled (a .at) (a .w .now) (a .records .now) (a .names .now) (a .base) (a .size) (a .auto-link) (λ i. omega (arith, c .before .before .before .before .before .before .before .before .before .before .before .before .before .before .before .before .before .before .before .before .slice-known .given i)) (omega (arith, c .before .before .before .before .before .before .before .before .before .before .before .before .before .before .before .before .before .before .before .before .before .before .fits .base)) (omega (arith, c .before .before .before .before .before .before .before .before .before .before .before .before .before .before .before .before .before .before .before .before .before .before .fits .size))
-    missing h _ _ _ (c .before .before .before .before .before .before .before .before .before .before .before .before .before .before .before .before .begin .ensures) _ (c .before .before .before .before .before .before .before .before .before .before .first .given .1) _ _ _ (c .before .before .before .before .before .before .add-lists .ensures) (c .enum-told2 .given .1)
+    let b₄ = c .before .before .before .before in
+    let b₈ = b₄ .before .before .before .before in
+    let b₁₂ = b₈ .before .before .before .before in
+    let b₁₆ = b₁₂ .before .before .before .before in
+    let b₂₀ = b₁₆ .before .before .before .before in
+    let a = b₂₀ .before .before .args in
+    λ missing h. not-filled (a .at) (a .w .now) (a .records .now) (a .names .now) (a .base) (a .size) (a .auto-link)
+    (λ i. omega (arith, b₂₀ .slice-known .given i)) (omega (arith, b₂₀ .before .before .fits .base))
+    (omega (arith, b₂₀ .before .before .fits .size)) missing h _ _ _ (b₁₆ .begin .ensures) _ (b₈ .before .before .first .given .1) _ _ _
+    (b₄ .before .before .add-lists .ensures) (c .enum-told2 .given .1)
 
 finish-record-requires : tie.Need-finish-record-requires
 finish-record-requires c κs = search needs
@@ -57,9 +68,17 @@ same-length-6 c = search needs
 
 returns-3 : tie.Need-returns-3
 returns-3 c =
-    let a = c .before .before .before .before .before .before .before .before .before .before .before .before .before .before .before .before .before .before .before .before .before .before .before .before .before .before .before .args in
-    λ missing h. finished-all (a .at) (a .w .now) (a .records .now) (a .names .now) (a .base) (a .size) (a .auto-link) (λ i. omega (arith, c .before .before .before .before .before .before .before .before .before .before .before .before .before .before .before .before .before .before .before .before .before .before .before .before .before .slice-known .given i)) (omega (arith, c .before .before .before .before .before .before .before .before .before .before .before .before .before .before .before .before .before .before .before .before .before .before .before .before .before .before .before .fits .base)) (omega (arith, c .before .before .before .before .before .before .before .before .before .before .before .before .before .before .before .before .before .before .before .before .before .before .before .before .before .before .before .fits .size))
-    missing h _ _ _ (c .before .before .before .before .before .before .before .before .before .before .before .before .before .before .before .before .before .before .before .before .before .begin .ensures) _ (c .before .before .before .before .before .before .before .before .before .before .before .before .before .before .before .first .given .1) _ _ _ (c .before .before .before .before .before .before .before .before .before .before .before .add-lists .ensures) _ (c .before .before .before .before .before .last .given .1)
+    let b₄ = c .before .before .before .before in
+    let b₈ = b₄ .before .before .before .before in
+    let b₁₂ = b₈ .before .before .before .before in
+    let b₁₆ = b₁₂ .before .before .before .before in
+    let b₂₀ = b₁₆ .before .before .before .before in
+    let b₂₄ = b₂₀ .before .before .before .before in
+    let a = b₂₄ .before .before .before .args in
+    λ missing h. finished-all (a .at) (a .w .now) (a .records .now) (a .names .now) (a .base) (a .size) (a .auto-link)
+    (λ i. omega (arith, b₂₄ .before .slice-known .given i)) (omega (arith, b₂₄ .before .before .before .fits .base))
+    (omega (arith, b₂₄ .before .before .before .fits .size)) missing h _ _ _ (b₂₀ .before .begin .ensures) _
+    (b₁₂ .before .before .before .first .given .1) _ _ _ (b₈ .before .before .before .add-lists .ensures) _ (b₄ .before .last .given .1)
     (c .before .before .finish-record .ensures)
 
 pub index-exports-spec : {M : Type 1} → statement M

@@ -19,13 +19,17 @@ enum-told c = search needs
 
 returns : tie.Need-returns
 returns c =
-    let a = c .before .before .before .before .before .before .args in
-    ap addressOr0 (sym (c .before .address .given .1)) ∙ indexed-at (a .at) (a .w .now) (a .base) (a .entry) (c .before .before .before .before .read32 .ensures) (c .before .before .before .tag-to-address .ensures)
+    let b₄ = c .before .before .before .before in
+    let a = b₄ .before .before .args in
+    ap addressOr0 (sym (c .before .address .given .1)) ∙ indexed-at (a .at) (a .w .now) (a .base) (a .entry) (b₄ .read32 .ensures)
+    (c .before .before .before .tag-to-address .ensures)
 
 returns-2 : tie.Need-returns-2
 returns-2 c =
-    let a = c .before .before .before .before .before .args in
-    ap addressOr0 (sym (c .enum-told .given .1)) ∙ indexed-at (a .at) (a .w .now) (a .base) (a .entry) (c .before .before .before .read32 .ensures) (c .before .before .tag-to-address .ensures)
+    let b₄ = c .before .before .before .before in
+    let a = b₄ .before .args in
+    ap addressOr0 (sym (c .enum-told .given .1)) ∙ indexed-at (a .at) (a .w .now) (a .base) (a .entry)
+    (c .before .before .before .read32 .ensures) (c .before .before .tag-to-address .ensures)
 
 pub indexed-address-spec : {M : Type 1} → statement M
 indexed-address-spec =

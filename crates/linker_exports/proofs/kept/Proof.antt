@@ -19,7 +19,9 @@ same-length-2 : tie.Need-same-length-2
 same-length-2 c = search needs
 
 returns : tie.Need-returns
-returns c = kept-full _ _ _ _ (c .before .before .before .before .before .before .before .enum-told .given .1) (c .before .before .before .before .give-up .ensures)
+returns c =
+    let b₄ = c .before .before .before .before in
+    kept-full _ _ _ _ (b₄ .before .before .before .enum-told .given .1) (b₄ .give-up .ensures)
 
 returns-2 : tie.Need-returns-2
 returns-2 c = kept-open _ _ _ _ _ (c .before .after .given .1)

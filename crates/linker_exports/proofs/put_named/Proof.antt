@@ -26,9 +26,15 @@ same-length-2 c = search needs
 
 returns : tie.Need-returns
 returns c =
-    let a = c .before .before .before .before .before .before .before .before .before .before .before .before .before .before .before .before .before .before .before .before .args in
-    put-kept (a .before) (a .records .now) (a .names .now) _ (a .address) (laid-name _ _ (c .before .before .before .before .before .before .before .before .before .before .before .before .before .before .before .read-name .ensures) .2) (c .before .before .before .before .before .before .before .before .before .before .before .put-export .ensures)
-    (c .before .before .before .before .kept .ensures)
+    let b₄ = c .before .before .before .before in
+    let b₈ = b₄ .before .before .before .before in
+    let b₁₂ = b₈ .before .before .before .before in
+    let b₁₆ = b₁₂ .before .before .before .before in
+    let b₂₀ = b₁₆ .before .before .before .before in
+    let a = b₂₀ .args in
+    put-kept (a .before) (a .records .now) (a .names .now) _ (a .address)
+    (laid-name _ _ (b₁₂ .before .before .before .read-name .ensures) .2) (b₈ .before .before .before .put-export .ensures)
+    (b₄ .kept .ensures)
 
 pub put-named-spec : {M : Type 1} → statement M
 put-named-spec =

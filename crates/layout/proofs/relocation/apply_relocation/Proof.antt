@@ -28,9 +28,11 @@ same-length c = search needs
 
 returns-2 : tie.Need-returns-2
 returns-2 c =
-    let a = c .before .before .before .before .before .before .before .before .before .args in
-    word-written (a .at) (a .target) (a .kind) (a .addend) (a .symbol) (a .target-final) (a .w .now) (c .before .before .before .before .before .word .given .0 .0)
-    (c .before .before .before .before .before .before .before .relocated-word .ensures) (c .before .before .before .before .before .word .given .1) (c .before .before .write32-privileged .ensures)
+    let b₄ = c .before .before .before .before in
+    let b₈ = b₄ .before .before .before .before in
+    let a = b₈ .before .args in
+    word-written (a .at) (a .target) (a .kind) (a .addend) (a .symbol) (a .target-final) (a .w .now) (b₄ .before .word .given .0 .0)
+    (b₄ .before .before .before .relocated-word .ensures) (b₄ .before .word .given .1) (c .before .before .write32-privileged .ensures)
 
 pub apply-relocation-spec : {M : Type 1} → statement M
 apply-relocation-spec =

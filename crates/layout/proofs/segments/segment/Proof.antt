@@ -40,10 +40,13 @@ from-raw-requires c κs = search needs
 
 returns-2 : tie.Need-returns-2
 returns-2 c =
-    let a = c .before .before .before .before .before .before .before .before .before .before .before .args in
-    found-in-words (a .at) (a .base) (a .index) (a .w .now) (c .before .before .before .before .before .before .before .field2 .ensures) (c .before .before .before .before .before .before .entry-address .ensures) (c .before .before .before .before .wrapping-add-u32 .ensures)
-    (c .before .before .wrapping-add-u322 .ensures) (rw (c .before .before .before .before .before .before .before .before .before .field .ensures, field-word) at (c .before .before .before .before .before .before .before .before .if1 .left)) (c .before .before .before .before .before .read32 .ensures) (c .before .before .before .read322 .ensures)
-    (c .before .read323 .ensures) (c .from-raw .ensures)
+    let b₄ = c .before .before .before .before in
+    let b₈ = b₄ .before .before .before .before in
+    let a = b₈ .before .before .before .args in
+    found-in-words (a .at) (a .base) (a .index) (a .w .now) (b₄ .before .before .before .field2 .ensures)
+    (b₄ .before .before .entry-address .ensures) (b₄ .wrapping-add-u32 .ensures) (c .before .before .wrapping-add-u322 .ensures)
+    (rw (b₈ .before .field .ensures, field-word) at (b₈ .if1 .left)) (b₄ .before .read32 .ensures)
+    (c .before .before .before .read322 .ensures) (c .before .read323 .ensures) (c .from-raw .ensures)
 
 pub segment-spec : {M : Type 1} → statement M
 segment-spec =

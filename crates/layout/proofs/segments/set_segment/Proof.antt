@@ -33,9 +33,14 @@ same-length c = search needs
 
 returns : tie.Need-returns
 returns c =
-    let a = c .before .before .before .before .before .before .before .before .before .before .before .before .before .before .before .before .before .before .before .args in
-    set-in-words (a .at) (a .base) (a .index) (a .w .now) (c .before .before .before .before .before .before .before .before .before .before .before .before .before .before .before .before .field .ensures) (c .before .before .before .before .before .before .before .before .before .before .before .before .before .before .before .entry-address .ensures) (c .before .before .before .before .before .before .before .before .before .wrapping-add-u32 .ensures)
-    (c .before .before .before .before .wrapping-add-u322 .ensures) (a .value) (c .before .before .before .before .before .before .before .before .before .before .before .before .before .write32 .ensures) (c .before .before .before .before .before .before .before .before .write322 .ensures) (c .before .before .before .raw .ensures) (c .before .before .write323 .ensures)
+    let b₄ = c .before .before .before .before in
+    let b₈ = b₄ .before .before .before .before in
+    let b₁₂ = b₈ .before .before .before .before in
+    let b₁₆ = b₁₂ .before .before .before .before in
+    let a = b₁₆ .before .before .before .args in
+    set-in-words (a .at) (a .base) (a .index) (a .w .now) (b₁₆ .field .ensures) (b₁₂ .before .before .before .entry-address .ensures)
+    (b₈ .before .wrapping-add-u32 .ensures) (b₄ .wrapping-add-u322 .ensures) (a .value) (b₁₂ .before .write32 .ensures)
+    (b₈ .write322 .ensures) (c .before .before .before .raw .ensures) (c .before .before .write323 .ensures)
 
 pub set-segment-spec : {M : Type 1} → statement M
 set-segment-spec =

@@ -37,9 +37,11 @@ wrapping-add-u32-requires c κs = search needs
 
 returns-3 : tie.Need-returns-3
 returns-3 c =
-    let a = c .before .before .before .before .before .before .before .before .before .before .args in
-    tag-found (a .at) (a .base) (a .tag .0) (a .w .now) (c .before .before .before .before .before .entry .given .0 .0) (cc) (c .before .before .before .offset .ensures) (c .before .if1 .left)
-    (c .wrapping-add-u32 .ensures)
+    let b₄ = c .before .before .before .before in
+    let b₈ = b₄ .before .before .before .before in
+    let a = b₈ .before .before .args in
+    tag-found (a .at) (a .base) (a .tag .0) (a .w .now) (b₄ .before .entry .given .0 .0) (cc) (c .before .before .before .offset .ensures)
+    (c .before .if1 .left) (c .wrapping-add-u32 .ensures)
 
 pub tag-to-address-spec : {M : Type 1} → statement M
 tag-to-address-spec =

@@ -22,7 +22,9 @@ same-length : tie.Need-same-length Inv-loop μ-loop
 same-length c = search needs
 
 returns : tie.Need-returns Inv-loop μ-loop
-returns c = sets-past _ (replicate (c .before .before .before .args .to - c .before .before .loop .i) 0) _ (c .if1 .taken) ∙ c .before .before .loop .inv .1
+returns c =
+    sets-past _ (replicate (c .before .before .before .args .to - c .before .before .loop .i) 0) _ (c .if1 .taken)
+    ∙ c .before .before .loop .inv .1
 
 slice-write-buffer : tie.Need-slice-write-buffer Inv-loop μ-loop
 slice-write-buffer c = omega arith

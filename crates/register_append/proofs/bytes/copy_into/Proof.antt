@@ -22,7 +22,9 @@ same-length : tie.Need-same-length Inv-loop μ-loop
 same-length c = search needs
 
 returns : tie.Need-returns Inv-loop μ-loop
-returns c = sets-past _ (drop (c .before .before .loop .i) (c .before .before .before .args .source .now)) _ (c .if1 .taken) ∙ c .before .before .loop .inv .1
+returns c =
+    sets-past _ (drop (c .before .before .loop .i) (c .before .before .before .args .source .now)) _ (c .if1 .taken)
+    ∙ c .before .before .loop .inv .1
 
 shared-slice-read-buffer : tie.Need-shared-slice-read-buffer Inv-loop μ-loop
 shared-slice-read-buffer c = omega arith

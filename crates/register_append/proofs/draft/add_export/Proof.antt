@@ -23,43 +23,75 @@ fits-requires-2 : tie.Need-fits-requires-2
 fits-requires-2 c κs = search needs
 
 returns-2 : tie.Need-returns-2
-returns-2 c = add-no-names _ _ _ _ _ (c .before .before .before .before .before .room .ensures) (c .before .before .before .before .fits2 .ensures) (not-false _ (c .before .before .before .if1 .left)) (c .before .before .room2 .ensures)
-    (c .before .fits3 .ensures) (not-true _ (c .if2 .taken))
+returns-2 c =
+    let b₄ = c .before .before .before .before in
+    add-no-names _ _ _ _ _ (b₄ .before .room .ensures) (b₄ .fits2 .ensures) (not-false _ (c .before .before .before .if1 .left))
+    (c .before .before .room2 .ensures) (c .before .fits3 .ensures) (not-true _ (c .if2 .taken))
 
 cast-store32 : tie.Need-cast-store32
 cast-store32 c =
-    let h = fits-inside (c .before .before .before .before .before .before .before .before .before .before .args .names .now) (c .before .before .before .before .before .before .before .before .before .before .args .draft .last) (length (c .before .before .before .before .before .before .before .before .before .before .args .name .now)) (c .before .before .before .room2 .ensures) (c .before .before .fits3 .ensures)
-    (not-false _ (c .before .if2 .left)) in omega (arith, h .1)
+    let b₄ = c .before .before .before .before in
+    let b₈ = b₄ .before .before .before .before in
+    let h = fits-inside (b₈ .before .before .args .names .now) (b₈ .before .before .args .draft .last)
+    (length (b₈ .before .before .args .name .now)) (c .before .before .before .room2 .ensures) (c .before .before .fits3 .ensures)
+    (not-false _ (c .before .if2 .left)) in
+    omega (arith, h .1)
 
 store32-requires : tie.Need-store32-requires
 store32-requires c κs =
-    let h = fits-inside (c .before .before .before .before .before .before .before .before .before .before .args .records .now) (c .before .before .before .before .before .before .before .before .before .before .args .draft .end) 12 (c .before .before .before .before .before .before .room .ensures) (c .before .before .before .before .before .fits2 .ensures) (not-false _ (c .before .before .before .before .if1 .left)) in
+    let b₄ = c .before .before .before .before in
+    let b₈ = b₄ .before .before .before .before in
+    let h = fits-inside (b₈ .before .before .args .records .now) (b₈ .before .before .args .draft .end) 12
+    (b₄ .before .before .room .ensures) (b₄ .before .fits2 .ensures) (not-false _ (b₄ .if1 .left)) in
     omega (arith, h .0)
 
 add-store32 : tie.Need-add-store32
 add-store32 c =
-    let h = fits-inside (c .before .before .before .before .before .before .before .before .before .before .before .before .before .before .args .records .now) (c .before .before .before .before .before .before .before .before .before .before .before .before .before .before .args .draft .end) 12 (c .before .before .before .before .before .before .before .before .before .before .room .ensures) (c .before .before .before .before .before .before .before .before .before .fits2 .ensures) (not-false _ (c .before .before .before .before .before .before .before .before .if1 .left)) in
+    let b₄ = c .before .before .before .before in
+    let b₈ = b₄ .before .before .before .before in
+    let b₁₂ = b₈ .before .before .before .before in
+    let h = fits-inside (b₁₂ .before .before .args .records .now) (b₁₂ .before .before .args .draft .end) 12
+    (b₈ .before .before .room .ensures) (b₈ .before .fits2 .ensures) (not-false _ (b₈ .if1 .left)) in
     omega (arith, h .1)
 
 cast-store32-2 : tie.Need-cast-store32-2
 cast-store32-2 c =
-    let h = fits-inside (c .before .before .before .before .before .before .before .before .before .before .before .before .before .before .args .names .now) (c .before .before .before .before .before .before .before .before .before .before .before .before .before .before .args .draft .last) (length (c .before .before .before .before .before .before .before .before .before .before .before .before .before .before .args .name .now)) (c .before .before .before .before .before .before .before .room2 .ensures) (c .before .before .before .before .before .before .fits3 .ensures)
-    (not-false _ (c .before .before .before .before .before .if2 .left)) in omega (arith, h .1)
+    let b₄ = c .before .before .before .before in
+    let b₈ = b₄ .before .before .before .before in
+    let b₁₂ = b₈ .before .before .before .before in
+    let h = fits-inside (b₁₂ .before .before .args .names .now) (b₁₂ .before .before .args .draft .last)
+    (length (b₁₂ .before .before .args .name .now)) (b₄ .before .before .before .room2 .ensures) (b₄ .before .before .fits3 .ensures)
+    (not-false _ (b₄ .before .if2 .left)) in
+    omega (arith, h .1)
 
 store32-requires-2 : tie.Need-store32-requires-2
 store32-requires-2 c κs =
-    let h = fits-inside (c .before .before .before .before .before .before .before .before .before .before .before .before .before .before .args .records .now) (c .before .before .before .before .before .before .before .before .before .before .before .before .before .before .args .draft .end) 12 (c .before .before .before .before .before .before .before .before .before .before .room .ensures) (c .before .before .before .before .before .before .before .before .before .fits2 .ensures) (not-false _ (c .before .before .before .before .before .before .before .before .if1 .left)) in
+    let b₄ = c .before .before .before .before in
+    let b₈ = b₄ .before .before .before .before in
+    let b₁₂ = b₈ .before .before .before .before in
+    let h = fits-inside (b₁₂ .before .before .args .records .now) (b₁₂ .before .before .args .draft .end) 12
+    (b₈ .before .before .room .ensures) (b₈ .before .fits2 .ensures) (not-false _ (b₈ .if1 .left)) in
     omega (arith, h .0, c .before .before .before .store32 .kept .0)
 
 add-store32-2 : tie.Need-add-store32-2
 add-store32-2 c =
-    let h = fits-inside (c .before .before .before .before .before .before .before .before .before .before .before .before .before .before .before .before .before .before .args .records .now) (c .before .before .before .before .before .before .before .before .before .before .before .before .before .before .before .before .before .before .args .draft .end) 12 (c .before .before .before .before .before .before .before .before .before .before .before .before .before .before .room .ensures) (c .before .before .before .before .before .before .before .before .before .before .before .before .before .fits2 .ensures) (not-false _ (c .before .before .before .before .before .before .before .before .before .before .before .before .if1 .left)) in
+    let b₄ = c .before .before .before .before in
+    let b₈ = b₄ .before .before .before .before in
+    let b₁₂ = b₈ .before .before .before .before in
+    let b₁₆ = b₁₂ .before .before .before .before in
+    let h = fits-inside (b₁₆ .before .before .args .records .now) (b₁₆ .before .before .args .draft .end) 12
+    (b₁₂ .before .before .room .ensures) (b₁₂ .before .fits2 .ensures) (not-false _ (b₁₂ .if1 .left)) in
     omega (arith, h .1)
 
 store32-requires-3 : tie.Need-store32-requires-3
 store32-requires-3 c κs =
-    let h = fits-inside (c .before .before .before .before .before .before .before .before .before .before .before .before .before .before .before .before .before .before .args .records .now) (c .before .before .before .before .before .before .before .before .before .before .before .before .before .before .before .before .before .before .args .draft .end) 12 (c .before .before .before .before .before .before .before .before .before .before .before .before .before .before .room .ensures) (c .before .before .before .before .before .before .before .before .before .before .before .before .before .fits2 .ensures) (not-false _ (c .before .before .before .before .before .before .before .before .before .before .before .before .if1 .left)) in
-    omega (arith, h .0, c .before .before .before .store322 .kept .0, c .before .before .before .before .before .before .before .store32 .kept .0)
+    let b₄ = c .before .before .before .before in
+    let b₈ = b₄ .before .before .before .before in
+    let b₁₂ = b₈ .before .before .before .before in
+    let b₁₆ = b₁₂ .before .before .before .before in
+    let h = fits-inside (b₁₆ .before .before .args .records .now) (b₁₆ .before .before .args .draft .end) 12
+    (b₁₂ .before .before .room .ensures) (b₁₂ .before .fits2 .ensures) (not-false _ (b₁₂ .if1 .left)) in
+    omega (arith, h .0, c .before .before .before .store322 .kept .0, b₄ .before .before .before .store32 .kept .0)
 
 count-up-requires : tie.Need-count-up-requires
 count-up-requires c κs = search needs
@@ -69,13 +101,29 @@ copy-into-requires c κs = search needs
 
 add-t10 : tie.Need-add-t10
 add-t10 c =
-    let h = fits-inside (c .before .before .before .before .before .before .before .before .before .before .before .before .before .before .before .before .before .before .before .before .before .before .before .before .before .before .before .before .before .args .records .now) (c .before .before .before .before .before .before .before .before .before .before .before .before .before .before .before .before .before .before .before .before .before .before .before .before .before .before .before .before .before .args .draft .end) 12 (c .before .before .before .before .before .before .before .before .before .before .before .before .before .before .before .before .before .before .before .before .before .before .before .before .before .room .ensures) (c .before .before .before .before .before .before .before .before .before .before .before .before .before .before .before .before .before .before .before .before .before .before .before .before .fits2 .ensures) (not-false _ (c .before .before .before .before .before .before .before .before .before .before .before .before .before .before .before .before .before .before .before .before .before .before .before .if1 .left)) in
+    let b₄ = c .before .before .before .before in
+    let b₈ = b₄ .before .before .before .before in
+    let b₁₂ = b₈ .before .before .before .before in
+    let b₁₆ = b₁₂ .before .before .before .before in
+    let b₂₀ = b₁₆ .before .before .before .before in
+    let b₂₄ = b₂₀ .before .before .before .before in
+    let b₂₈ = b₂₄ .before .before .before .before in
+    let h = fits-inside (b₂₈ .before .args .records .now) (b₂₈ .before .args .draft .end) 12 (b₂₄ .before .room .ensures)
+    (b₂₄ .fits2 .ensures) (not-false _ (b₂₀ .before .before .before .if1 .left)) in
     omega (arith, h .1)
 
 add-t11 : tie.Need-add-t11
 add-t11 c =
-    let h = fits-inside (c .before .before .before .before .before .before .before .before .before .before .before .before .before .before .before .before .before .before .before .before .before .before .before .before .before .before .before .before .before .args .names .now) (c .before .before .before .before .before .before .before .before .before .before .before .before .before .before .before .before .before .before .before .before .before .before .before .before .before .before .before .before .before .args .draft .last) (length (c .before .before .before .before .before .before .before .before .before .before .before .before .before .before .before .before .before .before .before .before .before .before .before .before .before .before .before .before .before .args .name .now)) (c .before .before .before .before .before .before .before .before .before .before .before .before .before .before .before .before .before .before .before .before .before .before .room2 .ensures) (c .before .before .before .before .before .before .before .before .before .before .before .before .before .before .before .before .before .before .before .before .before .fits3 .ensures)
-    (not-false _ (c .before .before .before .before .before .before .before .before .before .before .before .before .before .before .before .before .before .before .before .before .if2 .left)) in omega (arith, h .1)
+    let b₄ = c .before .before .before .before in
+    let b₈ = b₄ .before .before .before .before in
+    let b₁₂ = b₈ .before .before .before .before in
+    let b₁₆ = b₁₂ .before .before .before .before in
+    let b₂₀ = b₁₆ .before .before .before .before in
+    let b₂₄ = b₂₀ .before .before .before .before in
+    let b₂₈ = b₂₄ .before .before .before .before in
+    let h = fits-inside (b₂₈ .before .args .names .now) (b₂₈ .before .args .draft .last) (length (b₂₈ .before .args .name .now))
+    (b₂₀ .before .before .room2 .ensures) (b₂₀ .before .fits3 .ensures) (not-false _ (b₂₀ .if2 .left)) in
+    omega (arith, h .1)
 
 same-length : tie.Need-same-length
 same-length c = search needs
@@ -85,18 +133,17 @@ same-length-2 c = search needs
 
 returns-3 : tie.Need-returns-3
 unfolding addedTo
-returns-3 c = add-open _ _ _ _ _
-    (c .before .before .before .before .before .before .before .before .before .before .before .before .before .before .before .before .before .before .before .before .before .before .before .before .before .room .ensures)
-    (c .before .before .before .before .before .before .before .before .before .before .before .before .before .before .before .before .before .before .before .before .before .before .before .before .fits2 .ensures)
-    (not-false _ (c .before .before .before .before .before .before .before .before .before .before .before .before .before .before .before .before .before .before .before .before .before .before .before .if1 .left))
-    (c .before .before .before .before .before .before .before .before .before .before .before .before .before .before .before .before .before .before .before .before .before .before .room2 .ensures)
-    (c .before .before .before .before .before .before .before .before .before .before .before .before .before .before .before .before .before .before .before .before .before .fits3 .ensures)
-    (not-false _ (c .before .before .before .before .before .before .before .before .before .before .before .before .before .before .before .before .before .before .before .before .if2 .left))
-    (c .before .before .before .before .before .before .before .before .before .before .before .before .before .before .before .before .before .before .store32 .ensures)
-    (c .before .before .before .before .before .before .before .before .before .before .before .before .before .before .store322 .ensures)
-    (c .before .before .before .before .before .before .before .before .before .before .store323 .ensures)
-    (c .before .before .before .before .before .before .count-up .ensures)
-    (c .before .before .copy-into .ensures)
+returns-3 c =
+    let b₄ = c .before .before .before .before in
+    let b₈ = b₄ .before .before .before .before in
+    let b₁₂ = b₈ .before .before .before .before in
+    let b₁₆ = b₁₂ .before .before .before .before in
+    let b₂₀ = b₁₆ .before .before .before .before in
+    let b₂₄ = b₂₀ .before .before .before .before in
+    add-open _ _ _ _ _ (b₂₄ .before .room .ensures) (b₂₄ .fits2 .ensures) (not-false _ (b₂₀ .before .before .before .if1 .left))
+    (b₂₀ .before .before .room2 .ensures) (b₂₀ .before .fits3 .ensures) (not-false _ (b₂₀ .if2 .left))
+    (b₁₆ .before .before .store32 .ensures) (b₁₂ .before .before .store322 .ensures) (b₈ .before .before .store323 .ensures)
+    (b₄ .before .before .count-up .ensures) (c .before .before .copy-into .ensures)
 
 pub add-export-spec : {M : Type 1} → statement M
 add-export-spec =

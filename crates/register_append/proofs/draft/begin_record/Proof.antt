@@ -62,25 +62,29 @@ flag-word-requires : tie.Need-flag-word-requires
 flag-word-requires c κs = search needs
 
 cast-write-first : tie.Need-cast-write-first
-cast-write-first c = omega (arith, c .before .before .before .room2 .ensures, room-word (length (c .before .before .before .before .before .before .before .before .before .before .before .before .before .before .before .before .args .names .now)))
+cast-write-first c =
+    let b₄ = c .before .before .before .before in
+    let b₈ = b₄ .before .before .before .before in
+    let b₁₂ = b₈ .before .before .before .before in
+    let b₁₆ = b₁₂ .before .before .before .before in
+    omega (arith, c .before .before .before .room2 .ensures, room-word (length (b₁₆ .args .names .now)))
 
 write-first-requires : tie.Need-write-first-requires
 write-first-requires c κs =
-    omega (
-      arith,
-      room-inside
-          (length (c .before .before .before .before .before .before .before .before .before .before .before .before .before .before .before .before .args .records .now)),
-      c .before .before .before .before .before .room .ensures,
-    )
+    let b₄ = c .before .before .before .before in
+    let b₈ = b₄ .before .before .before .before in
+    let b₁₂ = b₈ .before .before .before .before in
+    let b₁₆ = b₁₂ .before .before .before .before in
+    omega (arith, room-inside (length (b₁₆ .args .records .now)), b₄ .before .room .ensures)
 
 copy-into-requires : tie.Need-copy-into-requires
 copy-into-requires c κs =
-    omega (
-      arith,
-      room-inside
-          (length (c .before .before .before .before .before .before .before .before .before .before .before .before .before .before .before .before .before .before .before .before .args .names .now)),
-      c .before .before .before .before .before .before .before .room2 .ensures,
-    )
+    let b₄ = c .before .before .before .before in
+    let b₈ = b₄ .before .before .before .before in
+    let b₁₂ = b₈ .before .before .before .before in
+    let b₁₆ = b₁₂ .before .before .before .before in
+    let b₂₀ = b₁₆ .before .before .before .before in
+    omega (arith, room-inside (length (b₂₀ .args .names .now)), b₄ .before .before .before .room2 .ensures)
 
 add-t19 : tie.Need-add-t19
 add-t19 c = search needs
@@ -96,8 +100,15 @@ same-length-5 c = search needs
 
 returns-4 : tie.Need-returns-4
 unfolding usedBytes usedNames draftAt
-returns-4 c = begin-open _ _ _ _ _ _
-    (c .before .before .before .before .before .before .before .before .before .before .before .before .before .before .before .before .before .before .word .ensures) (c .before .before .before .before .before .before .before .before .before .before .before .before .before .before .before .before .before .if1 .left) (c .before .before .before .before .before .before .before .before .before .before .before .before .before .before .before .used-bytes .ensures) (c .before .before .before .before .before .before .before .before .before .before .before .before .before .word2 .ensures) (c .before .before .before .before .before .before .before .before .before .before .before .before .room .ensures) (c .before .before .before .before .before .before .before .before .before .before .room2 .ensures) (c .before .before .before .before .before .before .before .before .before .before .before .if2 .left) (c .before .before .before .before .before .before .before .before .before .if3 .left) (c .before .before .before .before .before .before .before .flag-word .ensures) (c .before .before .before .before .before .before .write-first .ensures) (c .before .before .copy-into .ensures)
+returns-4 c =
+    let b₄ = c .before .before .before .before in
+    let b₈ = b₄ .before .before .before .before in
+    let b₁₂ = b₈ .before .before .before .before in
+    let b₁₆ = b₁₂ .before .before .before .before in
+    begin-open _ _ _ _ _ _ (b₁₆ .before .before .word .ensures) (b₁₆ .before .if1 .left) (b₁₂ .before .before .before .used-bytes .ensures)
+    (b₁₂ .before .word2 .ensures) (b₁₂ .room .ensures) (b₈ .before .before .room2 .ensures) (b₈ .before .before .before .if2 .left)
+    (b₈ .before .if3 .left) (b₄ .before .before .before .flag-word .ensures) (b₄ .before .before .write-first .ensures)
+    (c .before .before .copy-into .ensures)
 
 pub begin-record-spec : {M : Type 1} → statement M
 begin-record-spec =

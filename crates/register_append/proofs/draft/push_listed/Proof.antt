@@ -25,14 +25,18 @@ enum-known-next c = search needs
 
 count-up-requires : tie.Need-count-up-requires
 count-up-requires c κs =
-    let h = open-places _ _ (c .before .before .before .before .before .before .before .before .before .is-open .ensures) (not-false _ (c .before .before .before .before .before .before .before .before .if1 .left)) in (
-      c .before .before .before .before .before .before .before .before .before .before .before .before .pre,
+    let b₄ = c .before .before .before .before in
+    let b₈ = b₄ .before .before .before .before in
+    let b₁₂ = b₈ .before .before .before .before in
+    let h = open-places _ _ (b₈ .before .is-open .ensures) (not-false _ (b₈ .if1 .left)) in (
+      b₁₂ .pre,
       omega (
         arith,
         h .0,
         h .1,
-        open-start _ _ _ 0 (c .before .before .before .before .before .before .before .before .before .is-open .ensures) (not-false _ (c .before .before .before .before .before .before .before .before .if1 .left)) (c .before .before .before .before .before .before .push-word .ensures) _ (c .before .before .next .given .1),
-        c .before .before .before .before .before .before .push-word .kept .0,
+        open-start _ _ _ 0 (b₈ .before .is-open .ensures) (not-false _ (b₈ .if1 .left))
+            (b₄ .before .before .push-word .ensures) _ (c .before .before .next .given .1),
+        b₄ .before .before .push-word .kept .0,
       ),
     )
 
@@ -40,14 +44,22 @@ same-length-2 : tie.Need-same-length-2
 same-length-2 c = search needs
 
 returns-2 : tie.Need-returns-2
-returns-2 c = listed-full _ _ _ _ (c .before .before .before .before .before .before .before .is-open .ensures) (not-false _ (c .before .before .before .before .before .before .if1 .left)) (c .before .before .before .before .push-word .ensures) (c .enum-told .given .1)
+returns-2 c =
+    let b₄ = c .before .before .before .before in
+    listed-full _ _ _ _ (b₄ .before .before .before .is-open .ensures) (not-false _ (b₄ .before .before .if1 .left))
+    (b₄ .push-word .ensures) (c .enum-told .given .1)
 
 same-length-3 : tie.Need-same-length-3
 same-length-3 c = search needs
 
 returns-3 : tie.Need-returns-3
-returns-3 c = rw (c .before .before .count-up .ensures)
-    (listed-open _ _ _ _ (c .before .before .before .before .before .before .before .before .before .before .before .before .is-open .ensures) (not-false _ (c .before .before .before .before .before .before .before .before .before .before .before .if1 .left)) (c .before .before .before .before .before .before .before .before .before .push-word .ensures) _ (c .before .before .before .before .before .next .given .1))
+returns-3 c =
+    let b₄ = c .before .before .before .before in
+    let b₈ = b₄ .before .before .before .before in
+    let b₁₂ = b₈ .before .before .before .before in
+    rw (c .before .before .count-up .ensures)
+    (listed-open _ _ _ _ (b₁₂ .is-open .ensures) (not-false _ (b₈ .before .before .before .if1 .left)) (b₈ .before .push-word .ensures) _
+    (b₄ .before .next .given .1))
 
 pub push-listed-spec : {M : Type 1} → statement M
 push-listed-spec =

@@ -52,15 +52,17 @@ same-length : tie.Need-same-length
 same-length c = search needs
 
 returns : tie.Need-returns
-returns c = eight-words _ _ _ _ _ _ _ _ _ _
-    (c .before .before .before .before .before .before .before .before .before .before .before .before .before .before .before .before .before .before .before .before .before .before .before .before .before .before .before .before .before .before .store32 .ensures)
-    (c .before .before .before .before .before .before .before .before .before .before .before .before .before .before .before .before .before .before .before .before .before .before .before .before .before .before .store322 .ensures)
-    (c .before .before .before .before .before .before .before .before .before .before .before .before .before .before .before .before .before .before .before .before .before .before .store323 .ensures)
-    (c .before .before .before .before .before .before .before .before .before .before .before .before .before .before .before .before .before .before .store324 .ensures)
-    (c .before .before .before .before .before .before .before .before .before .before .before .before .before .before .store325 .ensures)
-    (c .before .before .before .before .before .before .before .before .before .before .store326 .ensures)
-    (c .before .before .before .before .before .before .store327 .ensures)
-    (c .before .before .store328 .ensures)
+returns c =
+    let b₄ = c .before .before .before .before in
+    let b₈ = b₄ .before .before .before .before in
+    let b₁₂ = b₈ .before .before .before .before in
+    let b₁₆ = b₁₂ .before .before .before .before in
+    let b₂₀ = b₁₆ .before .before .before .before in
+    let b₂₄ = b₂₀ .before .before .before .before in
+    let b₂₈ = b₂₄ .before .before .before .before in
+    eight-words _ _ _ _ _ _ _ _ _ _ (b₂₈ .before .before .store32 .ensures) (b₂₄ .before .before .store322 .ensures)
+    (b₂₀ .before .before .store323 .ensures) (b₁₆ .before .before .store324 .ensures) (b₁₂ .before .before .store325 .ensures)
+    (b₈ .before .before .store326 .ensures) (b₄ .before .before .store327 .ensures) (c .before .before .store328 .ensures)
 
 pub write-first-spec : {M : Type 1} → statement M
 write-first-spec =

@@ -17,8 +17,11 @@ same-length : tie.Need-same-length
 same-length c = search needs
 
 returns : tie.Need-returns
-returns c = closed-in-steps _ (c .before .before .before .before .before .before .before .before .before .args .from) (c .before .before .before .before .before .before .before .before .before .args .gap) _ (c .before .before .before .before .before .before .before .before .before .pre) (c .before .before .before .before .before .before .move-down .ensures) (c .before .before .before .before .before .before .move-down .kept .0)
-    (c .before .before .clear .ensures) refl
+returns c =
+    let b₄ = c .before .before .before .before in
+    let b₈ = b₄ .before .before .before .before in
+    closed-in-steps _ (b₈ .before .args .from) (b₈ .before .args .gap) _ (b₈ .before .pre) (b₄ .before .before .move-down .ensures)
+    (b₄ .before .before .move-down .kept .0) (c .before .before .clear .ensures) refl
 
 pub close-gap-spec : {M : Type 1} → statement M
 close-gap-spec =

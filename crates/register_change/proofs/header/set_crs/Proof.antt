@@ -19,7 +19,10 @@ same-length c = search needs
 
 returns-2 : tie.Need-returns-2
 unfolding setCrs
-returns-2 c = rw (c .before .before .store322 .ensures, c .before .before .before .before .before .before .store32 .ensures, le-ltb _ _ (c .before .before .before .before .before .before .before .before .if1 .left))
+returns-2 c =
+    let b₄ = c .before .before .before .before in
+    let b₈ = b₄ .before .before .before .before in
+    rw (c .before .before .store322 .ensures, b₄ .before .before .store32 .ensures, le-ltb _ _ (b₈ .if1 .left))
 
 pub set-crs-spec : {M : Type 1} → statement M
 set-crs-spec =
