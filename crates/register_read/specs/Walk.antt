@@ -1,5 +1,5 @@
 -- A walk over the records of an encoded register in load order, and what it finds.
-use Prim.Native.Nat.{ℕ, _+_, _≤_, _<_}
+use Prim.Native.Nat.{ℕ, _+_, _%_, _^_, _≤_, _<_}
 use mathlib.Core.Path.{_≡_, refl, sym, ap, _∙_, subst}
 use mathlib.Core.List.{List, [], _∷_}
 use mathlib.Core.Bool.{Bool, true, false}
@@ -13,6 +13,10 @@ use Rattle.register_read.specs.declared.Symbol.the-variants.{At, Nothing
 use Rattle.register_read.specs.Read.{Encoded, modulesOf, moduleBytes, placeFrom, exportOf, orElse, lookupIn, recordAt, recordEnd}
 use Rattle.register_read.specs.Places.{Stands, stands-end, Standing, next}
 use Rattle.register_read.specs.Encoded.{modules-stand, module-count}
+
+-- a sum that fits 64 bits is what it is modulo 2^64
+pub unwrapped : {r x : ℕ} → r ≡ x % 2 ^ 64 → x < 2 ^ 64 → r ≡ x
+unwrapped e h = omega arith
 
 -- k records seen, the next one standing at `place`, and the modules ms left: the first of them, and those after it
 pub record Turn (records names : List ℕ) (place k : ℕ) (ms : List Module) : Type 0 where

@@ -2,7 +2,7 @@
 // Nothing here writes, and a function without a `requires` ends on any bytes.
 ghost use mathlib.Core.Path.{_≡_};
 ghost use mathlib.Core.List.{List};
-ghost use Prim.Native.Nat.{ℕ, _^_, _<_};
+ghost use Prim.Native.Nat.{ℕ, _^_, _%_};
 ghost use lib.ListN.{drop};
 ghost use Rattle.register.specs.Words.{part, wordsIn};
 ghost use Rattle.register_read.specs.Read.{recordAt, recordEnd, moduleAt, exportOf, entryOf};
@@ -72,15 +72,14 @@ pub fn record_at(records: &[u8], place: usize) -> Record
     }
 }
 
-// Where the record after it begins.
-fn record_end(record: Record) -> usize
-    requires { ⌜ recordEnd «record» < 2 ^ 64 ⌝ }
-    ensures { λ r. ⌜ r ≡ recordEnd «record» ⌝ }
+// Where the record after it begins, wrapping at 2^64.
+pub fn record_end(record: Record) -> usize
+    ensures { λ r. ⌜ r ≡ recordEnd «record» % 2 ^ 64 ⌝ }
 {
     let segments = record.segments as usize;
     let named = record.named as usize;
     let indexed = record.indexed as usize;
-    record.place + 4 * (8 + (segments + (3 * named + indexed)))
+    std::num::wrapping_add_usize(record.place, 4 * (8 + (segments + (3 * named + indexed))))
 }
 
 // The module's own name.

@@ -6,6 +6,7 @@ use lib.ListN.{length}
 use borrow.Author.Needs.{needs}
 use Rattle.window.specs.Access.{run}
 use Rattle.register_read.specs.Read.{modulesOf, moduleAt}
+use Rattle.register_read.specs.Walk.{unwrapped}
 use Rattle.linker.specs.Imports.{applyExportsToLoaded}
 use Rattle.linker_imports.specs.Modules.{butLast}
 use Rattle.linker_imports.proofs.Walks.{Going, going-starts, going-fits, serving, served-turn, served-all}
@@ -39,18 +40,7 @@ serve-requires : tie.Need-serve-requires Inv-loop μ-loop
 serve-requires c κs = search needs
 
 record-end-requires : tie.Need-record-end-requires Inv-loop μ-loop
-record-end-requires c κs =
-    let p4 = c .before .before .before .before in
-    let p5 = p4 .before in
-    let p6 = p5 .before in
-    let p7 = p6 .before in
-    let p11 = p7 .before .before .before .before in
-    let a = p11 .args in
-    let m = moduleAt (a .records .now) (a .names .now) (a .place) in
-    let f =
-    going-fits (serving (a .at) m) (a .records .now) (a .names .now) (p6 .loop .next) (p6 .loop .k - 1) (p6 .loop .w)
-    (p6 .loop .inv .2) (omega (arith, p5 .loop-test .taken, p6 .loop .inv .0, p7 .module-count .ensures)) (p4 .record-at .ensures) in
-    omega arith
+record-end-requires c κs = search needs
 
 add-k : tie.Need-add-k Inv-loop μ-loop
 add-k c = omega arith
@@ -67,12 +57,15 @@ loop-again c =
     let p8 = p7 .before in
     let p12 = p8 .before .before .before .before in
     let a = p12 .args in
-    let m = moduleAt (a .records .now) (a .names .now) (a .place) in (
+    let m = moduleAt (a .records .now) (a .names .now) (a .place) in
+    let f =
+    going-fits (serving (a .at) m) (a .records .now) (a .names .now) (p7 .loop .next) (p7 .loop .k - 1) (p7 .loop .w)
+    (p7 .loop .inv .2) (omega (arith, p6 .loop-test .taken, p7 .loop .inv .0, p8 .module-count .ensures)) (p5 .record-at .ensures) in (
       omega arith,
       p3 .serve .kept .1 .0 ∙ p7 .loop .inv .1,
       served-turn (a .at) m (a .records .now) (a .names .now) (p7 .loop .next)
           (p7 .loop .k) (p7 .loop .w) (p7 .loop .inv .2) (p7 .loop .inv .0) (omega (arith, p6 .loop-test .taken, p8 .module-count .ensures))
-          (p5 .record-at .ensures) (c .record-end .ensures) (p3 .serve .ensures),
+          (p5 .record-at .ensures) (unwrapped (c .record-end .ensures) (omega (arith, f))) (p3 .serve .ensures),
     )
 
 same-length : tie.Need-same-length Inv-loop μ-loop

@@ -6,6 +6,7 @@ use lib.ListN.{length}
 use borrow.Author.Needs.{needs}
 use Rattle.window.specs.Access.{run}
 use Rattle.register_read.specs.Read.{modulesOf, moduleAt}
+use Rattle.register_read.specs.Walk.{unwrapped}
 use Rattle.linker.specs.Resets.{resetImporters}
 use Rattle.linker_imports.specs.Modules.{otherThan}
 use Rattle.linker_imports.proofs.Walks.{Going, going-starts, going-fits, resetting, reset-next, reset-all}
@@ -38,18 +39,7 @@ reset-importer-requires : tie.Need-reset-importer-requires Inv-loop μ-loop
 reset-importer-requires c κs = search needs
 
 record-end-requires : tie.Need-record-end-requires Inv-loop μ-loop
-record-end-requires c κs =
-    let p4 = c .before .before .before .before in
-    let p5 = p4 .before in
-    let p6 = p5 .before in
-    let p7 = p6 .before in
-    let p11 = p7 .before .before .before .before in
-    let a = p11 .args in
-    let m = moduleAt (a .records .now) (a .names .now) (a .place) in
-    let f =
-    going-fits (resetting (a .at) m (a .place)) (a .records .now) (a .names .now) (p6 .loop .next) (p6 .loop .k) (p6 .loop .w)
-    (p6 .loop .inv .1) (omega (arith, p5 .loop-test .taken, p7 .module-count .ensures)) (p4 .record-at .ensures) in
-    omega arith
+record-end-requires c κs = search needs
 
 add-k : tie.Need-add-k Inv-loop μ-loop
 add-k c = omega arith
@@ -66,11 +56,14 @@ loop-again c =
     let p8 = p7 .before in
     let p12 = p8 .before .before .before .before in
     let a = p12 .args in
-    let m = moduleAt (a .records .now) (a .names .now) (a .place) in (
+    let m = moduleAt (a .records .now) (a .names .now) (a .place) in
+    let f =
+    going-fits (resetting (a .at) m (a .place)) (a .records .now) (a .names .now) (p7 .loop .next) (p7 .loop .k) (p7 .loop .w)
+    (p7 .loop .inv .1) (omega (arith, p6 .loop-test .taken, p8 .module-count .ensures)) (p5 .record-at .ensures) in (
       p3 .reset-importer .kept .1 .0 ∙ p7 .loop .inv .0,
       reset-next (a .at) m (a .place) (a .records .now) (a .names .now) (p7 .loop .next)
           (p7 .loop .k) (p7 .loop .w) (p7 .loop .inv .1) (omega (arith, p6 .loop-test .taken, p8 .module-count .ensures)) (p5 .record-at .ensures)
-          (c .record-end .ensures) (p3 .reset-importer .ensures),
+          (unwrapped (c .record-end .ensures) (omega (arith, f))) (p3 .reset-importer .ensures),
     )
 
 same-length : tie.Need-same-length Inv-loop μ-loop

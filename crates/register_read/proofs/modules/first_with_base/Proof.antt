@@ -4,7 +4,7 @@ use mathlib.Core.List.{List}
 use native.Mathlib.Omega.{arith}
 use borrow.Author.Needs.{needs}
 use Rattle.register_read.specs.Read.{Encoded, placeFrom, hasBase}
-use Rattle.register_read.specs.Walk.{Walk, walk-starts, walk-ends, place-none}
+use Rattle.register_read.specs.Walk.{Walk, walk-starts, walk-ends, place-none, unwrapped}
 use Rattle.register_read.proofs.Searches.{end-fits, base-here, base-on}
 use Rattle.register_read.proofs.modules.first_with_base.Statement.{statement}
 use Rattle.register_read.proofs.modules.first_with_base.Tie as tie
@@ -35,13 +35,7 @@ returns c =
     (c .if1 .taken)
 
 record-end-requires : tie.Need-record-end-requires Inv-loop μ-loop
-record-end-requires c κs =
-    let l = c .before .before .before .before in
-    let s = l .before .before .before in
-    let f =
-    end-fits (s .args .records .now) (s .pre .0) (l .loop .place) (l .loop .k) (omega arith) (c .before .before .record-at .ensures) _
-    (l .loop .inv (s .pre .0) (s .pre .1)) in
-    omega arith
+record-end-requires c κs = search needs
 
 add-k : tie.Need-add-k Inv-loop μ-loop
 add-k c = omega arith
@@ -53,10 +47,11 @@ loop-again : tie.Need-loop-again Inv-loop μ-loop
 loop-again c =
     let l = c .before .before .before .before .before in
     let a = l .before .before .before .args in
+    let r = c .before .before .before .record-at .ensures in
     λ names e.
-    base-on (a .records .now) names (l .loop .place) (l .loop .k) (omega arith) (c .before .before .before .record-at .ensures) (a .base)
-    (l .loop .inv names e)
-    (c .record-end .ensures) (c .before .if1 .left)
+    let f = end-fits (a .records .now) names (l .loop .place) (l .loop .k) (omega arith) r _ (l .loop .inv names e) in
+    base-on (a .records .now) names (l .loop .place) (l .loop .k) (omega arith) r (a .base) (l .loop .inv names e)
+    (unwrapped (c .record-end .ensures) (omega (arith, f))) (c .before .if1 .left)
 
 returns-2 : tie.Need-returns-2 Inv-loop μ-loop
 returns-2 c = λ names e. place-none _ _ ∙ walk-ends _ _ _ (c .before .loop .inv names e) (omega arith)

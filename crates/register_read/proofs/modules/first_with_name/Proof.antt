@@ -3,7 +3,7 @@ use mathlib.Core.Path.{_∙_}
 use native.Mathlib.Omega.{arith}
 use borrow.Author.Needs.{needs}
 use Rattle.register_read.specs.Read.{placeFrom, hasName}
-use Rattle.register_read.specs.Walk.{Walk, walk-starts, walk-ends, place-none}
+use Rattle.register_read.specs.Walk.{Walk, walk-starts, walk-ends, place-none, unwrapped}
 use Rattle.register_read.proofs.Searches.{end-fits, name-here, name-on}
 use Rattle.register_read.proofs.modules.first_with_name.Statement.{statement}
 use Rattle.register_read.proofs.modules.first_with_name.Tie as tie
@@ -39,13 +39,7 @@ returns c =
     (c .before .before .record-name .ensures) (c .before .same-name .ensures) (l .loop .inv) (c .if1 .taken)
 
 record-end-requires : tie.Need-record-end-requires Inv-loop μ-loop
-record-end-requires c κs =
-    let l = c .before .before .before .before .before in
-    let a = l .before .before .before .before .before .args in
-    let f =
-    end-fits (a .records .now) (a .names .now) (l .loop .place) (l .loop .k) (omega arith) (c .before .before .before .record-at .ensures) _
-    (l .loop .inv) in
-    omega arith
+record-end-requires c κs = search needs
 
 add-k : tie.Need-add-k Inv-loop μ-loop
 add-k c = omega arith
@@ -57,9 +51,11 @@ loop-again : tie.Need-loop-again Inv-loop μ-loop
 loop-again c =
     let l = c .before .before .before .before .before .before in
     let a = l .before .before .before .before .before .args in
-    name-on (a .records .now) (a .names .now) (l .loop .place) (l .loop .k) (omega arith) (c .before .before .before .before .record-at .ensures)
-    (a .name .now) _
-    (c .before .before .before .record-name .ensures) (c .before .before .same-name .ensures) (l .loop .inv) (c .record-end .ensures)
+    let r = c .before .before .before .before .record-at .ensures in
+    let f = end-fits (a .records .now) (a .names .now) (l .loop .place) (l .loop .k) (omega arith) r _ (l .loop .inv) in
+    name-on (a .records .now) (a .names .now) (l .loop .place) (l .loop .k) (omega arith) r (a .name .now) _
+    (c .before .before .before .record-name .ensures) (c .before .before .same-name .ensures) (l .loop .inv)
+    (unwrapped (c .record-end .ensures) (omega (arith, f)))
     (c .before .if1 .left)
 
 returns-2 : tie.Need-returns-2 Inv-loop μ-loop

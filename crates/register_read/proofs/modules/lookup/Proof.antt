@@ -4,7 +4,7 @@ use mathlib.Core.Path.{sym, _∙_}
 use native.Mathlib.Omega.{arith}
 use borrow.Author.Needs.{needs}
 use Rattle.register_read.specs.Read.{lookupIn}
-use Rattle.register_read.specs.Walk.{Walk, walk-starts, walk-ends, lookup-none}
+use Rattle.register_read.specs.Walk.{Walk, walk-starts, walk-ends, lookup-none, unwrapped}
 use Rattle.register_read.proofs.Searches.{end-fits, lookup-found, lookup-lacks, lookup-skips}
 use Rattle.register_read.proofs.modules.lookup.Statement.{statement}
 use Rattle.register_read.proofs.modules.lookup.Tie as tie
@@ -43,12 +43,7 @@ enum-told : tie.Need-enum-told Inv-loop μ-loop
 enum-told c = search needs
 
 record-end-requires : tie.Need-record-end-requires Inv-loop μ-loop
-record-end-requires c κs =
-    let l = c .before .before .before .before in
-    let a = l .before .before .before .before .before .args in
-    let f =
-    end-fits (a .records .now) (a .names .now) (l .loop .place) (l .loop .k) (omega arith) (c .before .before .record-at .ensures) _ (l .loop .inv) in
-    omega arith
+record-end-requires c κs = search needs
 
 add-k : tie.Need-add-k Inv-loop μ-loop
 add-k c = omega arith
@@ -61,14 +56,16 @@ loop-again c =
     let l = c .before .before .before .before .before in
     let a = l .before .before .before .before .before .args in
     let r = c .before .before .before .record-at .ensures in
+    let f = end-fits (a .records .now) (a .names .now) (l .loop .place) (l .loop .k) (omega arith) r _ (l .loop .inv) in
+    let next = unwrapped (c .record-end .ensures) (omega (arith, f)) in
     ⊎-elim
     (λ w.
     lookup-lacks (a .records .now) (a .names .now) (l .loop .place) (l .loop .k) (omega arith) r (a .name .now) (l .loop .inv)
-    (c .record-end .ensures)
+    next
     (w .0 .taken) (sym (w .1 .ensures) ∙ w .3 .given .1))
     (λ w.
     lookup-skips (a .records .now) (a .names .now) (l .loop .place) (l .loop .k) (omega arith) r (a .name .now) (l .loop .inv)
-    (c .record-end .ensures)
+    next
     (w .left))
     (c .before .if1 .came)
 
