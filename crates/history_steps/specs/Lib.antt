@@ -19,3 +19,4 @@ pub mod Resetting
 pub mod World
 pub mod Listing
 pub mod Leaving
+pub mod Final
