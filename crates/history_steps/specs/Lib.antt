@@ -19,3 +19,5 @@ pub mod Resetting
 pub mod World
 pub mod Listing
 pub mod Leaving
+pub mod Gathered
+pub mod Recording
