@@ -21,3 +21,4 @@ pub mod Listing
 pub mod Leaving
 pub mod Gathered
 pub mod Recording
+pub mod Fixing
