@@ -2,6 +2,7 @@
 use Prim.Native.Nat.{ℕ, suc, _+_, _<_}
 use mathlib.Core.Path.{_≡_, refl, sym, ap, _∙_}
 use mathlib.Core.Logic.{_≢_, _⊎_, inl, inr}
+use mathlib.Core.List.{List}
 use mathlib.Core.Option.{Option, some, none}
 use mathlib.Core.Bool.{Bool, true, false}
 use native.Mathlib.Omega.{arith}
@@ -9,6 +10,9 @@ use native.Mathlib.Decide.{ℕ-discrete}
 use Rattle.layout.specs.declared.segments.Address.{Address}
 use Rattle.layout.specs.declared.segments.Address.the-variants.{At, Nowhere}
 use Rattle.register_read.specs.declared.Symbol.{Symbol}
+use Rattle.window.specs.Mirror.{word}
+use Rattle.linker.specs.Resets.{exists}
+use Rattle.history.specs.Image.{moduleEntries, count, entry, nameOf, moduleName}
 use Rattle.history.specs.Arrival.{Image, isCrs, exportOf, indexedOf, anonymousOf}
 use Rattle.history.specs.Imports.{Import, named, indexed, anonymous, IsImport, From, Exports, Exporter}
 use Rattle.history.specs.WellLaid.{WellLaid}
@@ -17,6 +21,7 @@ use Rattle.history_steps.specs.Changes.{Change}
 use Rattle.history_steps.specs.Turns.{linkTo}
 use Rattle.history_steps.specs.Records.{asSymbol, offer, Asks}
 use Rattle.history_steps.specs.Runs.{Begins, Linking}
+use Rattle.history_steps.specs.Asking.{true-false}
 use Rattle.history_steps.specs.Serving.{Served}
 use Rattle.history_steps.specs.Resetting.{Drops, Dropped}
 
@@ -117,6 +122,10 @@ module _ (n d : ℕ) (below : d < n) (x : ℕ → Image) (m : Image) (laid : Wel
     (once : (i : Import) (j k p q : ℕ) → j < n → k < n → Exports (x j) m i p → Exports (x k) m i q → j ≡ k)
     (names : (j k : ℕ) → j < n → k < n → moduleName (x j .file) ≡ moduleName (x k .file) → j ≡ k)
     (crs : isCrs (m .coming) ≡ true → isCrs (x d .coming) ≡ true → ⊥) where
+  one-entry : (i : Import) → IsImport (m .file) i → {a c : List ℕ} → (h : From (m .file) i a) → (r : From (m .file) i c) → h .0 ≡ r .0
+  unfolding From
+  one-entry i l h r = laid .alone .one-run i l (h .0) (r .0) (h .1) (r .1) (h .2) (r .2)
+
   -- an import from another module is not dropped
   kept : (i : Import) → IsImport (m .file) i → (k p : ℕ) → k < n → Exports (x k) m i p → Drops (x d) m i → k ≡ d
   unfolding Exports Drops Asks From

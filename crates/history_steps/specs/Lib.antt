@@ -19,4 +19,7 @@ pub mod Resetting
 pub mod World
 pub mod Listing
 pub mod Leaving
+pub mod Gathered
+pub mod Recording
+pub mod Fixing
 pub mod Final
