@@ -1,12 +1,12 @@
 -- The links at rest: each import of a module has its exporter's address if one of those that stand is its exporter, else none.
-use Prim.Native.Nat.{ℕ, suc, _+_, _<_}
+use Prim.Native.Nat.{ℕ, suc, pred, _+_, _<_}
 use mathlib.Core.Path.{_≡_, refl, sym, ap, _∙_}
 use mathlib.Core.Logic.{_≢_, _⊎_, inl, inr}
 use mathlib.Core.List.{List}
 use mathlib.Core.Option.{Option, some, none}
 use mathlib.Core.Bool.{Bool, true, false}
 use native.Mathlib.Omega.{arith}
-use native.Mathlib.Decide.{ℕ-discrete}
+use native.Mathlib.Decide.{decLt, ℕ-discrete}
 use Rattle.layout.specs.declared.segments.Address.{Address}
 use Rattle.layout.specs.declared.segments.Address.the-variants.{At, Nowhere}
 use Rattle.register_read.specs.declared.Symbol.{Symbol}
@@ -23,6 +23,7 @@ use Rattle.history_steps.specs.Records.{asSymbol, offer, Asks}
 use Rattle.history_steps.specs.Runs.{Begins, Linking}
 use Rattle.history_steps.specs.Asking.{true-false}
 use Rattle.history_steps.specs.Serving.{Served}
+use Rattle.history_steps.specs.Leaving.{skip, skip-low, skip-high, skip-not}
 use Rattle.history_steps.specs.Resetting.{Drops, Dropped}
 
 -- n modules stand, x k being number k
@@ -120,21 +121,59 @@ module _ (n : ℕ) (x : ℕ → Image) (m : Image) (laid : WellLaid m)
 -- number d leaves: what it served is missing now, the rest stays. No two modules have one name.
 module _ (n d : ℕ) (below : d < n) (x : ℕ → Image) (m : Image) (laid : WellLaid m)
     (once : (i : Import) (j k p q : ℕ) → j < n → k < n → Exports (x j) m i p → Exports (x k) m i q → j ≡ k)
-    (names : (j k : ℕ) → j < n → k < n → moduleName (x j .file) ≡ moduleName (x k .file) → j ≡ k)
-    (crs : isCrs (m .coming) ≡ true → isCrs (x d .coming) ≡ true → ⊥) where
-  one-entry : (i : Import) → IsImport (m .file) i → {a c : List ℕ} → (h : From (m .file) i a) → (r : From (m .file) i c) → h .0 ≡ r .0
+    (names : (j k : ℕ) → j < n → k < n → moduleName (x j .file) ≡ moduleName (x k .file) → j ≡ k) where
+  -- an import comes from one name
+  same-name : (i : Import) → IsImport (m .file) i → (a c : List ℕ) → From (m .file) i a → From (m .file) i c → a ≡ c
   unfolding From
-  one-entry i l h r = laid .alone .one-run i l (h .0) (r .0) (h .1) (r .1) (h .2) (r .2)
+  same-name i l a c h r =
+      h .3
+      ∙ ap (λ j. nameOf (m .file) (word (m .file) (entry (m .file) moduleEntries j)))
+      (laid .alone .one-run i l (h .0) (r .0) (h .1) (r .1) (h .2) (r .2))
+      ∙ sym (r .3)
 
-  -- an import from another module is not dropped
+  -- an import that another module serves is not dropped
   kept : (i : Import) → IsImport (m .file) i → (k p : ℕ) → k < n → Exports (x k) m i p → Drops (x d) m i → k ≡ d
-  unfolding Exports Drops Asks From
+  unfolding Exports Drops Asks
   kept (named i) l k p g h r = go (offered (x d) m (named i))
     where
       go : Offered (x d) m (named i) → k ≡ d
       go (at q z) = once (named i) k d p q g below h (offers-exports (x d) m (named i) q tt z)
       go (nothing z) = absurd (true-false (sym r ∙ ap exists z))
-  kept (indexed i) l k p g h r =
-      names k d g below (h .0 .3 ∙ ap (λ j. nameOf (m .file) (word (m .file) (entry (m .file) moduleEntries j))) (one-entry (indexed i) l (h .0) r) ∙ sym (r .3))
-  kept (anonymous i) l k p g h r =
-      names k d g below (h .0 .3 ∙ ap (λ j. nameOf (m .file) (word (m .file) (entry (m .file) moduleEntries j))) (one-entry (anonymous i) l (h .0) r) ∙ sym (r .3))
+  kept (indexed i) l k p g h r = names k d g below (same-name (indexed i) l _ _ (h .0) r)
+  kept (anonymous i) l k p g h r = names k d g below (same-name (anonymous i) l _ _ (h .0) r)
+
+  -- and one that d serves is
+  drops : (i : Import) (p : ℕ) → Exports (x d) m i p → Drops (x d) m i
+  unfolding Drops Asks Exports
+  drops (named i) p h = ap exists (exports-offers (x d) m (named i) p h .1)
+  drops (indexed i) p h = h .0
+  drops (anonymous i) p h = h .0
+
+  pub dropped
+      : {φ ψ : Links} → Final n x m φ → Change (Dropped (x d) m) (λ e y z. z ≡ none) φ ψ → Final (pred n) (λ k. x (skip d k)) m ψ
+  unfolding Exporter
+  dropped {φ} {ψ} f c =
+      record {
+        found =
+          λ i l e b k g p h.
+          c .same e (λ r. skip-not d k (kept i l (skip d k) p (skip-below k g) (h .0) (rw (laid .alone .own-batch (r .0) i (r .1) l (r .3 ∙ sym b)) at (r .2))))
+          ∙ f .found i l e b (skip d k) (skip-below k g) p h;
+        missing =
+          λ i l e b o.
+          either (Dropped (x d) m e) (ψ e) none (λ r. c .changed e r)
+          (λ r. c .same e r ∙ f .missing i l e b (λ k g p h. other i l e b r o k g p h (ℕ-discrete k d)));
+        others = λ e o. c .same e (λ r. o (r .0) (r .1) (r .3)) ∙ f .others e o;
+      }
+    where
+      skip-below : (k : ℕ) → k < pred n → skip d k < n
+      skip-below k l =
+          elim (decLt k d) [ yes g ↦ rw (skip-low d k g) (omega arith) | no g ↦ rw (skip-high d k (omega arith)) (omega arith) ]
+
+      other
+          : (i : Import) → IsImport (m .file) i → (e : ℕ) → Begins (m .file) i e → (Dropped (x d) m e → ⊥)
+          → ((k : ℕ) → k < pred n → (p : ℕ) → Exporter (x (skip d k)) m i p → ⊥) → (k : ℕ) → k < n → (p : ℕ) → Exporter (x k) m i p → Dec (k ≡ d) → ⊥
+      other i l e b r o k g p h (yes z) = r (i, l, drops i p (rw z at (h .0)), b)
+      other i l e b r o k g p h (no z) =
+          elim (decLt k d)
+          [ yes q ↦ o k (omega arith) p (rw (skip-low d k q) h)
+          | no q ↦ let y : skip d (pred k) ≡ k = skip-high d (pred k) (omega arith) ∙ (let u : suc (pred k) ≡ k = omega arith in u) in o (pred k) (omega arith) p (rw y h) ]
