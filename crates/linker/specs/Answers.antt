@@ -10,13 +10,15 @@ use Rattle.layout.specs.Header.{relocationEntrySize}
 use Rattle.layout.specs.Tables.{pointerTables}
 use Rattle.layout.specs.Segments.{setField, tagToAddress}
 use Rattle.register.specs.Module.{Register}
-use Rattle.linker.specs.Rebase.{isMagic, moveHeader, old-place, lookAtSegments, moveTables}
+use Rattle.linker.specs.declared.rebase.Moved.the-variants.{OldPlace}
+use Rattle.linker.specs.declared.rebase.Rebased.{Rebased}
+use Rattle.linker.specs.Rebase.{isMagic, moveHeader, lookAtSegments, moveTables}
 use Rattle.linker.specs.Relocation.{relocateAt, walk, batchLimit, resetExternalRelocations, applyInternalRelocations}
 use Rattle.linker.specs.Exports.{readModule}
 use Rattle.register.specs.Change.{without}
 use Rattle.linker.specs.Resets.{resetImporters}
 use Rattle.linker.specs.Unrebase.{unrebase}
-use Rattle.linker.specs.Calls.{Answer, number, Rebased, not-a-cro, bad-segment, rebased, unlisted, relocate, rebaseWith, rebaseStatic, fits, enter, initialized, initialize, Standing, unknown, stands, leave, unload, firstWithBase}
+use Rattle.linker.specs.Calls.{Answer, number, unlisted, relocate, rebaseWith, rebaseStatic, fits, enter, initialized, initialize, Standing, unknown, stands, leave, unload, firstWithBase}
 use Rattle.linker.specs.Gives.{Gives, gives-bind, gives-then, gives-if}
 
 -- a walk of a batch counts at least the first entry and at most 0x1001
@@ -48,17 +50,17 @@ batch-counts base symbol batch =
 
 -- "`initialize` neither changes nor checks segments": it never answers 2
 abbrev Whole : Rebased → Type 0
-Whole not-a-cro = Unit {0}
-Whole bad-segment = ⊥
-Whole rebased = Unit {0}
+Whole Rebased.NotACro = Unit {0}
+Whole Rebased.BadSegment = ⊥
+Whole Rebased.Done = Unit {0}
 
 whole-static : (base : ℕ) → Gives Whole (rebaseStatic base)
 unfolding rebaseStatic rebaseWith relocate Gives _>>=_
 whole-static base =
     λ word. gives-if Whole (isMagic word) _ _
     (gives-then Whole _ (moveHeader true base)
-    (λ _. gives-bind (λ m. m ≡ old-place 0) Whole (relocate base) (lookAtSegments base >> ret (old-place 0))
-    (gives-then (λ m. m ≡ old-place 0) (λ _. ret (old-place 0)) (lookAtSegments base) (λ _. refl))
+    (λ _. gives-bind (λ m. m ≡ OldPlace 0) Whole (relocate base) (lookAtSegments base >> ret (OldPlace 0))
+    (gives-then (λ m. m ≡ OldPlace 0) (λ _. ret (OldPlace 0)) (lookAtSegments base) (λ _. refl))
     (λ m e. subst (λ m. Gives Whole (relocate base m)) (sym e)
     (gives-then Whole _ (moveTables true base pointerTables) (λ _. gives-then Whole _ (applyInternalRelocations base 0) (λ _. tt))))))
     tt
@@ -69,9 +71,9 @@ module _ (base size records names : ℕ) (r : Register) where
 
   enters-not-2 : (x : Rebased) → Whole x → Gives Not2 (enter records names r base size true (initialized r base) x)
   unfolding enter initialized setField number Gives _>>=_
-  enters-not-2 not-a-cro h = refl
-  enters-not-2 bad-segment h = absurd h
-  enters-not-2 rebased h =
+  enters-not-2 Rebased.NotACro h = refl
+  enters-not-2 Rebased.BadSegment h = absurd h
+  enters-not-2 Rebased.Done h =
       gives-then Not2 _ (resetExternalRelocations base)
       (λ _. gives-then Not2 _ (readModule base size true) (λ m. gives-if Not2 (fits records names r m) _ _ refl refl))
 

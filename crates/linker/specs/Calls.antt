@@ -15,7 +15,11 @@ use Rattle.register.specs.Module.{Module, Register}
 use Rattle.register.specs.Encode.{encodeWords, recordNames}
 use Rattle.register.specs.Change.{appended, removed, without, withCrs}
 use Rattle.register_append.specs.Draft.{roomIn}
-use Rattle.linker.specs.Rebase.{isMagic, moveHeader, Lent, Moved, bad, old-place, moveSegments, lookAtSegments, moveTables}
+use Rattle.linker.specs.declared.rebase.Lent.{Lent}
+use Rattle.linker.specs.declared.rebase.Moved.{Moved}
+use Rattle.linker.specs.declared.rebase.Moved.the-variants.{Bad, OldPlace}
+use Rattle.linker.specs.declared.rebase.Rebased.{Rebased}
+use Rattle.linker.specs.Rebase.{isMagic, moveHeader, moveSegments, lookAtSegments, moveTables}
 use Rattle.linker.specs.Relocation.{applyInternalRelocations, resetExternalRelocations}
 use Rattle.linker.specs.Exports.{readModule}
 use Rattle.linker.specs.Imports.{applyImportNamedSymbols, applyModuleImports, applyExportsToLoaded}
@@ -48,18 +52,13 @@ value NoRoom = 0
 value Kept = 0
 value (Done v r) = v
 
-pub data Rebased : Type 0 where
-  not-a-cro : Rebased
-  bad-segment : Rebased
-  rebased : Rebased
-
 -- after the segments: the five pointer tables, then the internal relocations
 unfoldable pub relocate : ℕ → Moved → Prog Rebased
-relocate base bad = ret bad-segment
-relocate base (old-place old) = do
+relocate base Bad = ret Rebased.BadSegment
+relocate base (OldPlace old) = do
   moveTables true base pointerTables
   applyInternalRelocations base old
-  ret rebased
+  ret Rebased.Done
 
 -- "magic not CRO0 or CRS0"; the header's offsets, the segments, and what follows them
 unfoldable pub rebaseWith : ℕ → Prog Moved → Prog Rebased
@@ -68,14 +67,14 @@ rebaseWith base segments = do
   if isMagic word then (do
     moveHeader true base
     m ← segments
-    relocate base m) else ret not-a-cro
+    relocate base m) else ret Rebased.NotACro
 
 unfoldable pub rebase : Lent → Prog Rebased
 rebase l = rebaseWith (l .base) (moveSegments l)
 
 -- "The old place counts from .. address 0 in `initialize`."
 unfoldable pub rebaseStatic : ℕ → Prog Rebased
-rebaseStatic base = rebaseWith base (lookAtSegments base >> ret (old-place 0))
+rebaseStatic base = rebaseWith base (lookAtSegments base >> ret (OldPlace 0))
 
 -- "64 modules stand, or the record or its names exceed the free bytes", of so many lent records and name bytes
 unfoldable pub fits : ℕ → ℕ → Register → Module → Bool
@@ -86,9 +85,9 @@ fits records names r m =
 
 -- after a rebase: the external reset, the module's record, and what the call does with it if there is room
 unfoldable pub enter : ℕ → ℕ → Register → ℕ → ℕ → Bool → (Module → Prog Answer) → Rebased → Prog Answer
-enter records names r base size auto next not-a-cro = ret NotACro
-enter records names r base size auto next bad-segment = ret BadSegment
-enter records names r base size auto next rebased = do
+enter records names r base size auto next Rebased.NotACro = ret NotACro
+enter records names r base size auto next Rebased.BadSegment = ret BadSegment
+enter records names r base size auto next Rebased.Done = do
   resetExternalRelocations base
   m ← readModule base size auto
   if fits records names r m then next m else ret NoRoom

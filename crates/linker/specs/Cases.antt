@@ -18,7 +18,11 @@ use Rattle.layout.specs.declared.format.SegmentType.the-variants.{Code, RoData,
 use Rattle.layout.specs.declared.segments.Address.{Address}
 use Rattle.layout.specs.declared.segments.Address.the-variants.{At, Nowhere}
 use Rattle.layout.specs.declared.segments.FoundSegment.the-variants.{Found}
-use Rattle.linker.specs.Rebase.{isMagic, moveHeader, Lent, Placed, refused, placed, lentPlace, place, Moved, bad, old-place, writeBack, moveFound, moveSegment, moveSegments}
+use Rattle.linker.specs.declared.rebase.Lent.{Lent}
+use Rattle.linker.specs.declared.rebase.Placed.the-variants.{Refused, Put}
+use Rattle.linker.specs.declared.rebase.Moved.{Moved}
+use Rattle.linker.specs.declared.rebase.Moved.the-variants.{Bad, OldPlace}
+use Rattle.linker.specs.Rebase.{isMagic, moveHeader, lentPlace, place, writeBack, moveFound, moveSegment, moveSegments}
 use Rattle.linker.specs.Relocation.{relocateAt, resetEntry, walk, batchLimit, applyRelocationBatch, batchIsResolved}
 use Rattle.linker.specs.Resets.{reset}
 use Rattle.register.specs.Decode.{isRegister}
@@ -31,24 +35,24 @@ use Rattle.linker.specs.Fix.{alignUp, fixedTo, fixFrom, fix}
 -- "Data size 16 / 17, lent 16": the segment gets its place / is refused
 abbrev pub lent-16 : ℕ → ℕ → ℕ → ℕ → ℕ → Lent
 lent-16 base size data-at bss-at bss-size =
-    record { base = base; size = size; data-at = data-at; data-size = 16; bss-at = bss-at; bss-size = bss-size }
+    record { base = base; size = size; «data_at» = data-at; «data_size» = 16; «bss_at» = bss-at; «bss_size» = bss-size }
 
 abbrev pub data-of : ℕ → ℕ → Segment
 data-of offset n = record { offset = offset; size = n; kind = Data }
 
 module _ (base size data-at bss-at bss-size offset old : ℕ) where
   pub data-16
-      : place (lent-16 base size data-at bss-at bss-size) (data-of offset 16) Data old ≡ placed (data-of data-at 16) (offset ⊕ base)
+      : place (lent-16 base size data-at bss-at bss-size) (data-of offset 16) Data old ≡ Put (data-of data-at 16) (offset ⊕ base)
   unfolding place lentPlace
   data-16 = refl
 
-  pub data-17 : place (lent-16 base size data-at bss-at bss-size) (data-of offset 17) Data old ≡ refused
+  pub data-17 : place (lent-16 base size data-at bss-at bss-size) (data-of offset 17) Data old ≡ Refused
   unfolding place lentPlace
   data-17 = refl
 
 -- a load whose first segment is refused answers 2, and its segments are as they were
 module _ (at : ℕ) (l : Lent) (w : List ℕ) where
-  stays-bad : (n i : ℕ) → run at (loop (moveSegment l) i n bad) w ≡ (bad, w)
+  pub stays-bad : (n i : ℕ) → run at (loop (moveSegment l) i n Bad) w ≡ (Bad, w)
   unfolding loop moveSegment run _>>=_
   stays-bad zero i = refl
   stays-bad (suc n) i = stays-bad n (suc i)
@@ -60,25 +64,25 @@ module _ (at : ℕ) (l : Lent) (w : List ℕ) where
         pair≡ (segment-found at (l .base) 0 w (omega (arith, c)) ∙ ap Found e)
         (reads-same at (segment (l .base) 0) w (segment-reads (l .base) 0))
 
-    first-turn : run at (moveSegment l 0 (old-place 0)) w ≡ run at (writeBack (l .base) 0 (place l s (s .kind) 0)) w
+    first-turn : run at (moveSegment l 0 (OldPlace 0)) w ≡ run at (writeBack (l .base) 0 (place l s (s .kind) 0)) w
     unfolding moveSegment moveFound
     first-turn = run-bind at (segment (l .base) 0) _ w ∙ rw first-found
 
-    pub first-refused : place l s (s .kind) 0 ≡ refused → run at (moveSegments l) w ≡ (bad, w)
+    pub first-refused : place l s (s .kind) 0 ≡ Refused → run at (moveSegments l) w ≡ (Bad, w)
     unfolding moveSegments writeBack field run _>>=_
     first-refused f =
-        ap (λ k. run at (loop (moveSegment l) 0 k (old-place 0)) w) c
-        ∙ loop-more at (moveSegment l) 0 n (old-place 0) w
+        ap (λ k. run at (loop (moveSegment l) 0 k (OldPlace 0)) w) c
+        ∙ loop-more at (moveSegment l) 0 n (OldPlace 0) w
         ∙ rw (first-turn, f) (stays-bad n 1)
 
   -- and one whose only segment gets its place goes on, with the old place of Data
   pub only-placed
       : wordAt at w (l .base ⊕ segmentNum) ≡ 1 → (s : Segment) → segmentAt at w (segmentPlace at w (l .base) 0) ≡ s → {t : Segment} {old : ℕ}
-      → place l s (s .kind) 0 ≡ placed t old → run at (moveSegments l) w .0 ≡ old-place old
+      → place l s (s .kind) 0 ≡ Put t old → run at (moveSegments l) w .0 ≡ OldPlace old
   unfolding moveSegments writeBack field run _>>=_
   only-placed c s e {t} {old} f =
-      ap (λ k. run at (loop (moveSegment l) 0 k (old-place 0)) w .0) c
-      ∙ ap (λ (x : Moved × List ℕ). x .0) (loop-more at (moveSegment l) 0 0 (old-place 0) w)
+      ap (λ k. run at (loop (moveSegment l) 0 k (OldPlace 0)) w .0) c
+      ∙ ap (λ (x : Moved × List ℕ). x .0) (loop-more at (moveSegment l) 0 0 (OldPlace 0) w)
       ∙ ap (λ (x : Moved × List ℕ). x .0) (loop-none at (moveSegment l) 1 _ _)
       ∙ ap (λ (x : Moved × List ℕ). x .0)
       (first-turn 0 c s e ∙ ap (λ p. run at (writeBack (l .base) 0 p) w) f ∙ run-bind at (setSegment (l .base) 0 t) _ w)

@@ -28,13 +28,17 @@ fixPair base barrier i end = do
         setField base (moduleNameOffset + 8 * i + 4) 0
         ret end)
 
+-- the tables from the barrier on point at v, where the module now ends
+unfoldable pub endTables : ℕ → ℕ → ℕ → Prog (Unit {0})
+endTables base barrier v = loop (λ i _. setField base (barrier + 8 * i) v) 0 ((headerSize - barrier) / 8) tt
+
 -- "Levels 1, 2, 3 cut from 0x120, 0x0F0, 0x0D0."
 unfoldable pub fixFrom : ℕ → ℕ → ℕ → Prog ℕ
 fixFrom base size barrier = do
   code ← field base codeOffset
   bytes ← field base codeSize
   end ← loop (fixPair base barrier) 0 15 (code ⊕ bytes)
-  loop (λ i _. setField base (barrier + 8 * i) (base ⊕ fixedTo end base size)) 0 ((headerSize - barrier) / 8) tt
+  endTables base barrier (base ⊕ fixedTo end base size)
   setField base fixedSize (fixedTo end base size)
   ret (fixedTo end base size)
 

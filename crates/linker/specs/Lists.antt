@@ -12,18 +12,24 @@ abbrev pub headField : Bool → ℕ
 headField true = nextCro
 headField false = previousCro
 
+-- the only module of a list is its head and its tail
+unfoldable pub becomesHead : ℕ → ℕ → ℕ → Prog (Unit {0})
+becomesHead crs x base = do
+  setField crs x base
+  setField base previousCro base
+
+unfoldable pub becomesTail : ℕ → ℕ → Prog (Unit {0})
+becomesTail head base = do
+  tail ← field head previousCro
+  setField tail nextCro base
+  setField base previousCro tail
+  setField head previousCro base
+
 -- a module goes to the end of its list
 unfoldable pub register : ℕ → ℕ → Bool → Prog (Unit {0})
 register crs base auto = do
   head ← field crs (headField auto)
-  if eqb head 0 then (do
-    setField crs (headField auto) base
-    setField base previousCro base)
-      else (do
-        tail ← field head previousCro
-        setField tail nextCro base
-        setField base previousCro tail
-        setField head previousCro base)
+  if eqb head 0 then becomesHead crs (headField auto) base else becomesTail head base
   setField base nextCro 0
 
 -- the head leaves: the one after it heads the list and keeps the tail

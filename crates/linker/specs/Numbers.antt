@@ -14,12 +14,16 @@ use Rattle.layout.specs.Segments.{setField}
 use Rattle.register.specs.Module.{Module, Register}
 use Rattle.register.specs.Decode.{isRegister}
 use Rattle.register.specs.Change.{appended}
-use Rattle.linker.specs.Rebase.{isMagic, moveHeader, Lent, Moved, bad, old-place, moveSegments, lookAtSegments, moveTables}
+use Rattle.linker.specs.declared.rebase.Lent.{Lent}
+use Rattle.linker.specs.declared.rebase.Moved.{Moved}
+use Rattle.linker.specs.declared.rebase.Moved.the-variants.{Bad, OldPlace}
+use Rattle.linker.specs.declared.rebase.Rebased.{Rebased}
+use Rattle.linker.specs.Rebase.{isMagic, moveHeader, moveSegments, lookAtSegments, moveTables}
 use Rattle.linker.specs.Relocation.{applyInternalRelocations, resetExternalRelocations}
 use Rattle.linker.specs.Exports.{readModule}
 use Rattle.linker.specs.Imports.{applyImportNamedSymbols, applyModuleImports, applyExportsToLoaded}
 use Rattle.linker.specs.Fix.{fix}
-use Rattle.linker.specs.Calls.{Answer, number, Rebased, rebased, relocate, rebaseWith, rebase, rebaseStatic, fits, enter, initialized, initialize, listed, linked, load}
+use Rattle.linker.specs.Calls.{Answer, number, relocate, rebaseWith, rebase, rebaseStatic, fits, enter, initialized, initialize, listed, linked, load}
 use Rattle.linker.specs.Outcome.{Bytes, settle, chain, outcome, initializeOutcome, loadOutcome}
 use Rattle.linker.specs.Refusals.{lentRegister, run-then, enters-1, enters-2}
 use Rattle.linker.specs.Gives.{Gives, gives-run, gives-then}
@@ -30,8 +34,8 @@ readAfter at base size auto w = run at (readModule base size auto) (run at (rese
 
 -- the number after a good magic: 2 for a refused segment, else 0 or 5 as the record fits or not
 abbrev pub entered : Moved → Bool → ℕ
-entered bad f = 2
-entered (old-place old) f = if f then 0 else 5
+entered Bad f = 2
+entered (OldPlace old) f = if f then 0 else 5
 
 abbrev Zero : Answer → Type 0
 Zero a = number a ≡ 0
@@ -45,7 +49,7 @@ module _ (base size : ℕ) (auto : Bool) (segments : Prog Moved) (next : Module 
   abbrev fitting : Bool
   fitting = fits records names r (readAfter at base size auto (run at (rebaseWith base segments) w .1))
 
-  relocates : (old : ℕ) (v : List ℕ) → run at (relocate base (old-place old)) v .0 ≡ rebased
+  relocates : (old : ℕ) (v : List ℕ) → run at (relocate base (OldPlace old)) v .0 ≡ Rebased.Done
   unfolding relocate run
   relocates old v =
       ap (λ (y : Rebased × List ℕ). y .0)
@@ -54,7 +58,7 @@ module _ (base size : ℕ) (auto : Bool) (segments : Prog Moved) (next : Module 
 
   rebased-by
       : {old : ℕ} {v : List ℕ} → isMagic (wordAt at w (base ⊕ magic)) ≡ true
-      → run at segments (run at (moveHeader true base) w .1) ≡ (old-place old, v) → run at (rebaseWith base segments) w .0 ≡ rebased
+      → run at segments (run at (moveHeader true base) w .1) ≡ (OldPlace old, v) → run at (rebaseWith base segments) w .0 ≡ Rebased.Done
   unfolding rebaseWith run _>>=_
   rebased-by {old} {v} e s =
       ap (λ (y : Rebased × List ℕ). y .0)
@@ -65,7 +69,7 @@ module _ (base size : ℕ) (auto : Bool) (segments : Prog Moved) (next : Module 
 
   enter-number
       : (v : List ℕ) (t : Bool) → fits records names r (readAfter at base size auto v) ≡ t
-      → number (run at (enter records names r base size auto next rebased) v .0) ≡ (if t then 0 else 5)
+      → number (run at (enter records names r base size auto next Rebased.Done) v .0) ≡ (if t then 0 else 5)
   unfolding enter number run
   enter-number v true f =
       rw (run-bind at (resetExternalRelocations base) _ v, run-bind at (readModule base size auto) _ (run at (resetExternalRelocations base) v .1), f)
@@ -84,8 +88,8 @@ module _ (base size : ℕ) (auto : Bool) (segments : Prog Moved) (next : Module 
           → run at segments (run at (moveHeader true base) w .1) ≡ x
           → number (run at call w .0) ≡ (if t then entered (x .0) fitting else 1)
       go false e x s = ap (λ (y : Answer × List ℕ). number (y .0)) (enters-1 base size auto segments next records names r at w e)
-      go true e (bad, v) s = ap (λ (y : Answer × List ℕ). number (y .0)) (enters-2 base size auto segments next records names r at w e s)
-      go true e (old-place old, v) s =
+      go true e (Bad, v) s = ap (λ (y : Answer × List ℕ). number (y .0)) (enters-2 base size auto segments next records names r at w e s)
+      go true e (OldPlace old, v) s =
           ap (λ (y : Answer × List ℕ). number (y .0)) (run-bind at (rebaseWith base segments) _ w)
           ∙ ap (λ x. number (run at (enter records names r base size auto next x) (run at (rebaseWith base segments) w .1) .0)) (rebased-by e s)
           ∙ enter-number (run at (rebaseWith base segments) w .1) fitting refl
@@ -147,7 +151,7 @@ module _ (at : ℕ) (b : Bytes) where
       (entry-number (l .base) (l .size) (not (eqb auto 0)) (moveSegments l) _ (linked-0 (lentRegister b) l (not (eqb auto 0)) level)
       (length (b .records)) (length (b .names)) (lentRegister b) at (b .window))
 
-  looked : (base : ℕ) (w : List ℕ) → run at (lookAtSegments base >>= λ _. ret (old-place 0)) w .0 ≡ old-place 0
+  looked : (base : ℕ) (w : List ℕ) → run at (lookAtSegments base >>= λ _. ret (OldPlace 0)) w .0 ≡ OldPlace 0
   unfolding run
   looked base w = ap (λ (y : Moved × List ℕ). y .0) (run-bind at (lookAtSegments base) _ w)
 
@@ -169,7 +173,7 @@ module _ (at : ℕ) (b : Bytes) where
   -- a load that passes 1 and 2 answers 0 if its record fits, and 5 exactly if not
   module _ (g : goodWindow at (b .window) ≡ true) (v : isRegister (b .records) (b .names) (b .missing) ≡ true) (l : Lent) (auto level : ℕ)
       (m : isMagic (wordAt at (b .window) (l .base ⊕ magic)) ≡ true) (old : ℕ)
-      (s : run at (moveSegments l) (run at (moveHeader true (l .base)) (b .window) .1) .0 ≡ old-place old) where
+      (s : run at (moveSegments l) (run at (moveHeader true (l .base)) (b .window) .1) .0 ≡ OldPlace old) where
     pub load-fits : loadOutcome l auto level at b .number ≡ (if fitsIn (loadedModule at l (not (eqb auto 0)) (b .window)) then 0 else 5)
     load-fits = load-number l auto level ∙ rw (g, v, m, s)
 

@@ -9,7 +9,7 @@ use Rattle.window.specs.Access.{Prog, run}
 use Rattle.register.specs.Module.{Register}
 use Rattle.register.specs.Decode.{registerOf, isRegister}
 use Rattle.register.specs.Buffers.{encodeRecords, encodeNames, encodeMissing}
-use Rattle.linker.specs.Rebase.{Lent}
+use Rattle.linker.specs.declared.rebase.Lent.{Lent}
 use Rattle.linker.specs.Calls.{Answer, NotACro, BadSegment, NoRoom, Kept, Done, number, value, initialize, load, unload}
 
 -- what is lent: the window's bytes, the register's records and names, the missing list

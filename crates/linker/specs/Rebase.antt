@@ -16,6 +16,11 @@ use Rattle.layout.specs.declared.format.SegmentType.the-variants.{Code, RoData,
 use Rattle.layout.specs.declared.segments.FoundSegment.{FoundSegment}
 use Rattle.layout.specs.declared.segments.FoundSegment.the-variants.{Found, Missing}
 use Rattle.layout.specs.declared.tables.PointerTable.{PointerTable}
+use Rattle.linker.specs.declared.rebase.Lent.{Lent}
+use Rattle.linker.specs.declared.rebase.Placed.{Placed}
+use Rattle.linker.specs.declared.rebase.Placed.the-variants.{Refused, Put}
+use Rattle.linker.specs.declared.rebase.Moved.{Moved}
+use Rattle.linker.specs.declared.rebase.Moved.the-variants.{Bad, OldPlace}
 
 -- "magic not CRO0 or CRS0": the four bytes, lowest first
 unfoldable pub isMagic : ℕ → Bool
@@ -38,66 +43,49 @@ moveHeader forward base = do
   moveWord forward base (base ⊕ nameOffset)
   loop (λ i _. moveWord forward base (base ⊕ (firstRebased + 8 * i))) 0 17 tt
 
--- where a load puts a segment: the segment with its place, and the old place of Data; or that it is refused
-pub data Placed : Type 0 where
-  refused : Placed
-  placed : Segment → ℕ → Placed
-
--- what a load lends
-pub record Lent : Type 0 where
-  pub base : ℕ
-  pub size : ℕ
-  pub data-at : ℕ
-  pub data-size : ℕ
-  pub bss-at : ℕ
-  pub bss-size : ℕ
-
 abbrev pub at-offset : Segment → ℕ → Segment
 at-offset s x = record { offset = x; size = s .size; kind = s .kind }
 
 -- "Data or Bss of size above 0 takes the lent address; a size above the lent size is refused, equal passes."
 unfoldable pub lentPlace : Segment → ℕ → ℕ → ℕ → Placed
-lentPlace s address size old = if ltb size (s .size) then refused else placed (at-offset s address) old
+lentPlace s address size old = if ltb size (s .size) then Refused else Put (at-offset s address) old
 
 -- "Other segments with offset above 0 move by the base; a moved offset above base + size is refused, equal passes."
 unfoldable pub movedPlace : Lent → Segment → ℕ → Placed
 movedPlace l s old =
-    if eqb (s .offset) 0 then placed s old
-    else (if ltb (l .base ⊕ l .size) (s .offset ⊕ l .base) then refused else placed (at-offset s (s .offset ⊕ l .base)) old)
+    if eqb (s .offset) 0 then Put s old
+    else (if ltb (l .base ⊕ l .size) (s .offset ⊕ l .base) then Refused else Put (at-offset s (s .offset ⊕ l .base)) old)
 
 -- Data's old place is where its bytes still stand in the image
 unfoldable pub place : Lent → Segment → SegmentType → ℕ → Placed
 place l s Code old = movedPlace l s old
 place l s RoData old = movedPlace l s old
-place l s Data old = if eqb (s .size) 0 then movedPlace l s old else lentPlace s (l .data-at) (l .data-size) (s .offset ⊕ l .base)
-place l s Bss old = if eqb (s .size) 0 then movedPlace l s old else lentPlace s (l .bss-at) (l .bss-size) old
+place l s Data old = if eqb (s .size) 0 then movedPlace l s old else lentPlace s (l .«data_at») (l .«data_size») (s .offset ⊕ l .base)
+place l s Bss old = if eqb (s .size) 0 then movedPlace l s old else lentPlace s (l .«bss_at») (l .«bss_size») old
 
--- the segments of a load, in order, up to the first that is refused: the old place of Data, or the refusal
-pub data Moved : Type 0 where
-  bad : Moved
-  old-place : ℕ → Moved
+-- the segments of a load, in order, up to the first that is refused
 
 unfoldable pub writeBack : ℕ → ℕ → Placed → Prog Moved
-writeBack base i refused = ret bad
-writeBack base i (placed s old) = do
+writeBack base i Refused = ret Bad
+writeBack base i (Put s old) = do
   setSegment base i s
-  ret (old-place old)
+  ret (OldPlace old)
 
 -- a lookup that finds no segment, the count having changed meanwhile, passes the turn over
 unfoldable pub moveFound : Lent → ℕ → ℕ → FoundSegment → Prog Moved
-moveFound l i old Missing = ret (old-place old)
+moveFound l i old Missing = ret (OldPlace old)
 moveFound l i old (Found s) = writeBack (l .base) i (place l s (s .kind) old)
 
 unfoldable pub moveSegment : Lent → ℕ → Moved → Prog Moved
-moveSegment l i bad = ret bad
-moveSegment l i (old-place old) = do
+moveSegment l i Bad = ret Bad
+moveSegment l i (OldPlace old) = do
   s ← segment (l .base) i
   moveFound l i old s
 
 unfoldable pub moveSegments : Lent → Prog Moved
 moveSegments l = do
   count ← field (l .base) segmentNum
-  loop (moveSegment l) 0 count (old-place 0)
+  loop (moveSegment l) 0 count (OldPlace 0)
 
 -- "`initialize` neither changes nor checks segments": it looks each of them up
 unfoldable pub lookAtSegments : ℕ → Prog (Unit {0})

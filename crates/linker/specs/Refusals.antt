@@ -10,10 +10,14 @@ use Rattle.window.specs.Access.{Prog, ret, _>>=_, run, run-bind, reads-same}
 use Rattle.layout.specs.Header.{magic}
 use Rattle.register.specs.Module.{Module, Register}
 use Rattle.register.specs.Decode.{registerOf, isRegister}
-use Rattle.linker.specs.Rebase.{isMagic, Lent, Moved, bad, moveHeader, moveSegments}
+use Rattle.linker.specs.declared.rebase.Lent.{Lent}
+use Rattle.linker.specs.declared.rebase.Moved.{Moved}
+use Rattle.linker.specs.declared.rebase.Moved.the-variants.{Bad}
+use Rattle.linker.specs.declared.rebase.Rebased.{Rebased}
+use Rattle.linker.specs.Rebase.{isMagic, moveHeader, moveSegments}
 use Rattle.linker.specs.Relocation.{resetExternalRelocations}
 use Rattle.linker.specs.Exports.{readModule, readModule-reads}
-use Rattle.linker.specs.Calls.{Answer, NotACro, BadSegment, NoRoom, Kept, Done, number, value, Rebased, not-a-cro, bad-segment, rebased, relocate, rebaseWith, rebase, rebaseStatic, fits, enter, initialize, initialized, load, linked, Standing, unknown, firstWithBase, leave, unload}
+use Rattle.linker.specs.Calls.{Answer, NotACro, BadSegment, NoRoom, Kept, Done, number, value, relocate, rebaseWith, rebase, rebaseStatic, fits, enter, initialize, initialized, load, linked, Standing, unknown, firstWithBase, leave, unload}
 use Rattle.linker.specs.Outcome.{Bytes, Outcome, refused, registerAfter, settle, chain, outcome, initializeOutcome, loadOutcome, unloadOutcome}
 
 -- the register that the lent bytes are
@@ -59,7 +63,7 @@ module _ (base size : ℕ) (auto : Bool) (segments : Prog Moved) (next : Module 
   entering = rebaseWith base segments >>= enter records names r base size auto next
 
   -- 1: nothing is written
-  rebases-1 : isMagic (wordAt at w (base ⊕ magic)) ≡ false → run at (rebaseWith base segments) w ≡ (not-a-cro, w)
+  rebases-1 : isMagic (wordAt at w (base ⊕ magic)) ≡ false → run at (rebaseWith base segments) w ≡ (Rebased.NotACro, w)
   unfolding rebaseWith run _>>=_
   rebases-1 m = run-else at _ _ w (isMagic (wordAt at w (base ⊕ magic))) m
 
@@ -69,8 +73,8 @@ module _ (base size : ℕ) (auto : Bool) (segments : Prog Moved) (next : Module 
 
   -- 2: the window as the segments left it, after the header's
   rebases-2
-      : isMagic (wordAt at w (base ⊕ magic)) ≡ true → {w₂ : List ℕ} → run at segments (run at (moveHeader true base) w .1) ≡ (bad, w₂)
-      → run at (rebaseWith base segments) w ≡ (bad-segment, w₂)
+      : isMagic (wordAt at w (base ⊕ magic)) ≡ true → {w₂ : List ℕ} → run at segments (run at (moveHeader true base) w .1) ≡ (Bad, w₂)
+      → run at (rebaseWith base segments) w ≡ (Rebased.BadSegment, w₂)
   unfolding rebaseWith relocate run _>>=_
   rebases-2 m {w₂} s =
       run-then at _ _ w (isMagic (wordAt at w (base ⊕ magic))) m
@@ -79,14 +83,14 @@ module _ (base size : ℕ) (auto : Bool) (segments : Prog Moved) (next : Module 
       ∙ rw s
 
   pub enters-2
-      : isMagic (wordAt at w (base ⊕ magic)) ≡ true → {w₂ : List ℕ} → run at segments (run at (moveHeader true base) w .1) ≡ (bad, w₂)
+      : isMagic (wordAt at w (base ⊕ magic)) ≡ true → {w₂ : List ℕ} → run at segments (run at (moveHeader true base) w .1) ≡ (Bad, w₂)
       → run at entering w ≡ (BadSegment, w₂)
   unfolding enter run
   enters-2 m {w₂} s = run-bind at (rebaseWith base segments) _ w ∙ rw (rebases-2 m s)
 
   -- 5: the window as after the external reset; reading the record writes nothing
   pub enters-5
-      : {w₁ : List ℕ} → run at (rebaseWith base segments) w ≡ (rebased, w₁)
+      : {w₁ : List ℕ} → run at (rebaseWith base segments) w ≡ (Rebased.Done, w₁)
       → fits records names r (run at (readModule base size auto) (run at (resetExternalRelocations base) w₁ .1) .0) ≡ false
       → run at entering w ≡ (NoRoom, run at (resetExternalRelocations base) w₁ .1)
   unfolding enter run
@@ -104,13 +108,13 @@ module _ (at : ℕ) (b : Bytes) (g : goodWindow at (b .window) ≡ true) (v : is
 
     pub load-2
         : isMagic (wordAt at (b .window) (l .base ⊕ magic)) ≡ true → {w : List ℕ}
-        → run at (moveSegments l) (run at (moveHeader true (l .base)) (b .window) .1) ≡ (bad, w)
+        → run at (moveSegments l) (run at (moveHeader true (l .base)) (b .window) .1) ≡ (Bad, w)
         → loadOutcome l auto level at b ≡ refused 2 (windowed b w)
     unfolding loadOutcome load rebase settle number value registerAfter
     load-2 m s = answers (load l (not (eqb auto 0)) level) at b g v (enters-2 _ _ _ _ _ _ _ _ at (b .window) m s)
 
     pub load-5
-        : {w : List ℕ} → run at (rebase l) (b .window) ≡ (rebased, w)
+        : {w : List ℕ} → run at (rebase l) (b .window) ≡ (Rebased.Done, w)
         → fits (length (b .records)) (length (b .names)) (lentRegister b)
         (run at (readModule (l .base) (l .size) (not (eqb auto 0))) (run at (resetExternalRelocations (l .base)) w .1) .0) ≡ false
         → loadOutcome l auto level at b ≡ refused 5 (windowed b (run at (resetExternalRelocations (l .base)) w .1))
@@ -123,7 +127,7 @@ module _ (at : ℕ) (b : Bytes) (g : goodWindow at (b .window) ≡ true) (v : is
     initialize-1 m = answers (initialize base size) at b g v (enters-1 _ _ _ _ _ _ _ _ at (b .window) m)
 
     pub initialize-5
-        : {w : List ℕ} → run at (rebaseStatic base) (b .window) ≡ (rebased, w)
+        : {w : List ℕ} → run at (rebaseStatic base) (b .window) ≡ (Rebased.Done, w)
         → fits (length (b .records)) (length (b .names)) (lentRegister b)
         (run at (readModule base size true) (run at (resetExternalRelocations base) w .1) .0) ≡ false
         → initializeOutcome base size at b ≡ refused 5 (windowed b (run at (resetExternalRelocations base) w .1))

@@ -13,7 +13,7 @@ use Rattle.window.specs.Access.{Prog, _>>=_, _>>_, run}
 use Rattle.layout.specs.Header.{nextCro, previousCro}
 use Rattle.layout.specs.Segments.{field, setField}
 use Rattle.register.specs.Module.{Module, Register}
-use Rattle.linker.specs.Lists.{headField, register}
+use Rattle.linker.specs.Lists.{headField, becomesHead, becomesTail, register}
 use Rattle.linker.specs.Calls.{initialized}
 
 -- "0x088 is next, 0x08C previous."
@@ -121,17 +121,14 @@ near-turned a b (inr h) = inr (turned a b h)
 
 -- what `register` does once the head is read
 abbrev atEnd : ℕ → ℕ → Bool → ℕ → Prog (Unit {0})
-atEnd crs base auto head =
-    (if eqb head 0 then setField crs (headField auto) base >> setField base previousCro base
-    else (field head previousCro >>= λ tail. setField tail nextCro base >> setField base previousCro tail >> setField head previousCro base))
-    >> setField base nextCro 0
+atEnd crs base auto head = (if eqb head 0 then becomesHead crs (headField auto) base else becomesTail head base) >> setField base nextCro 0
 
 module _ (at : ℕ) (w : List ℕ) (crs base : ℕ) (auto : Bool) where
   abbrev alone : List ℕ
   alone = putWord at (putWord at (putWord at w (crs ⊕ headField auto) base) (base ⊕ previousCro) base) (base ⊕ nextCro) 0
 
   first-listed : wordAt at w (crs ⊕ headField auto) ≡ 0 → run at (register crs base auto) w .1 ≡ alone
-  unfolding register field setField run _>>=_
+  unfolding register becomesHead becomesTail field setField run _>>=_
   first-listed e = ap (λ h. run at (atEnd crs base auto h) w .1) e
 
   abbrev afterTail : ℕ → ℕ → List ℕ
@@ -141,7 +138,7 @@ module _ (at : ℕ) (w : List ℕ) (crs base : ℕ) (auto : Bool) where
   later-listed
       : (m t : ℕ) → 0 < m → wordAt at w (crs ⊕ headField auto) ≡ m → previous at w m ≡ t
       → run at (register crs base auto) w .1 ≡ afterTail m t
-  unfolding register field setField run _>>=_
+  unfolding register becomesHead becomesTail field setField run _>>=_
   later-listed m t l e f =
       ap (λ h. run at (atEnd crs base auto h) w .1) e ∙ rw (ne-eqb m 0 (λ z. omega arith), f)
 

@@ -29,10 +29,15 @@ unfoldable pub unmoveFound : ℕ → ℕ → FoundSegment → Prog (Unit {0})
 unmoveFound base i Missing = ret tt
 unmoveFound base i (Found s) = setSegment base i (leavesAs base s (s .kind))
 
+unfoldable pub unmoveSegment : ℕ → ℕ → Prog (Unit {0})
+unmoveSegment base i = do
+  s ← segment base i
+  unmoveFound base i s
+
 unfoldable pub unmoveSegments : ℕ → Prog (Unit {0})
 unmoveSegments base = do
   count ← field base segmentNum
-  loop (λ i _. segment base i >>= unmoveFound base i) 0 count tt
+  loop (λ i _. unmoveSegment base i) 0 count tt
 
 -- the tables first, then the segments, then the header; the fixed size is 0 again
 unfoldable pub unrebase : ℕ → Prog (Unit {0})

@@ -27,14 +27,15 @@ use Rattle.register_change.specs.Left.{remove-kept}
 use Rattle.register_read.specs.Read.{lookupIn}
 use Rattle.register_read.specs.declared.Symbol.{Symbol}
 use Rattle.register_read.specs.declared.Symbol.the-variants.{At, Nothing}
-use Rattle.linker.specs.Rebase.{Lent}
+use Rattle.linker.specs.declared.rebase.Lent.{Lent}
+use Rattle.linker.specs.declared.rebase.Rebased.{Rebased}
 use Rattle.linker.specs.Relocation.{resetExternalRelocations}
 use Rattle.linker.specs.Exports.{readModule}
 use Rattle.linker.specs.Imports.{isUnresolved, resolve, mostMissing, noted, importNamed, applyImportNamedSymbols, applyModuleImports, applyExportsToLoaded}
 use Rattle.linker.specs.Resets.{resetImporters}
 use Rattle.linker.specs.Fix.{fix}
 use Rattle.linker.specs.Unrebase.{unrebase}
-use Rattle.linker.specs.Calls.{Answer, NotACro, BadSegment, NoRoom, Kept, Done, Rebased, not-a-cro, bad-segment, rebased, rebase, rebaseStatic, fits, enter, initialized, initialize, listed, missingNow, linked, load, Standing, unknown, stands, firstWithBase, unlisted, leave, unload}
+use Rattle.linker.specs.Calls.{Answer, NotACro, BadSegment, NoRoom, Kept, Done, rebase, rebaseStatic, fits, enter, initialized, initialize, listed, missingNow, linked, load, Standing, unknown, stands, firstWithBase, unlisted, leave, unload}
 use Rattle.linker.specs.Outcome.{Bytes, registerAfter, settle, chain, outcome, initializeOutcome, loadOutcome, unloadOutcome}
 use Rattle.linker.specs.Refusals.{lentRegister}
 use Rattle.linker.specs.Gives.{Yields, yields-ret, yields-bind, yields-then, yields-if, yields-loop}
@@ -113,9 +114,9 @@ module _ (at records names : ℕ) (r : Register) (p : proper r ≡ true) (s : Be
       → ((m : Module) → Readable at m → Fits records names r m → Yields at L (next m)) → (x : Rebased)
       → Yields at L (enter records names r base size auto next x)
   unfolding enter
-  enter-yields base size auto next hb hs h not-a-cro = yields-ret at L NotACro tt
-  enter-yields base size auto next hb hs h bad-segment = yields-ret at L BadSegment tt
-  enter-yields base size auto next hb hs h rebased =
+  enter-yields base size auto next hb hs h Rebased.NotACro = yields-ret at L NotACro tt
+  enter-yields base size auto next hb hs h Rebased.BadSegment = yields-ret at L BadSegment tt
+  enter-yields base size auto next hb hs h Rebased.Done =
       yields-then at L (resetExternalRelocations base) _
       (λ _. yields-bind at (Readable at) L (readModule base size auto) _ (readModule-yields at base size auto hb hs)
       (λ m k. yields-if at L (fits records names r m) _ _ (λ f. h m k (fits-means records names r m f)) (λ _. yields-ret at L NoRoom tt)))

@@ -1,1 +1,2 @@
-// The linker: the port of cro/mod.rs. So far its steps are defined, in specs/; the code is to come.
+// The linker: the port of cro/mod.rs. Its steps are defined in specs/; here are the types that they hand on.
+pub mod rebase;

@@ -2,7 +2,7 @@
 use Prim.Native.Nat.{ℕ, _+_, _-_, _≤_, _<_}
 use mathlib.Core.Path.{_≡_, sym, ap, _∙_}
 use mathlib.Core.List.{List}
-use Rattle.window.specs.Access.{Prog, _>>=_, run, run-bind, Reads, reads-same}
+use Rattle.window.specs.Access.{Prog, _>>=_, _>>_, run, run-bind, Reads, reads-same}
 use Rattle.window.specs.Loop.{loop, loop-end, loop-turn}
 
 pub after-reads
@@ -33,3 +33,18 @@ module _ (at : ℕ) (f : ℕ → Prog (Unit {0})) (g : ℕ → ℕ) (i n : ℕ) 
 
   pub steps-over : n ≤ i → w ≡ r .1
   steps-over l = ap (λ (x : Unit {0} × List ℕ). x .1) (sym (loop-end at (λ j _. f (g j)) i n tt w l) ∙ rest)
+
+-- Code that makes one program after another: what is left to make gives what the whole gives.
+module _ {A B : Type 0} (at : ℕ) (m : Prog A) (w : List ℕ) where
+  pub seq : (q : Prog B) {u : List ℕ} → u ≡ run at m w .1 → run at q u ≡ run at (m >> q) w
+  seq q h = ap (λ u. run at q u) h ∙ sym (run-bind at m (λ _. q) w)
+
+  pub reads : (f : A → Prog B) {a : A} → Reads m → a ≡ run at m w .0 → run at (f a) w ≡ run at (m >>= f) w
+  reads f h e = ap (λ a. run at (f a) w) e ∙ sym (after-reads at m f w h)
+
+  pub gives : (f : A → Prog B) {a : A} {u : List ℕ} → (a, u) ≡ run at m w → run at (f a) u ≡ run at (m >>= f) w
+  gives f h = ap (λ (r : A × List ℕ). run at (f (r .0)) (r .1)) h ∙ sym (run-bind at m f w)
+
+-- the window that a run leaves
+abbrev pub left : {A : Type 0} → A × List ℕ → List ℕ
+left r = r .1

@@ -50,7 +50,8 @@ returns c =
     let p3 = p2 .before in
     let p14 = p3 .before .before .before .before .before .before .before .before .before .before .before in
     let p17 = p14 .before .before .before in
-    into-missing (p17 .args .at) (p17 .args .base) (p17 .args .old) (p17 .args .entry) (p17 .args .w .now) (p14 .read32 .ensures) (p3 .segment .ensures)
+    let a = p17 .args in
+    into-missing (a .at) (a .base) (a .old) (a .entry) (a .w .now) (p14 .read32 .ensures) (p3 .segment .ensures)
     (sym (p2 .segment2 .ensures) ∙ c .enum-told .given .1)
 
 offset-requires : tie.Need-offset-requires
@@ -67,7 +68,8 @@ returns-2 c =
     let p7 = p6 .before in
     let p18 = p7 .before .before .before .before .before .before .before .before .before .before .before in
     let p21 = p18 .before .before .before in
-    into-past (p21 .args .at) (p21 .args .base) (p21 .args .old) (p21 .args .entry) (p21 .args .w .now) (p18 .read32 .ensures) (p7 .segment .ensures)
+    let a = p21 .args in
+    into-past (a .at) (a .base) (a .old) (a .entry) (a .w .now) (p18 .read32 .ensures) (p7 .segment .ensures)
     {s = p4 .into .given .0 .0} (sym (p6 .segment2 .ensures) ∙ p4 .into .given .1) (p2 .offset .ensures) (c .if1 .taken)
 
 wrapping-add-u32-requires-4 : tie.Need-wrapping-add-u32-requires-4
@@ -100,7 +102,8 @@ returns-3 c =
     let p19 = p18 .before in
     let p24 = p19 .before .before .before .before .before in
     let p27 = p24 .before .before .before in
-    from-missing (p27 .args .at) (p27 .args .base) (p27 .args .old) (p27 .args .entry) (p27 .args .w .now) (p24 .read32 .ensures) (p13 .segment .ensures)
+    let a = p27 .args in
+    from-missing (a .at) (a .base) (a .old) (a .entry) (a .w .now) (p24 .read32 .ensures) (p13 .segment .ensures)
     {s = p10 .into .given .0 .0} (sym (p12 .segment2 .ensures) ∙ p10 .into .given .1) (p8 .offset .ensures) (p6 .if1 .left)
     (p19 .wrapping-add-u322 .ensures) (p18 .read82 .ensures) (sym (p2 .segment3 .ensures) ∙ c .enum-told2 .given .1)
 
@@ -134,7 +137,8 @@ returns-4 c =
     let p28 = p27 .before in
     let p30 = p28 .before .before in
     let p33 = p30 .before .before .before in
-    from-found (p33 .args .at) (p33 .args .base) (p33 .args .old) (p33 .args .entry) (p33 .args .w .now) (p30 .read32 .ensures) (p19 .segment .ensures)
+    let a = p33 .args in
+    from-found (a .at) (a .base) (a .old) (a .entry) (a .w .now) (p30 .read32 .ensures) (p19 .segment .ensures)
     {s = p16 .into .given .0 .0} (sym (p18 .segment2 .ensures) ∙ p16 .into .given .1) (p14 .offset .ensures) (p12 .if1 .left)
     (p25 .wrapping-add-u322 .ensures) (p24 .read82 .ensures) {z = p6 .from .given .0 .0} (sym (p8 .segment3 .ensures) ∙ p6 .from .given .1)
     (p28 .wrapping-add-u32 .ensures) (p27 .read8 .ensures) (p22 .wrapping-add-u323 .ensures) (p21 .read322 .ensures)

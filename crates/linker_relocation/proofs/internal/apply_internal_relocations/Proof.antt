@@ -34,7 +34,8 @@ loop-holds : tie.Need-loop-holds Inv-loop μ-loop
 loop-holds c =
     let p2 = c .before .before in
     let p5 = p2 .before .before .before in
-    (omega arith, refl, internal-starts (p5 .args .at) (p5 .args .base) (p5 .args .old) (p5 .args .w .now) (p2 .field .ensures) (c .field2 .ensures))
+    let a = p5 .args in
+    (omega arith, refl, internal-starts (a .at) (a .base) (a .old) (a .w .now) (p2 .field .ensures) (c .field2 .ensures))
 
 entry-address-requires : tie.Need-entry-address-requires Inv-loop μ-loop
 entry-address-requires c κs = search needs
@@ -56,10 +57,11 @@ loop-again c =
     let p6 = p5 .before in
     let p7 = p6 .before in
     let p9 = p7 .before .before in
-    let p12 = p9 .before .before .before in (
+    let p12 = p9 .before .before .before in
+    let a = p12 .args in (
       omega arith,
       p2 .apply-internal-relocation .kept .1 .0 ∙ p6 .loop .inv .1,
-      step-made (p12 .args .at) (applyInternalRelocation (p12 .args .base) (p12 .args .old)) (λ i. entryAt (p9 .field .result) i relocationEntrySize)
+      step-made (a .at) (applyInternalRelocation (a .base) (a .old)) (λ i. entryAt (p9 .field .result) i relocationEntrySize)
           (p6 .loop .index) (p7 .field2 .result) (p6 .loop .w) (p6 .loop .inv .2) (p5 .loop-test .taken) (p4 .entry-address .ensures)
           (p2 .apply-internal-relocation .ensures),
     )
@@ -75,7 +77,8 @@ returns c =
     let p2 = p1 .before in
     let p4 = p2 .before .before in
     let p7 = p4 .before .before .before in
-    steps-over (p7 .args .at) (applyInternalRelocation (p7 .args .base) (p7 .args .old)) (λ i. entryAt (p4 .field .result) i relocationEntrySize)
+    let a = p7 .args in
+    steps-over (a .at) (applyInternalRelocation (a .base) (a .old)) (λ i. entryAt (p4 .field .result) i relocationEntrySize)
     (p1 .loop .index) (p2 .field2 .result) (p1 .loop .w) (p1 .loop .inv .2) (c .loop-test .left)
 
 pub apply-internal-relocations-spec : {M : Type 1} → statement M

@@ -37,7 +37,8 @@ returns c =
     let p2 = c .before .before in
     let p10 = p2 .before .before .before .before .before .before .before .before in
     let p13 = p10 .before .before .before in
-    entry-nowhere (p13 .args .at) (p13 .args .base) (p13 .args .symbol) (p13 .args .entry) (p13 .args .w .now) (p10 .read32 .ensures)
+    let a = p13 .args in
+    entry-nowhere (a .at) (a .base) (a .symbol) (a .entry) (a .w .now) (p10 .read32 .ensures)
     (sym (p2 .tag-to-address .ensures) ∙ c .enum-told .given .1)
 
 from-raw-requires : tie.Need-from-raw-requires
@@ -61,7 +62,8 @@ returns-2 c =
     let p14 = p13 .before in
     let p16 = p14 .before .before in
     let p19 = p16 .before .before .before in
-    entry-at (p19 .args .at) (p19 .args .base) (p19 .args .symbol) (p19 .args .entry) (p19 .args .w .now) (p16 .read32 .ensures)
+    let a = p19 .args in
+    entry-at (a .at) (a .base) (a .symbol) (a .entry) (a .w .now) (p16 .read32 .ensures)
     (p14 .wrapping-add-u32 .ensures) (p13 .read8 .ensures) (p11 .wrapping-add-u322 .ensures) (p10 .read322 .ensures)
     (sym (p8 .tag-to-address .ensures) ∙ p6 .target .given .1) (p3 .from-raw .ensures) (p2 .apply-relocation .ensures)
 

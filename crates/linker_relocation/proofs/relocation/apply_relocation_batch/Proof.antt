@@ -48,10 +48,11 @@ loop-again c =
     let p7 = p5 .before .before in
     let p8 = p7 .before in
     let p10 = p8 .before .before in
-    let p12 = p10 .before .before in (
+    let p12 = p10 .before .before in
+    let a = p12 .args in (
       omega arith,
       p5 .apply-entry .kept .1 .0 ∙ p10 .loop .inv .1,
-      walk-on (p12 .args .at) (p12 .args .base) (p12 .args .symbol) (p10 .loop .entry) (p10 .loop .w) 0x1001 (p10 .loop .walked) (p10 .loop .inv .0)
+      walk-on (a .at) (a .base) (a .symbol) (p10 .loop .entry) (p10 .loop .w) 0x1001 (p10 .loop .walked) (p10 .loop .inv .0)
           (p8 .wrapping-add-u32 .ensures) (p7 .read8 .ensures) (p5 .apply-entry .ensures) (p2 .if1 .left) (c .wrapping-add-u322 .ensures)
           ∙ p10 .loop .inv .2,
     )
@@ -82,15 +83,16 @@ returns c =
     let p11 = p10 .before in
     let p13 = p11 .before .before in
     let p15 = p13 .before .before in
-    batch-made (p15 .args .at) (p15 .args .base) (p15 .args .batch) (p15 .args .symbol) (p15 .args .resolved) (p15 .args .w .now)
+    let a = p15 .args in
+    batch-made (a .at) (a .base) (a .batch) (a .symbol) (a .resolved) (a .w .now)
     (⊎-elim
-    (λ e. walk-end (p15 .args .at) (p15 .args .base) (p15 .args .symbol) (p13 .loop .entry) (p13 .loop .w) 0x1001 (p13 .loop .walked) (p13 .loop .inv .0)
+    (λ e. walk-end (a .at) (a .base) (a .symbol) (p13 .loop .entry) (p13 .loop .w) 0x1001 (p13 .loop .walked) (p13 .loop .inv .0)
     (p11 .wrapping-add-u32 .ensures) (p10 .read8 .ensures) (p8 .apply-entry .ensures) (e .taken))
-    (λ e. walk-full (p15 .args .at) (p15 .args .base) (p15 .args .symbol) (p13 .loop .entry) (p13 .loop .w) 0x1001 (p13 .loop .walked) (p13 .loop .inv .0)
+    (λ e. walk-full (a .at) (a .base) (a .symbol) (p13 .loop .entry) (p13 .loop .w) 0x1001 (p13 .loop .walked) (p13 .loop .inv .0)
     (p11 .wrapping-add-u32 .ensures) (p10 .read8 .ensures) (p8 .apply-entry .ensures) (e .0 .left) (e .1 .taken))
     (p5 .if1 .came)
     ∙ p13 .loop .inv .2)
-    (p3 .wrapping-add-u323 .ensures) (mark-byte (p15 .args .resolved)) (p2 .write8 .ensures)
+    (p3 .wrapping-add-u323 .ensures) (mark-byte (a .resolved)) (p2 .write8 .ensures)
 
 pub apply-relocation-batch-spec : {M : Type 1} → statement M
 apply-relocation-batch-spec =

@@ -14,7 +14,8 @@ returns : tie.Need-returns
 returns c =
     let p1 = c .before in
     let p3 = p1 .before .before in
-    mark-read (p3 .args .at) (p3 .args .batch) (p3 .args .w .now) (p1 .wrapping-add-u32 .ensures) (c .read8 .ensures)
+    let a = p3 .args in
+    mark-read (a .at) (a .batch) (a .w .now) (p1 .wrapping-add-u32 .ensures) (c .read8 .ensures)
 
 pub batch-is-resolved-spec : {M : Type 1} → statement M
 batch-is-resolved-spec = tie.close (tie.spec wrapping-add-u32-requires read8-requires returns)

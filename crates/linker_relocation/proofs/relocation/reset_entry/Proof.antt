@@ -32,7 +32,8 @@ returns c =
     ⊎-elim
     (λ e. reset-some (a .at) (a .base) (a .handler) (a .entry) (a .w .now) (p3 .wrapping-add-u32 .ensures) (p2 .write8 .ensures) (e .0 .taken)
     (e .5 ∙ e .2 .ensures))
-    (λ e. reset-none (a .at) (a .base) (a .handler) (a .entry) (a .w .now) (p3 .wrapping-add-u32 .ensures) (p2 .write8 .ensures) (e .0 .left) (e .1))
+    (λ e. reset-none (a .at) (a .base) (a .handler) (a .entry) (a .w .now) (p3 .wrapping-add-u32 .ensures) (p2 .write8 .ensures)
+    (e .0 .left) (e .1))
     (p5 .if1 .came)
 
 pub reset-entry-spec : {M : Type 1} → statement M

@@ -38,7 +38,8 @@ loop-holds c =
     let p2 = c .before .before in
     let p4 = p2 .before .before in
     let p7 = p4 .before .before .before in
-    (omega arith, refl, external-starts (p7 .args .at) (p7 .args .base) (p7 .args .w .now) (p4 .unresolved-symbol .ensures) (p2 .field .ensures) (c .field2 .ensures))
+    let a = p7 .args in
+    (omega arith, refl, external-starts (a .at) (a .base) (a .w .now) (p4 .unresolved-symbol .ensures) (p2 .field .ensures) (c .field2 .ensures))
 
 entry-address-requires : tie.Need-entry-address-requires Inv-loop μ-loop
 entry-address-requires c κs = search needs
@@ -61,10 +62,11 @@ loop-again c =
     let p7 = p6 .before in
     let p9 = p7 .before .before in
     let p11 = p9 .before .before in
-    let p14 = p11 .before .before .before in (
+    let p14 = p11 .before .before .before in
+    let a = p14 .args in (
       omega arith,
       p2 .reset-entry .kept .1 .0 ∙ p6 .loop .inv .1,
-      step-made (p14 .args .at) (resetEntry (p14 .args .base) (p11 .unresolved-symbol .result)) (λ i. entryAt (p9 .field .result) i relocationEntrySize)
+      step-made (a .at) (resetEntry (a .base) (p11 .unresolved-symbol .result)) (λ i. entryAt (p9 .field .result) i relocationEntrySize)
           (p6 .loop .index) (p7 .field2 .result) (p6 .loop .w) (p6 .loop .inv .2) (p5 .loop-test .taken) (p4 .entry-address .ensures)
           (p2 .reset-entry .ensures),
     )
@@ -81,7 +83,8 @@ returns c =
     let p4 = p2 .before .before in
     let p6 = p4 .before .before in
     let p9 = p6 .before .before .before in
-    steps-over (p9 .args .at) (resetEntry (p9 .args .base) (p6 .unresolved-symbol .result)) (λ i. entryAt (p4 .field .result) i relocationEntrySize)
+    let a = p9 .args in
+    steps-over (a .at) (resetEntry (a .base) (p6 .unresolved-symbol .result)) (λ i. entryAt (p4 .field .result) i relocationEntrySize)
     (p1 .loop .index) (p2 .field2 .result) (p1 .loop .w) (p1 .loop .inv .2) (c .loop-test .left)
 
 pub reset-external-relocations-spec : {M : Type 1} → statement M

@@ -23,7 +23,9 @@ returns c =
     let p2 = c .before .before in
     let p3 = p2 .before in
     let p5 = p3 .before .before in
-    ap addressOr0 (sym (c .enum-told .given .1)) ∙ ap addressOr0 (p2 .tag-to-address .ensures) ∙ handler-is (p5 .args .at) (p5 .args .base) _ (p3 .field .ensures)
+    let a = p5 .args in
+    ap addressOr0 (sym (c .enum-told .given .1)) ∙ ap addressOr0 (p2 .tag-to-address .ensures) ∙ handler-is (a .at) (a .base) _
+    (p3 .field .ensures)
 
 returns-2 : tie.Need-returns-2
 returns-2 c =
@@ -31,7 +33,9 @@ returns-2 c =
     let p3 = p1 .before .before in
     let p4 = p3 .before in
     let p6 = p4 .before .before in
-    ap addressOr0 (sym (p1 .handler .given .1)) ∙ ap addressOr0 (p3 .tag-to-address .ensures) ∙ handler-is (p6 .args .at) (p6 .args .base) _ (p4 .field .ensures)
+    let a = p6 .args in
+    ap addressOr0 (sym (p1 .handler .given .1)) ∙ ap addressOr0 (p3 .tag-to-address .ensures) ∙ handler-is (a .at) (a .base) _
+    (p4 .field .ensures)
 
 pub unresolved-symbol-spec : {M : Type 1} → statement M
 unresolved-symbol-spec =

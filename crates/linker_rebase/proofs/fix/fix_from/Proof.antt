@@ -1,0 +1,62 @@
+-- The pairs, the dropped tables and the size, in their order: `fixed-from`.
+use borrow.Author.Needs.{needs}
+use Rattle.linker_rebase.proofs.FixLaws.{fixed-from}
+use Rattle.linker_rebase.proofs.fix.fix_from.Statement.{statement}
+use Rattle.linker_rebase.proofs.fix.fix_from.Tie as tie
+
+field-requires : tie.Need-field-requires
+field-requires c κs = search needs
+
+field-requires-2 : tie.Need-field-requires-2
+field-requires-2 c κs = search needs
+
+wrapping-add-u32-requires : tie.Need-wrapping-add-u32-requires
+wrapping-add-u32-requires c κs = search needs
+
+fix-pairs-requires : tie.Need-fix-pairs-requires
+fix-pairs-requires c κs = search needs
+
+fixed-to-requires : tie.Need-fixed-to-requires
+fixed-to-requires c κs = search needs
+
+wrapping-add-u32-requires-2 : tie.Need-wrapping-add-u32-requires-2
+wrapping-add-u32-requires-2 c κs = search needs
+
+end-tables-requires : tie.Need-end-tables-requires
+end-tables-requires c κs = search needs
+
+set-field-requires : tie.Need-set-field-requires
+set-field-requires c κs = search needs
+
+same-length : tie.Need-same-length
+same-length c = search needs
+
+returns : tie.Need-returns
+returns c =
+    let p2 = c .before .before in
+    let p6 = p2 .before .before .before .before in
+    let p7 = p6 .before in
+    let p9 = p7 .before .before in
+    let p12 = p9 .before .before .before in
+    let p13 = p12 .before in
+    let p15 = p13 .before .before in
+    let p17 = p15 .before .before in
+    let p20 = p17 .before .before .before in
+    let a = p20 .args in
+    fixed-from (a .at) (a .base) (a .size) (a .barrier) (a .w .now) (p17 .field .ensures) (p15 .field2 .ensures) (p13 .wrapping-add-u32 .ensures)
+    (p12 .fix-pairs .ensures) (p9 .fixed-to .ensures) (p7 .wrapping-add-u322 .ensures) (p6 .end-tables .ensures) (p2 .set-field .ensures)
+
+pub fix-from-spec : {M : Type 1} → statement M
+fix-from-spec =
+    tie.close
+    (tie.spec
+    field-requires
+    field-requires-2
+    wrapping-add-u32-requires
+    fix-pairs-requires
+    fixed-to-requires
+    wrapping-add-u32-requires-2
+    end-tables-requires
+    set-field-requires
+    same-length
+    returns)

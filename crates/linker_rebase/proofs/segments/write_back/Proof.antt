@@ -1,0 +1,36 @@
+-- Refused or placed: `back-refused` and `back-put`.
+use borrow.Author.Needs.{needs}
+use Rattle.linker_rebase.proofs.Laws.{back-refused, back-put}
+use Rattle.linker_rebase.proofs.segments.write_back.Statement.{statement}
+use Rattle.linker_rebase.proofs.segments.write_back.Tie as tie
+
+enum-known-placed : tie.Need-enum-known-placed
+enum-known-placed c = search needs
+
+enum-told : tie.Need-enum-told
+enum-told c = search needs
+
+returns : tie.Need-returns
+returns c =
+    let p3 = c .before .before .before in
+    let a = p3 .args in
+    back-refused (a .at) (a .base) (a .index) (a .w .now) (c .enum-told .given .1)
+
+set-segment-requires : tie.Need-set-segment-requires
+set-segment-requires c κs = search needs
+
+same-length : tie.Need-same-length
+same-length c = search needs
+
+returns-2 : tie.Need-returns-2
+returns-2 c =
+    let p2 = c .before .before in
+    let p5 = p2 .before .before .before in
+    let p8 = p5 .before .before .before in
+    let a = p8 .args in
+    back-put (a .at) (a .base) (a .index) (a .w .now) (p5 .placed .given .1) (p2 .set-segment .ensures)
+
+pub write-back-spec : {M : Type 1} → statement M
+write-back-spec =
+    tie.close
+    (tie.spec enum-known-placed enum-told returns set-segment-requires same-length returns-2)

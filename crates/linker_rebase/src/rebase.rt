@@ -1,0 +1,60 @@
+// Rebasing: every stored offset becomes an address, and the relocations within the module are applied.
+ghost use mathlib.Core.Path.{_≡_};
+ghost use Rattle.window.specs.Access.{run};
+ghost use Rattle.linker.specs.declared.rebase.Moved.the-variants.{OldPlace};
+ghost use Rattle.linker.specs.Rebase.{isMagic};
+ghost use Rattle.linker.specs.Calls.{relocate, rebase, rebaseStatic};
+use super::segments::move_segments;
+use super::tables::move_tables;
+use super::words::move_header;
+use layout::fields::field;
+use layout::header::MAGIC;
+use linker::rebase::Lent;
+use linker::rebase::Moved;
+use linker::rebase::Rebased;
+use linker_relocation::internal::apply_internal_relocations;
+
+// Whether a word is `CRO0` or `CRS0`, lowest byte first.
+pub fn is_magic(word: u32) -> bool
+    ensures { λ r. ⌜ r ≡ isMagic word ⌝ }
+{
+    if word == 0x304F_5243 {
+        return true;
+    }
+    word == 0x3053_5243
+}
+
+// After the segments: the pointer tables, then the internal relocations.
+fn relocate(at: u32, w: &mut [u8], base: u32, old: u32) -> Rebased
+    ensures { λ r. ⌜ (r, now (w .exit)) ≡ run at (relocate base (OldPlace old)) (now (w .entry)) ⌝ }
+{
+    move_tables(at, w, true, base);
+    apply_internal_relocations(at, w, base, old);
+    Rebased::Done
+}
+
+// Prepares a module that a load lends.
+pub fn rebase(at: u32, w: &mut [u8], lent: Lent) -> Rebased
+    ensures { λ r. ⌜ (r, now (w .exit)) ≡ run at (rebase lent) (now (w .entry)) ⌝ }
+{
+    let base = lent.base;
+    if !is_magic(field(at, w, base, MAGIC)) {
+        return Rebased::NotACro;
+    }
+    move_header(at, w, true, base);
+    let Moved::OldPlace(old) = move_segments(at, w, lent) else {
+        return Rebased::BadSegment;
+    };
+    relocate(at, w, base, old)
+}
+
+// Prepares the static module: its segments are the main program's, already addresses, and stay as they are.
+pub fn rebase_static(at: u32, w: &mut [u8], base: u32) -> Rebased
+    ensures { λ r. ⌜ (r, now (w .exit)) ≡ run at (rebaseStatic base) (now (w .entry)) ⌝ }
+{
+    if !is_magic(field(at, w, base, MAGIC)) {
+        return Rebased::NotACro;
+    }
+    move_header(at, w, true, base);
+    relocate(at, w, base, 0)
+}
