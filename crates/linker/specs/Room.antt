@@ -15,6 +15,8 @@ use Rattle.register.specs.declared.words.Crs.the-variants.{Unknown, Known}
 use Rattle.register.specs.Module.{Export, Module, Register, proper, properModule, properNames}
 use Rattle.register.specs.Encode.{exportWords, exportNames, moduleNames, moduleWords, flag, recordWords, recordNames, encodeWords, crsKnown, crsBase}
 use Rattle.register.specs.Decode.{isRegister}
+use Rattle.register.specs.Proper.{proper-parts, parts-proper}
+use Rattle.register.specs.CheckIs.{is-register}
 use Rattle.register.specs.Slots.{length-slots}
 use Rattle.register.specs.Change.{appended}
 use Rattle.register.specs.Buffers.{Below, padded, encodeRecords, encodeNames, encodeMissing, encode-encodes}
@@ -23,7 +25,6 @@ use Rattle.register_append.specs.Laid.{below-append}
 use Rattle.register_append.specs.Held.{words-long}
 use Rattle.register_append.specs.Append.{names-append, words-append}
 use Rattle.register_append.specs.Stands.{appended-proper}
-use Rattle.register_change.specs.Encoded.{proper-parts, parts-proper, is-register}
 use Rattle.linker.specs.Calls.{fits}
 
 -- the bytes that a call leaves of r, in buffers of given lengths, are an encoding

@@ -18,10 +18,11 @@ use Rattle.register.specs.declared.words.Crs.the-variants.{Known}
 use Rattle.register.specs.Module.{Module, Register, proper, properNames}
 use Rattle.register.specs.Encode.{recordWords, encodeWords, crsBase, slots}
 use Rattle.register.specs.Decode.{isRegister}
+use Rattle.register.specs.Proper.{proper-parts}
+use Rattle.register.specs.CheckIs.{register-parts}
 use Rattle.register.specs.Change.{appended, removed, without, withCrs}
 use Rattle.register.specs.Buffers.{Below, padded, names-are, encodeRecords, encodeNames, encodeMissing}
 use Rattle.register_append.specs.Stands.{encoded-small}
-use Rattle.register_change.specs.Encoded.{proper-parts, register-parts}
 use Rattle.register_change.specs.Remove.{Stands, remaining}
 use Rattle.register_change.specs.Left.{remove-kept}
 use Rattle.register_read.specs.Read.{lookupIn}

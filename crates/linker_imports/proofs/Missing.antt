@@ -4,26 +4,20 @@ use mathlib.Core.Path.{_≡_, refl, ap, _∙_}
 use mathlib.Core.List.{List}
 use mathlib.Core.Bool.{Bool, true, false}
 use native.Mathlib.Omega.{arith}
-use lib.ListN.{length, take}
-use lib.Dec.{leb}
-use borrow.Author.Tests.{leb-true}
+use lib.ListN.{take}
 use Rattle.window.specs.Memory.{if_then_else_, _⊕_, wordAt}
 use Rattle.window.specs.Access.{Prog, ret, _>>=_, _>>_, run, run-bind}
 use Rattle.window.specs.Loop.{loop}
-use Rattle.window.specs.Name.{noZero, isName, nameAt, nameAt-reads, nameAt-isName, laidOver}
-use Rattle.window.specs.Tests.{both}
+use Rattle.window.specs.Name.{nameAt, nameAt-reads, nameAt-isName, laidOver}
 use Rattle.layout.specs.Header.{importNamedSymbolTableOffset, importNamedSymbolNum, importNamedSymbolEntrySize}
 use Rattle.layout.specs.Segments.{field, entryAt}
 use Rattle.register.specs.Module.{Register}
 use Rattle.register.specs.Decode.{readRegister, registerOf, isRegister}
-use Rattle.register.specs.CheckIs.{long}
-use Rattle.register.specs.Buffers.{names-are}
 use Rattle.register.specs.Change.{withMissing}
 use Rattle.register_read.specs.Read.{modulesOf, lookupIn}
 use Rattle.register_read.specs.declared.Symbol.{Symbol}
 use Rattle.register_read.specs.declared.Symbol.the-variants.{At, Nothing}
 use Rattle.register_change.specs.Bytes.{pushMissing}
-use Rattle.register_change.specs.Encoded.{register-parts}
 use Rattle.register_change.specs.Kept.{push-kept}
 use Rattle.linker.specs.Relocation.{applyRelocationBatch}
 use Rattle.linker.specs.Imports.{isUnresolved, resolve, noted, importNamed, applyImportNamedSymbols}
@@ -31,22 +25,6 @@ use Rattle.linker.specs.Calls.{missingNow}
 use Rattle.linker_relocation.specs.Runs.{after-reads, turn-made, turns-over}
 use Rattle.linker_imports.specs.Missing.{Noted}
 use Rattle.linker_imports.proofs.Laws.{name-is, waiting-reads, first-read, unresolved-stays, resolved-by}
-
--- the lengths of a register's buffers, and of a name
-
-pub register-sizes : (records names missing : List ℕ) → isRegister records names missing ≡ true → (32 ≤ length records) × (length missing ≡ 32896)
-register-sizes records names missing h =
-    let r = registerOf records names missing in
-    let p = register-parts records names missing h in
-    (let l = long records names missing r (p .0) (p .1) .1 in omega arith, names-are records names missing r (p .1) .2)
-
-pub name-short
-    : (at p : ℕ) (w old : List ℕ) {n : ℕ} {buffer : List ℕ} → (n, buffer) ≡ laidOver (run at (nameAt p) w .0) old → length (take n buffer) ≤ 512
-unfolding isName
-name-short at p w old e =
-    let name = run at (nameAt p) w .0 in
-    let k = leb-true (length name) 512 (both (leb (length name) 512) (noZero name) (nameAt-isName at p w) .0) in
-    rw (name-is name old e) k
 
 -- one import
 

@@ -4,19 +4,19 @@ use mathlib.Core.Path.{_≡_, refl, sym, ap, _∙_}
 use mathlib.Core.List.{List, [], _∷_}
 use mathlib.Core.Bool.{Bool, true, false, _&&_}
 use native.Mathlib.Omega.{arith}
-use lib.ListN.{length, take, drop, getD, set}
+use lib.ListN.{length, take, drop, getD, set, List·getD-eq-default}
 use lib.Seq.{getD-set-same, getD-set-other, drop-drop}
 use lib.Dec.{eqb, leb}
 use borrow.Author.Tests.{eq-eqb, ne-eqb, le-leb, lt-leb}
 use Rattle.window.specs.Memory.{if_then_else_}
 use Rattle.window.specs.Name.{noZero}
-use Rattle.register.specs.Words.{part, allZero, wordsIn}
+use Rattle.register.specs.Words.{part, allZero, wordsIn, length-words}
 use Rattle.register.specs.Decode.{slotLength, slotName, settled, settled-other, isRegister}
 use Rattle.register.specs.Check.{slotOk, slotsOk, countsOk, sizesOk, contentsOk, checked, passes}
-use Rattle.register.specs.CheckIs.{passes-is}
+use Rattle.register.specs.CheckIs.{length-settled, passes-is}
 use Rattle.register.proofs.Laws.{part-whole}
 
--- word 3: as it stands, or 32 where it and the count are 0
+-- word 3: as it stands, or 32 where it and the count are 0; 0 where there are not four words
 
 pub used-stands : (ws : List ℕ) {u : ℕ} → u ≡ getD ws 3 0 → (u ≡ 0 → ⊥) → u ≡ getD (settled ws) 3 0
 unfolding settled
@@ -33,6 +33,9 @@ used-none ws h e f = rw (eq-eqb (getD ws 0 0) 0 f, eq-eqb (getD ws 3 0) 0 e) (sy
 pub used-zero : (ws : List ℕ) → getD ws 3 0 ≡ 0 → (getD ws 0 0 ≡ 0 → ⊥) → 0 ≡ getD (settled ws) 3 0
 unfolding settled
 used-zero ws e n = rw (ne-eqb (getD ws 0 0) 0 n, e)
+
+pub used-short : (records : List ℕ) → length records < 16 → 0 ≡ getD (settled (wordsIn records)) 3 0
+used-short records h = sym (List·getD-eq-default (settled (wordsIn records)) 0 (omega (arith, length-settled (wordsIn records), length-words records)))
 
 -- the slots: `count` in all, k seen, place being 514 k
 

@@ -147,9 +147,9 @@ module _ (m : Module) (rest : List ℕ) (q : ℕ) where
   unfolding moduleWords
   name-word = refl
 
-  size-words : moduleSize ws ≡ length (moduleWords q m)
+  pub record-size : moduleSize ws ≡ length (moduleWords q m)
   unfolding moduleWords moduleSize
-  size-words =
+  record-size =
       let l = length-exportWords (q + length (m .name)) (m .named) in
       let a : length (segs ++ (ex ++ idx)) ≡ length segs + (length ex + length idx) = rw (length-append, length-append) in
       omega arith
@@ -190,7 +190,7 @@ module _ (m : Module) (rest names pre post : List ℕ) (q : ℕ) (en : names ≡
   unfolding fixedOk moduleWords
   fixed-passes =
       let n : length (ws m rest q) ≡ length (moduleWords q m) + length rest = length-append (moduleWords q m) rest in
-      let s = size-words m rest q in
+      let s = record-size m rest q in
       also (le-leb 8 (length (ws m rest q)) (omega arith))
       (also (le-leb (moduleSize (ws m rest q)) (length (ws m rest q)) (omega arith))
       (also (flag-small (m .auto))
@@ -210,7 +210,7 @@ module _ (m : Module) (rest names pre post : List ℕ) (q : ℕ) (en : names ≡
       record {
         end = end-passes;
         back = rw (flag-back (m .auto), name-part, segments-part m rest q, exports-back, indexed-part m rest q);
-        size = size-words m rest q;
+        size = record-size m rest q;
       }
 
 -- all records, to the end of the words and of the names

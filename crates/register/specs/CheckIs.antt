@@ -16,7 +16,8 @@ use Rattle.register.specs.Words.{part, same, allZero, holds, wordsIn, le
 use Rattle.register.specs.Lists.{same-true, same-refl, length-part}
 use Rattle.register.specs.declared.words.Crs.{Crs}
 use Rattle.register.specs.declared.words.Crs.the-variants.{Unknown, Known}
-use Rattle.register.specs.Module.{Module, Register, properModules, properNames, proper}
+use Rattle.register.specs.Module.{Module, Register, proper}
+use Rattle.register.specs.Proper.{Proper, proper-parts, parts-proper}
 use Rattle.register.specs.Encode.{recordWords, recordNames, crsKnown, crsBase, encodeWords, slots}
 use Rattle.register.specs.Decode.{readModules, readCrs, readSlots, settled, body, readRegister, encodes, registerOf, isRegister, decode}
 use Rattle.register.specs.Check.{modulesOk, slotsOk, countsOk, sizesOk, contentsOk, checked, passes}
@@ -177,11 +178,9 @@ module _ (records names missing : List ℕ) (small : (i : ℕ) → getD missing 
   sound-proper
       : Counts ws → Sizes (getD ws 3 0) (getD ws 4 0) (length records) (length names) → Records (body ws) (take (getD ws 4 0) names) (getD ws 0 0) 0
       → Slots (getD ws 5 0) missing → proper reg ≡ true
-  unfolding proper readRegister
+  unfolding readRegister
   sound-proper h z r s =
-      let a : leb (length ms) 64 ≡ true = rw (r .size) (le-leb (getD ws 0 0) 64 (h .count)) in
-      let b : leb (length (readSlots (getD ws 5 0) missing)) 64 ≡ true = rw (s .size) (le-leb (getD ws 5 0) 64 (h .kept)) in
-      also a (also (r .proper) (also b (s .proper)))
+      parts-proper reg record { count = rw (r .size) (h .count); modules = r .proper; few = rw (s .size) (h .kept); kept = s .proper }
 
   sound-encodes
       : Counts ws → Sizes (getD ws 3 0) (getD ws 4 0) (length records) (length names) → Records (body ws) (take (getD ws 4 0) names) (getD ws 0 0) 0
@@ -231,12 +230,11 @@ module _ (records names missing : List ℕ) (r : Register) (p : proper r ≡ tru
   abbrev w : List ℕ
   w = settled (wordsIn records)
 
-  -- the proper parts, and what each buffer holds
+  own : Proper r
+  own = proper-parts r p
+
+  -- what each buffer holds
   record Parts : Type 0 where
-    count : length (r .modules) ≤ 64
-    modules : properModules (r .modules) ≡ true
-    few : length (r .missing) ≤ 64
-    kept : properNames (r .missing) ≡ true
     words : take (length (encodeWords r)) (settled (wordsIn records)) ≡ encodeWords r
     rest : allZero (drop (4 * length (encodeWords r)) records) ≡ true
     named : take (length (recordNames (r .modules))) names ≡ recordNames (r .modules)
@@ -246,15 +244,8 @@ module _ (records names missing : List ℕ) (r : Register) (p : proper r ≡ tru
     unslotted : allZero (drop (length (slots (r .missing))) missing) ≡ true
 
   parts : Parts
-  unfolding proper encodes
+  unfolding encodes
   parts =
-      let s₀ : Bool = leb (length (r .modules)) 64 in
-      let s₁ : Bool = properModules (r .modules) in
-      let s₂ : Bool = leb (length (r .missing)) 64 in
-      let s₃ : Bool = properNames (r .missing) in
-      let a = both s₀ (s₁ && (s₂ && s₃)) p in
-      let b = both s₁ (s₂ && s₃) (a .1) in
-      let c = both s₂ s₃ (b .1) in
       let t₀ : Bool = same (take (length (encodeWords r)) (settled (wordsIn records))) (encodeWords r) in
       let t₁ : Bool = allZero (drop (4 * length (encodeWords r)) records) in
       let t₂ : Bool = holds names (recordNames (r .modules)) in
@@ -267,10 +258,6 @@ module _ (records names missing : List ℕ) (r : Register) (p : proper r ≡ tru
       let n = holds-parts names (recordNames (r .modules)) (g .0) in
       let m = holds-parts missing (slots (r .missing)) (h .1) in
       record {
-        count = leb-true (length (r .modules)) 64 (a .0);
-        modules = b .0;
-        few = leb-true (length (r .missing)) 64 (c .0);
-        kept = c .1;
         words = same-true (take (length (encodeWords r)) (settled (wordsIn records))) (encodeWords r) (f .0);
         rest = f .1;
         named = n .0;
@@ -340,11 +327,11 @@ module _ (records names missing : List ℕ) (r : Register) (p : proper r ≡ tru
   names-used = rw word₄ (parts .named)
 
   modules-stored : Stored (recordWords 0 (r .modules)) (recordNames (r .modules)) 0 (r .modules)
-  modules-stored = modules-complete (r .modules) (recordNames (r .modules)) [] 0 refl refl (parts .modules)
+  modules-stored = modules-complete (r .modules) (recordNames (r .modules)) [] 0 refl refl (own .modules)
 
   slots-kept : Kept (r .missing) missing
   slots-kept =
-      let s = slots-complete (r .missing) (drop (length (slots (r .missing))) missing) (parts .kept) in
+      let s = slots-complete (r .missing) (drop (length (slots (r .missing))) missing) (own .kept) in
       let m : missing ≡ slots (r .missing) ++ drop (length (slots (r .missing))) missing =
       sym (take-append-drop (length (slots (r .missing))) missing) ∙ ap (λ t. t ++ drop (length (slots (r .missing))) missing) (parts .slotted) in
       subst (Kept (r .missing)) (sym m) s
@@ -358,7 +345,7 @@ module _ (records names missing : List ℕ) (r : Register) (p : proper r ≡ tru
   unfolding countsOk
   counts-pass =
       rw (word₀, word₅, word₆, word₇, word₁, word₂)
-      (also (le-leb (length (r .modules)) 64 (parts .count)) (also (le-leb (length (r .missing)) 64 (parts .few)) (crs-passes (r .crs))))
+      (also (le-leb (length (r .modules)) 64 (own .count)) (also (le-leb (length (r .missing)) 64 (own .few)) (crs-passes (r .crs))))
 
   sizes-pass : sizesOk (getD w 3 0) (getD w 4 0) (length records) (length names) ≡ true
   unfolding sizesOk
@@ -375,7 +362,7 @@ module _ (records names missing : List ℕ) (r : Register) (p : proper r ≡ tru
       let b : wordsIn (part records 32 (getD w 3 0 - 32)) ≡ recordWords 0 (r .modules) =
       body-is records (omega (arith, word₃)) (omega (arith, word₃)) ∙ body-words in
       let u : getD w 3 0 ≡ 4 * length (encodeWords r) = word₃ ∙ ap (λ k. 4 * k) (sym size-words) in
-      let k : 514 * length (r .missing) ≡ length (slots (r .missing)) = sym (length-slots (r .missing) (parts .kept)) in
+      let k : 514 * length (r .missing) ≡ length (slots (r .missing)) = sym (length-slots (r .missing) (own .kept)) in
       rw (b, u, names-used, word₄, word₅, k, word₀)
       (also (modules-stored .end) (also (slots-kept .passes) (also (parts .rest) (also (parts .unnamed) (parts .unslotted)))))
 
@@ -385,10 +372,24 @@ module _ (records names missing : List ℕ) (r : Register) (p : proper r ≡ tru
       also (le-leb 32 (length records) (omega (arith, long .1)))
       (also counts-pass (also sizes-pass (also (eq-eqb (length missing) 32896 (parts .size)) contents-pass)))
 
+-- a register's buffers: what is read from them is proper and they encode it; and what encodes a proper register is one
+
+pub register-parts
+    : (records names missing : List ℕ) → isRegister records names missing ≡ true
+    → (proper (registerOf records names missing) ≡ true) × (encodes records names missing (registerOf records names missing) ≡ true)
+unfolding isRegister
+register-parts records names missing h =
+    both (proper (registerOf records names missing)) (encodes records names missing (registerOf records names missing)) h
+
+pub is-register
+    : (records names missing : List ℕ) (r : Register) → proper r ≡ true → encodes records names missing r ≡ true
+    → isRegister records names missing ≡ true
+unfolding isRegister
+is-register records names missing r p e = rw (read-back records names missing r p e) (also p e)
+
 -- the test is the definition
 pub passes-is
     : (records names missing : List ℕ) → ((i : ℕ) → getD missing i 0 < 256) → passes records names missing ≡ isRegister records names missing
-unfolding isRegister
 passes-is records names missing small =
     iff-same (passes records names missing) (isRegister records names missing) (sound records names missing small) back
   where
@@ -397,7 +398,7 @@ passes-is records names missing small =
 
     back : isRegister records names missing ≡ true → passes records names missing ≡ true
     back h =
-        let a = both (proper reg) (encodes records names missing reg) h in
+        let a = register-parts records names missing h in
         complete records names missing reg (a .0) (a .1)
 
 -- decode after encode gives the value back

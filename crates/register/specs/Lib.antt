@@ -2,6 +2,7 @@
 pub mod Words
 pub mod Lists
 pub mod Module
+pub mod Proper
 pub mod Order
 pub mod Encode
 pub mod Decode

@@ -137,9 +137,11 @@ fn modules_ok(records: &[u8], names: &[u8], count: u32) -> bool
 
 // The record bytes used; 0 is read as 32 when no module stands.
 pub fn used_bytes(records: &[u8]) -> u32
-    requires { ⌜ 32 ≤ length (now records) ⌝ }
     ensures { λ r. ⌜ r ≡ getD (settled (wordsIn (now (records .entry)))) 3 0 ⌝ }
 {
+    if records.len() < 16 {
+        return 0;
+    }
     let used = words::word(records, 3);
     if used != 0 {
         return used;

@@ -20,8 +20,9 @@ use Rattle.register.specs.Buffers.{Below, padded, length-flat, records-are, nam
 use Rattle.register_append.specs.declared.draft.Draft.{Draft}
 use Rattle.register_append.specs.declared.draft.Drafted.the-variants.{Open, Full}
 use Rattle.register_append.specs.Sets.{sets-inside, four-inside, word-below, store-word, flat-set, flat-append}
-use Rattle.register_append.specs.Draft.{roomIn, room-inside, room-word, usedBytes, usedNames, firstWords, draftAt, beginRecord, finishRecord, cleared, givenUp}
+use Rattle.register_append.specs.Draft.{roomIn, room-inside, room-word, usedBytes, usedNames, opened, firstWords, draftAt, beginRecord, finishRecord, cleared, givenUp}
 use Rattle.register_append.specs.Held.{Held}
+use Rattle.register_append.specs.Steps.{held-ready, ready-open}
 
 -- stores in the front of a list, and over zeros
 
@@ -205,7 +206,9 @@ module _ (l n missing : List ℕ) (r : Register) (p : proper r ≡ true) (e : en
         ≡ padded (length l) (flat (set (set (set w 0 c) 3 (d .end)) 4 (d .last))) =
         ap (λ t. setWordIn t 16 (d .last)) s₂ ∙ set-padded (length l) (set (set w 0 c) 3 (d .end)) 4 (d .last) (omega (arith, size)) in
         let q : length (moduleWords (d .names) m) ≡ length mw = ap (λ k. length (moduleWords k m)) en in
-        rw (first-word, v)
+        let o : opened d records ≡ true = ready-open d records names (held-ready l n d m records names h) in
+        let t : leb (d .last) 0xffff_ffff ≡ true = le-leb (d .last) 0xffff_ffff (omega (arith, h .name-room, room-word (length n))) in
+        rw (o, t, first-word, v)
         (s₃
         ∙ ap (λ t. padded (length l) (flat t))
         (words-appended r m (getD (wordsIn l) 3 0) (d .end) (d .last) (omega (arith, h .end, es))

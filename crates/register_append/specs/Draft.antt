@@ -58,9 +58,13 @@ unfoldable pub countUp : List ℕ → Draft → ℕ → List ℕ
 countUp records d field =
     setWordIn records (d .start + 4 * field) ((wordIn records (d .start + 4 * field) + 1) % 2 ^ 32)
 
+-- the record's first eight words come before its end, and its end is in the buffer; a draft of which this is not true is full
+unfoldable pub opened : Draft → List ℕ → Bool
+opened d records = leb (d .start + 32) (d .end) && leb (d .end) (roomIn (length records))
+
 unfoldable pub pushListed : List ℕ → Draft → ℕ → ℕ → Drafted × List ℕ
 pushListed records d field v =
-    if leb (d .end + 4) (roomIn (length records))
+    if opened d records && leb (d .end + 4) (roomIn (length records))
     then (Open (longer d 4), countUp (setWordIn records (d .end) v) (longer d 4) field)
     else (Full, records)
 
@@ -93,9 +97,15 @@ unfoldable pub putAt : Found → List ℕ → List ℕ → Draft → List ℕ �
 putAt (At k) records names d name address = (Open d, setWordIn records (exportPlace records d + 12 * k + 8) address, names)
 putAt Nothing records names d name address = addExport records names d name address
 
+-- the exports that it counts come before its end
+unfoldable pub countsInside : List ℕ → Draft → Bool
+countsInside records d = leb (exportPlace records d + 12 * exportCount records d) (d .end)
+
 unfoldable pub putExport : List ℕ → List ℕ → Draft → List ℕ → ℕ → Drafted × List ℕ × List ℕ
 putExport records names d name address =
-    putAt (findExport (exportsIn (wordsIn (exportsSoFar records d)) names) name) records names d name address
+    if opened d records && countsInside records d
+    then putAt (findExport (exportsIn (wordsIn (exportsSoFar records d)) names) name) records names d name address
+    else (Full, records, names)
 
 -- the first eight words of a record that has nothing yet but its name
 unfoldable pub firstWords : ℕ → ℕ → Bool → ℕ → ℕ → List ℕ
@@ -115,10 +125,12 @@ beginRecord records names base size auto name =
     )
     else (Full, records, names)
 
--- the header counts the record, and its words and names as used
+-- the header counts the record, and its words and names as used, where these are words
 unfoldable pub finishRecord : List ℕ → Draft → List ℕ
 finishRecord records d =
-    setWordIn (setWordIn (setWordIn records 0 ((wordIn records 0 + 1) % 2 ^ 32)) 12 (d .end)) 16 (d .last)
+    if opened d records && leb (d .last) 0xffff_ffff
+    then setWordIn (setWordIn (setWordIn records 0 ((wordIn records 0 + 1) % 2 ^ 32)) 12 (d .end)) 16 (d .last)
+    else records
 
 -- the record's bytes are free, and 0, again
 unfoldable pub cleared : List ℕ → ℕ → ℕ → List ℕ

@@ -16,7 +16,7 @@ use Rattle.register_append.specs.declared.draft.Draft.{Draft}
 use Rattle.register_append.specs.declared.draft.Drafted.{Drafted}
 use Rattle.register_append.specs.declared.draft.Drafted.the-variants.{Open, Full}
 use Rattle.register_append.specs.Sets.{push-laid, change-laid, word-laid, words-of}
-use Rattle.register_append.specs.Draft.{roomIn, longer, countUp, pushListed, exportWritten, exportPlace, exportCount, exportsSoFar}
+use Rattle.register_append.specs.Draft.{roomIn, longer, countUp, opened, pushListed, exportWritten, exportPlace, exportCount, exportsSoFar}
 
 -- a part of what was laid
 part-sets
@@ -66,14 +66,14 @@ module _ (l : List ℕ) (d : Draft) (ws : List ℕ) (e : d .end ≡ d .start + 4
 
   -- an address at the end, counted
   pub listed-laid
-      : (field v : ℕ) → field < length ws → v < 2 ^ 32 → getD ws field 0 + 1 < 2 ^ 32 → roomIn (length l) ≤ length l
+      : (field v : ℕ) → field < length ws → v < 2 ^ 32 → getD ws field 0 + 1 < 2 ^ 32 → roomIn (length l) ≤ length l → opened d held ≡ true
       → pushListed held d field v
       ≡ (if leb (d .end + 4) (roomIn (length l))
       then (Open (longer d 4), sets l (d .start) (flat (set (ws ++ (v ∷ [])) field (getD ws field 0 + 1))))
       else (Full, held))
   unfolding pushListed countUp longer
-  listed-laid field v h k s r =
-      rw (length-sets l (d .start) (flat ws)) (go (leb (d .end + 4) (roomIn (length l))) refl)
+  listed-laid field v h k s r o =
+      rw (o, length-sets l (d .start) (flat ws)) (go (leb (d .end + 4) (roomIn (length l))) refl)
     where
       n : length (ws ++ (v ∷ [])) ≡ length ws + 1
       n = length-append ws (v ∷ [])

@@ -5,18 +5,18 @@ use mathlib.Core.List.{List, [], _∷_, _++_}
 use mathlib.Core.Bool.{Bool, true, false, _&&_}
 use native.Mathlib.Omega.{arith}
 use lib.ListN.{length, take, drop, getD, set, replicate, length-append, length-set}
-use lib.Dec.{leb, eqb}
-use borrow.Author.Tests.{le-leb}
+use lib.Dec.{eqb}
 use Rattle.window.specs.Memory.{if_then_else_}
 use Rattle.window.specs.Tests.{both, also}
 use Rattle.window.specs.Bytes.{join}
 use Rattle.register.specs.Words.{same, allZero, holds, wordsIn}
 use Rattle.register.specs.Lists.{same-true}
-use Rattle.register.specs.Module.{Module, Register, properModule, properModules, properNames, proper}
+use Rattle.register.specs.Module.{Module, Register, properModule, properModules, proper}
+use Rattle.register.specs.Proper.{proper-parts, parts-proper}
 use Rattle.register.specs.Encode.{moduleNames, moduleWords, recordWords, recordNames, encodeWords, slots}
 use Rattle.register.specs.Decode.{settled, encodes, registerOf, isRegister}
 use Rattle.register.specs.Change.{appended}
-use Rattle.register.specs.CheckIs.{read-back}
+use Rattle.register.specs.CheckIs.{read-back, is-register}
 use Rattle.register.specs.Buffers.{Below, padded, encodeRecords, encodeNames, encodeMissing, names-are, encode-encodes}
 use Rattle.register_append.specs.declared.draft.Draft.{Draft}
 use Rattle.register_append.specs.Draft.{roomIn, room-inside, room-word, finishRecord}
@@ -69,16 +69,11 @@ proper-more [] m p q = also q refl
 proper-more (x ∷ ms) m p q = let a = both (properModule x) (properModules ms) p in also (a .0) (proper-more ms m (a .1) q)
 
 pub appended-proper : (r : Register) (m : Module) → proper r ≡ true → properModule m ≡ true → length (r .modules) < 64 → proper (appended r m) ≡ true
-unfolding proper appended
+unfolding appended
 appended-proper r m p q few =
-    let s₀ : Bool = leb (length (r .modules)) 64 in
-    let s₁ : Bool = properModules (r .modules) in
-    let s₂ : Bool = leb (length (r .missing)) 64 in
-    let s₃ : Bool = properNames (r .missing) in
-    let a = both s₀ (s₁ && (s₂ && s₃)) p in
-    let b = both s₁ (s₂ && s₃) (a .1) in
+    let a = proper-parts r p in
     let n : length (r .modules ++ (m ∷ [])) ≡ length (r .modules) + 1 = length-append (r .modules) (m ∷ []) in
-    also (le-leb (length (r .modules ++ (m ∷ []))) 64 (omega arith)) (also (proper-more (r .modules) m (b .0) q) (b .1))
+    parts-proper (appended r m) record { count = omega arith; modules = proper-more (r .modules) m (a .modules) q; few = a .few; kept = a .kept }
 
 module _ (l n missing : List ℕ) (r : Register) (p : proper r ≡ true) (e : encodes l n missing r ≡ true) (b : Below 256 l) (d : Draft) (m : Module)
     (records names : List ℕ) (h : Held l n d m records names) (es : d .start ≡ 4 * length (encodeWords r))
@@ -149,7 +144,8 @@ module _ (l n missing : List ℕ) (r : Register) (p : proper r ≡ true) (e : en
         encodes-appended)
 
     pub still-register : isRegister (finishRecord records d) names missing ≡ true
-    unfolding isRegister
     still-register =
-        rw (stands, finished l n missing r p e b d m records names h es en few, finished-names l n missing r p e b d m records names h es en)
-        (also (appended-proper r m p pm few) encodes-appended)
+        rw (finished l n missing r p e b d m records names h es en few, finished-names l n missing r p e b d m records names h es en)
+        (is-register (encodeRecords (length l) (appended r m)) (encodeNames (length n) (appended r m)) missing (appended r m)
+        (appended-proper r m p pm few)
+        encodes-appended)

@@ -10,6 +10,7 @@ use lib.Dec.{leb}
 use borrow.Author.Tests.{leb-true, le-leb, lt-leb}
 use Rattle.window.specs.Memory.{if_then_else_}
 use Rattle.window.specs.Word.{setWordIn}
+use Rattle.window.specs.Tests.{also}
 use Rattle.register.specs.Words.{part, flat, wordsIn}
 use Rattle.register.specs.Module.{Export, Module, findExport, named-ok}
 use Rattle.register.specs.Encode.{exportWords, exportNames, moduleNames, moduleWords}
@@ -24,7 +25,7 @@ use Rattle.register_append.specs.declared.draft.Draft.{Draft}
 use Rattle.register_append.specs.declared.draft.Drafted.{Drafted}
 use Rattle.register_append.specs.declared.draft.Drafted.the-variants.{Open, Full}
 use Rattle.register_append.specs.Sets.{change-laid, sets-append}
-use Rattle.register_append.specs.Draft.{roomIn, room-inside, room-word, longer, pushListed, addedTo, exportWritten, addExport, exportPlace, exportCount, exportsSoFar, putAt, putExport}
+use Rattle.register_append.specs.Draft.{roomIn, room-inside, room-word, longer, opened, pushListed, addedTo, exportWritten, addExport, exportPlace, exportCount, exportsSoFar, putAt, countsInside, putExport}
 use Rattle.register_append.specs.Laid.{listed-laid, export-laid, so-far-laid, below-append, below-one, below-three}
 use Rattle.register_append.specs.Held.{Held, found-inside, words-indexed, words-segment, words-export, words-again, names-again, names-export, words-long, below-set}
 
@@ -32,6 +33,44 @@ export-part : (q : ℕ) (m : Module) → part (moduleWords q m) (8 + length (m .
     ≡ exportWords (q + length (m .name)) (m .named)
 unfolding moduleWords exportPart
 export-part q m = ap exportPart (sym (append-nil (moduleWords q m))) ∙ exports-part m [] q
+
+-- what the steps test of places and lengths, all of it true of buffers that hold a module
+
+pub record Ready (d : Draft) (records names : List ℕ) : Type 0 where
+  pub first-words : d .start + 32 ≤ d .end
+  pub room : d .end ≤ roomIn (length records)
+  pub name-order : d .names ≤ d .last
+  pub name-room : d .last ≤ roomIn (length names)
+  pub exports-inside : exportPlace records d + 12 * exportCount records d ≤ d .end
+
+pub held-ready : (l n : List ℕ) (d : Draft) (m : Module) (records names : List ℕ) → Held l n d m records names → Ready d records names
+unfolding moduleWords
+held-ready l n d m records names h =
+    let q = d .names in
+    let w = words-long q m in
+    let g : d .start + 4 * length (moduleWords q m) ≤ length l = omega (arith, h .end, h .room, room-inside (length l)) in
+    let p = so-far-laid l d (moduleWords q m) (h .end) (h .small) (omega arith) g (omega arith) in
+    let e : exportPlace records d ≡ d .start + 4 * (8 + length (m .segments)) = rw (h .words) (p .0) in
+    let c : exportCount records d ≡ length (m .named) = rw (h .words) (p .1) in
+    let lr : length records ≡ length l = ap length (h .words) ∙ length-sets l (d .start) (flat (moduleWords q m)) in
+    let ln : length names ≡ length n = ap length (h .bytes) ∙ length-sets n q (moduleNames m) in
+    record {
+      first-words = omega (arith, h .end, w);
+      room = rw lr (h .room);
+      name-order = omega (arith, h .last);
+      name-room = rw ln (h .name-room);
+      exports-inside = omega (arith, e, c, h .end, w);
+    }
+
+pub ready-open : (d : Draft) (records names : List ℕ) → Ready d records names → opened d records ≡ true
+unfolding opened
+ready-open d records names r =
+    also (le-leb (d .start + 32) (d .end) (r .first-words)) (le-leb (d .end) (roomIn (length records)) (r .room))
+
+ready-exports : (d : Draft) (records names : List ℕ) → Ready d records names → (opened d records && countsInside records d) ≡ true
+unfolding countsInside
+ready-exports d records names r =
+    also (ready-open d records names r) (le-leb (exportPlace records d + 12 * exportCount records d) (d .end) (r .exports-inside))
 
 module _ (l n : List ℕ) (d : Draft) (m : Module) (records names : List ℕ) (h : Held l n d m records names) where
   abbrev ws : List ℕ
@@ -58,6 +97,7 @@ module _ (l n : List ℕ) (d : Draft) (m : Module) (records names : List ℕ) (h
       (omega (arith, few))) in
       let p : pushListed (sets l (d .start) (flat ws)) d field a ≡ (Open (longer d 4), sets l (d .start) (flat (moduleWords (d .names) m′))) =
       listed-laid l d ws (h .end) (h .small) field a f k (omega (arith, few)) (room-inside (length l))
+      (subst (λ t. opened d t ≡ true) (h .words) (ready-open d records names (held-ready l n d m records names h)))
       ∙ rw (le-leb (d .end + 4) (roomIn (length l)) g, w) in (
         ap (λ t. pushListed t d field a) (h .words) ∙ p,
         record {
@@ -76,7 +116,7 @@ module _ (l n : List ℕ) (d : Draft) (m : Module) (records names : List ℕ) (h
   unfolding pushListed
   listed-none field a g =
       let e : length records ≡ length l = ap length (h .words) ∙ length-sets l (d .start) (flat ws) in
-      rw (e, lt-leb (d .end + 4) (roomIn (length l)) g)
+      rw (ready-open d records names (held-ready l n d m records names h), e, lt-leb (d .end + 4) (roomIn (length l)) g)
 
   pub step-segment
       : (a : ℕ) → a < 2 ^ 32 → m .named ≡ [] → m .indexed ≡ [] → d .end + 4 ≤ roomIn (length l)
@@ -96,38 +136,6 @@ module _ (l n : List ℕ) (d : Draft) (m : Module) (records names : List ℕ) (h
       listed 7 a (withIndexed m a) (omega (arith, words-long (d .names) m)) k (omega (arith, words-long (d .names) m))
       (words-indexed (d .names) m a) refl g
 
--- what the steps require of places and lengths, all of it true of buffers that hold a module
-
-pub record Ready (d : Draft) (records names : List ℕ) : Type 0 where
-  pub first-words : d .start + 32 ≤ length records
-  pub inside : d .end ≤ length records
-  pub name-order : d .names ≤ d .last
-  pub names-inside : d .last ≤ length names
-  pub end-word : d .end < 2 ^ 32
-  pub last-word : d .last < 2 ^ 32
-  pub exports-inside : exportPlace records d + 12 * exportCount records d ≤ length records
-
-pub held-ready : (l n : List ℕ) (d : Draft) (m : Module) (records names : List ℕ) → Held l n d m records names → Ready d records names
-unfolding moduleWords
-held-ready l n d m records names h =
-    let q = d .names in
-    let w = words-long q m in
-    let g : d .start + 4 * length (moduleWords q m) ≤ length l = omega (arith, h .end, h .room, room-inside (length l)) in
-    let p = so-far-laid l d (moduleWords q m) (h .end) (h .small) (omega arith) g (omega arith) in
-    let e : exportPlace records d ≡ d .start + 4 * (8 + length (m .segments)) = rw (h .words) (p .0) in
-    let c : exportCount records d ≡ length (m .named) = rw (h .words) (p .1) in
-    let lr : length records ≡ length l = ap length (h .words) ∙ length-sets l (d .start) (flat (moduleWords q m)) in
-    let ln : length names ≡ length n = ap length (h .bytes) ∙ length-sets n q (moduleNames m) in
-    record {
-      first-words = omega (arith, g, w, lr);
-      inside = omega (arith, h .room, room-inside (length l), lr);
-      name-order = omega (arith, h .last);
-      names-inside = omega (arith, h .name-room, room-inside (length n), ln);
-      end-word = omega (arith, h .room, room-word (length l));
-      last-word = omega (arith, h .name-room, room-word (length n));
-      exports-inside = omega (arith, e, c, g, w, lr);
-    }
-
 -- exports: those so far are the module's
 
 six : (q : ℕ) (m : Module) → getD (moduleWords q m) 6 0 ≡ length (m .named)
@@ -144,6 +152,9 @@ module _ (l n : List ℕ) (d : Draft) (m : Module) (records names : List ℕ) (h
 
   abbrev ex : List ℕ
   ex = exportWords (q + length (m .name)) (m .named)
+
+  guards : (opened d records && countsInside records d) ≡ true
+  guards = ready-exports d records names (held-ready l n d m records names h)
 
   place-of : d .start + 4 * length (moduleWords q m) ≤ length l
   place-of = omega (arith, h .end, h .room, room-inside (length l))
@@ -193,7 +204,7 @@ module _ (l n : List ℕ) (d : Draft) (m : Module) (records names : List ℕ) (h
       let c : setWordIn records (exportPlace records d + 12 * k + 8) a ≡ sets l (d .start) (flat (moduleWords q (withExport m name a))) =
       rw p (ap (λ t. setWordIn t (d .start + 4 * i) a) (h .words) ∙ change-laid l (d .start) (moduleWords q m) i a (omega arith)
       ∙ ap (λ t. sets l (d .start) (flat t)) w) in (
-        rw (exports-held, f, c),
+        rw (guards, exports-held, f, c),
         record {
           end = h .end ∙ ap (λ t. d .start + 4 * t) (sym z);
           last = h .last ∙ ap (λ t. q + length t) (sym s);
@@ -238,7 +249,7 @@ module _ (l n : List ℕ) (d : Draft) (m : Module) (records names : List ℕ) (h
       let e : sets names (d .last) name ≡ sets n q (moduleNames (withExport m name a)) =
       ap (λ t. sets t (d .last) name) (h .bytes) ∙ ap (λ t. sets (sets n q (moduleNames m)) t name) (h .last)
       ∙ sym (sets-append n q (moduleNames m) name) ∙ ap (sets n q) (sym s) in (
-        rw (exports-held, f, er, en, le-leb (d .end + 12) (roomIn (length l)) g, le-leb (d .last + length name) (roomIn (length n)) gn, c, e),
+        rw (guards, exports-held, f, er, en, le-leb (d .end + 12) (roomIn (length l)) g, le-leb (d .last + length name) (roomIn (length n)) gn, c, e),
         record {
           end = omega (arith, h .end);
           last = omega (arith, h .last, ap length s, ls);
@@ -263,4 +274,4 @@ module _ (l n : List ℕ) (d : Draft) (m : Module) (records names : List ℕ) (h
   step-export-none name a f g =
       let er : length records ≡ length l = ap length (h .words) ∙ length-sets l (d .start) (flat (moduleWords q m)) in
       let en : length names ≡ length n = ap length (h .bytes) ∙ length-sets n q (moduleNames m) in
-      rw (exports-held, f, er, en, g)
+      rw (guards, exports-held, f, er, en, g)

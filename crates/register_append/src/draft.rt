@@ -1,12 +1,12 @@
 // The record that is being written.
 ghost use mathlib.Core.Path.{_≡_};
 ghost use mathlib.Core.List.{[], _∷_};
-ghost use Prim.Native.Nat.{_+_, _*_, _≤_, _<_, _^_};
+ghost use Prim.Native.Nat.{_+_, _*_, _≤_, _<_};
 ghost use lib.Seq.{sets};
 ghost use lib.ListN.{length};
 ghost use Rattle.register.specs.Words.{flat};
 ghost use Rattle.register.specs.Encode.{flag};
-ghost use Rattle.register_append.specs.Draft.{pushWord, countUp, pushListed, addExport, putExport, beginRecord, finishRecord, givenUp, exportPlace, exportCount};
+ghost use Rattle.register_append.specs.Draft.{pushWord, opened, countUp, pushListed, addExport, putExport, beginRecord, finishRecord, givenUp};
 use crate::bytes;
 use register::check;
 use register::exports;
@@ -48,6 +48,16 @@ fn push_word(records: &mut [u8], draft: Draft, value: u32) -> Drafted
     })
 }
 
+// Whether the record's first eight words come before its end, and its end is in the buffer.
+fn is_open(records: &[u8], draft: Draft) -> bool
+    ensures { λ r. ⌜ r ≡ opened draft (now (records .entry)) ⌝ }
+{
+    if !bytes::fits(draft.end, draft.start, 32) {
+        return false;
+    }
+    draft.end <= bytes::room(records.len())
+}
+
 // Adds one to word number `field` of the record.
 fn count_up(records: &mut [u8], draft: Draft, field: usize)
     requires { ⌜ (field < 8) × (draft .start + 32 ≤ length (now records)) ⌝ }
@@ -60,9 +70,12 @@ fn count_up(records: &mut [u8], draft: Draft, field: usize)
 
 // Writes an address at the record's end and counts it in word number `field`.
 fn push_listed(records: &mut [u8], draft: Draft, field: usize, address: u32) -> Drafted
-    requires { ⌜ (field < 8) × (draft .start + 32 ≤ length (now records)) ⌝ }
+    requires { ⌜ field < 8 ⌝ }
     ensures { λ r. ⌜ (r, now (records .exit)) ≡ pushListed (now (records .entry)) draft field address ⌝ }
 {
+    if !is_open(records, draft) {
+        return Drafted::Full;
+    }
     match push_word(records, draft, address) {
         Drafted::Full => Drafted::Full,
         Drafted::Open(next) => {
@@ -74,7 +87,6 @@ fn push_listed(records: &mut [u8], draft: Draft, field: usize, address: u32) -> 
 
 // Writes an address of a segment; no export stands yet.
 pub fn push_segment(records: &mut [u8], draft: Draft, address: u32) -> Drafted
-    requires { ⌜ draft .start + 32 ≤ length (now records) ⌝ }
     ensures { λ r. ⌜ (r, now (records .exit)) ≡ pushListed (now (records .entry)) draft 5 address ⌝ }
 {
     push_listed(records, draft, 5, address)
@@ -82,7 +94,6 @@ pub fn push_segment(records: &mut [u8], draft: Draft, address: u32) -> Drafted
 
 // Writes an address of an indexed export; all named ones stand.
 pub fn push_indexed(records: &mut [u8], draft: Draft, address: u32) -> Drafted
-    requires { ⌜ draft .start + 32 ≤ length (now records) ⌝ }
     ensures { λ r. ⌜ (r, now (records .exit)) ≡ pushListed (now (records .entry)) draft 7 address ⌝ }
 {
     push_listed(records, draft, 7, address)
@@ -96,17 +107,17 @@ fn add_export(
     name: &[u8],
     address: u32,
 ) -> Drafted
-    requires { ⌜ (draft .start + 32 ≤ length (now records)) × (draft .last < 2 ^ 32) × (length (now name) ≤ 512) × (draft .end < 2 ^ 32) ⌝ }
+    requires { ⌜ draft .start + 32 ≤ length (now records) ⌝ }
     ensures { λ r. ⌜ (r, now (records .exit), now (names .exit))
         ≡ addExport (now (records .entry)) (now (names .entry)) draft (now (name .entry)) address ⌝ }
 {
     let end = draft.end;
     let last = draft.last;
     let count = name.len();
-    if bytes::room(records.len()) < end + 12 {
+    if !bytes::fits(bytes::room(records.len()), end, 12) {
         return Drafted::Full;
     }
-    if bytes::room(names.len()) < last + count {
+    if !bytes::fits(bytes::room(names.len()), last, count) {
         return Drafted::Full;
     }
     window::store32(records, end, last as u32);
@@ -130,14 +141,18 @@ pub fn put_export(
     name: &[u8],
     address: u32,
 ) -> Drafted
-    requires { ⌜ (draft .start + 32 ≤ length (now records)) × (draft .last < 2 ^ 32) × (length (now name) ≤ 512) × (draft .end < 2 ^ 32)
-        × (exportPlace (now records) draft + 12 * exportCount (now records) draft ≤ length (now records)) ⌝ }
     ensures { λ r. ⌜ (r, now (records .exit), now (names .exit))
         ≡ putExport (now (records .entry)) (now (names .entry)) draft (now (name .entry)) address ⌝ }
 {
+    if !is_open(records, draft) {
+        return Drafted::Full;
+    }
     let start = draft.start;
     let from = start + 4 * (8 + (window::load32(records, start + 20) as usize));
     let to = from + 12 * (window::load32(records, start + 24) as usize);
+    if draft.end < to {
+        return Drafted::Full;
+    }
     match exports::find_export(&records[from..to], names, name) {
         Found::At(k) => {
             window::store32(records, from + 12 * k + 8, address);
@@ -189,7 +204,6 @@ pub fn begin_record(
     auto_link: bool,
     name: &[u8],
 ) -> Drafted
-    requires { ⌜ (32 ≤ length (now records)) × (length (now name) ≤ 512) ⌝ }
     ensures { λ r. ⌜ (r, now (records .exit), now (names .exit))
         ≡ beginRecord (now (records .entry)) (now (names .entry)) base size «auto_link» (now (name .entry)) ⌝ }
 {
@@ -226,9 +240,14 @@ pub fn begin_record(
 
 // Counts the record in the header: it stands.
 pub fn finish_record(records: &mut [u8], draft: Draft)
-    requires { ⌜ (32 ≤ length (now records)) × (draft .end < 2 ^ 32) × (draft .last < 2 ^ 32) ⌝ }
     ensures { λ _. ⌜ now (records .exit) ≡ finishRecord (now (records .entry)) draft ⌝ }
 {
+    if !is_open(records, draft) {
+        return;
+    }
+    if 0xFFFF_FFFF < draft.last {
+        return;
+    }
     let count = window::load32(records, 0);
     window::store32(records, 0, std::num::wrapping_add_u32(count, 1));
     window::store32(records, 12, draft.end as u32);
@@ -237,8 +256,6 @@ pub fn finish_record(records: &mut [u8], draft: Draft)
 
 // Gives the record up: its bytes are free, and 0, again.
 pub fn give_up(records: &mut [u8], names: &mut [u8], draft: Draft)
-    requires { ⌜ (draft .start ≤ draft .end) × (draft .end ≤ length (now records)) × (draft .names ≤ draft .last)
-        × (draft .last ≤ length (now names)) ⌝ }
     ensures { λ _. ⌜ (now (records .exit), now (names .exit)) ≡ givenUp (now (records .entry)) (now (names .entry)) draft ⌝ }
 {
     bytes::clear(records, draft.start, draft.end);

@@ -3,22 +3,27 @@ use Prim.Native.Nat.{ℕ, zero, suc, _+_, _*_, _/_, _%_}
 use mathlib.Core.List.{List, _∷_, _++_}
 use lib.ListN.{length, take, drop, replicate}
 use lib.Seq.{sets}
-use lib.Dec.{ltb}
+use lib.Dec.{eqb, ltb, leb}
+use mathlib.Core.Bool.{Bool, _&&_}
 use Rattle.window.specs.Memory.{if_then_else_, _⊖_}
 use Rattle.window.specs.Word.{wordIn, setWordIn}
 
--- header words 1 and 2
+-- header words 1 and 2, where there is a header
 unfoldable pub setCrs : List ℕ → ℕ → List ℕ
-setCrs records base = setWordIn (setWordIn records 4 1) 8 base
+setCrs records base = if ltb (length records) 32 then records else setWordIn (setWordIn records 4 1) 8 base
 
 -- a 16-bit length, lowest byte first, and the name
 unfoldable pub putSlot : List ℕ → ℕ → List ℕ → List ℕ
 putSlot missing place name = sets missing place (length name % 256 ∷ length name / 256 ∷ name)
 
+-- the lengths of a register's buffers and of a name
+unfoldable pub takesName : ℕ → ℕ → ℕ → Bool
+takesName records missing count = leb 32 records && (eqb missing 32896 && leb count 512)
+
 -- "Missing names stop at 64"; word 5 counts them
 unfoldable pub pushMissing : List ℕ → List ℕ → List ℕ → List ℕ × List ℕ
 pushMissing records missing name =
-    if ltb (wordIn records 20) 64
+    if takesName (length records) (length missing) (length name) && ltb (wordIn records 20) 64
     then (setWordIn records 20 (wordIn records 20 + 1), putSlot missing (514 * wordIn records 20) name)
     else (records, missing)
 

@@ -6,57 +6,19 @@ use mathlib.Core.Bool.{Bool, true, false, _&&_}
 use native.Mathlib.Omega.{arith}
 use lib.ListN.{length, take, drop, getD, set, length-set}
 use lib.Seq.{set-getD, set-comm, getD-set-other, drop-set-lt, take-set-lt}
-use lib.Dec.{eqb, leb}
-use borrow.Author.Tests.{eq-eqb, ne-eqb, leb-true, le-leb}
+use lib.Dec.{eqb}
+use borrow.Author.Tests.{eq-eqb, ne-eqb}
 use Rattle.window.specs.Memory.{if_then_else_}
 use Rattle.window.specs.Bytes.{byteOf, join, join-bytes}
 use Rattle.window.specs.Word.{setWordIn}
 use Rattle.window.specs.Tests.{both, also}
 use Rattle.register.specs.Words.{same, allZero, holds, flat, wordsIn, length-words}
 use Rattle.register.specs.Lists.{same-true, same-refl}
-use Rattle.register.specs.Module.{Register, proper, properModules, properNames}
+use Rattle.register.specs.Module.{Register, proper}
 use Rattle.register.specs.Encode.{encodeWords, recordNames, slots}
-use Rattle.register.specs.Decode.{settled, settled-other, encodes, registerOf, isRegister}
-use Rattle.register.specs.CheckIs.{begins-long, length-settled, read-back, long, size-words, word₀, word₃}
+use Rattle.register.specs.Decode.{settled, settled-other, encodes}
+use Rattle.register.specs.CheckIs.{begins-long, length-settled, long, size-words, word₀, word₃}
 use Rattle.register.specs.Buffers.{Below, padded, records-are, encodeRecords}
-
--- what encodes a proper register is a register
-pub is-register
-    : (records names missing : List ℕ) (r : Register) → proper r ≡ true → encodes records names missing r ≡ true
-    → isRegister records names missing ≡ true
-unfolding isRegister
-is-register records names missing r p e = rw (read-back records names missing r p e) (also p e)
-
-pub register-parts
-    : (records names missing : List ℕ) → isRegister records names missing ≡ true
-    → (proper (registerOf records names missing) ≡ true) × (encodes records names missing (registerOf records names missing) ≡ true)
-unfolding isRegister
-register-parts records names missing h =
-    both (proper (registerOf records names missing)) (encodes records names missing (registerOf records names missing)) h
-
--- the parts of a proper register
-pub record Proper (r : Register) : Type 0 where
-  pub count : length (r .modules) ≤ 64
-  pub modules : properModules (r .modules) ≡ true
-  pub few : length (r .missing) ≤ 64
-  pub kept : properNames (r .missing) ≡ true
-
-pub proper-parts : (r : Register) → proper r ≡ true → Proper r
-unfolding proper
-proper-parts r p =
-    let t₁ : Bool = leb (length (r .modules)) 64 in
-    let t₂ : Bool = properModules (r .modules) in
-    let t₃ : Bool = leb (length (r .missing)) 64 in
-    let t₄ : Bool = properNames (r .missing) in
-    let a = both t₁ (t₂ && (t₃ && t₄)) p in
-    let b = both t₂ (t₃ && t₄) (a .1) in
-    let c = both t₃ t₄ (b .1) in
-    record { count = leb-true (length (r .modules)) 64 (a .0); modules = b .0; few = leb-true (length (r .missing)) 64 (c .0); kept = c .1 }
-
-pub parts-proper : (r : Register) → Proper r → proper r ≡ true
-unfolding proper
-parts-proper r p =
-    also (le-leb (length (r .modules)) 64 (p .count)) (also (p .modules) (also (le-leb (length (r .missing)) 64 (p .few)) (p .kept)))
 
 -- "0 is read as 32" only when no module stands
 settled-some : (ws : List ℕ) → (getD ws 0 0 ≡ 0 → ⊥) → settled ws ≡ ws
@@ -66,6 +28,18 @@ settled-some ws n = rw (ne-eqb (getD ws 0 0) 0 n)
 pub eight : (r : Register) → 8 ≤ length (encodeWords r)
 unfolding encodeWords
 eight r = omega arith
+
+-- so the bytes of one have a header
+pub header-there : (records names missing : List ℕ) (r : Register) → encodes records names missing r ≡ true → 32 ≤ length records
+unfolding encodes
+header-there records names missing r e =
+    let c = encodeWords r in
+    let ws = settled (wordsIn records) in
+    let t₁ : Bool = same (take (length c) ws) c in
+    let t₂ : Bool = allZero (drop (4 * length c) records) in
+    let t₃ : Bool = holds names (recordNames (r .modules)) && (eqb (length missing) 32896 && holds missing (slots (r .missing))) in
+    let g = same-true (take (length c) ws) c (both t₁ t₂ (both (t₁ && t₂) t₃ e .0) .0) in
+    omega (arith, eight r, begins-long c ws g, length-settled (wordsIn records), length-words records)
 
 -- with a module, the bytes are the encoding
 pub records-exact
@@ -139,8 +113,7 @@ store-encodes records names missing missing′ r r′ i v e n₀ n₃ h b w m l 
     let f = both t₁ t₂ (a .0) in
     let g : take (length c) ws ≡ c = same-true (take (length c) ws) c (f .0) in
     let o : 8 ≤ length c = eight r in
-    let p = begins-long c ws g in
-    let q : i < length records / 4 = omega (arith, length-settled (wordsIn records), length-words records) in
+    let q : i < length records / 4 = omega (arith, header-there records names missing r e) in
     let x : take (length (set c i v)) (settled (wordsIn (setWordIn records (4 * i) v))) ≡ set c i v =
     rw (words-store records i v b q, settled-store (wordsIn records) i v n₀ n₃, length-set c i v)
     (take-set-lt (length c) ws i v (omega arith) ∙ ap (λ t. set t i v) g) in

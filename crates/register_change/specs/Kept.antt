@@ -7,21 +7,22 @@ use native.Mathlib.Omega.{arith}
 use lib.ListN.{length, drop, replicate, length-append, length-replicate, replicate-append-replicate}
 use lib.Seq.{sets-eq, length-sets, take-append-seam, drop-append-add, drop-at}
 use lib.Dec.{leb, ltb}
-use borrow.Author.Tests.{leb-true, ltb-true}
+use borrow.Author.Tests.{leb-true, ltb-true, le-ltb, le-leb, eq-eqb}
 use Rattle.window.specs.Memory.{if_then_else_}
 use Rattle.window.specs.Name.{isName, noZero}
 use Rattle.window.specs.Word.{wordIn, setWordIn}
 use Rattle.window.specs.Tests.{both, also}
 use Rattle.register.specs.Words.{holds, wordsIn, word-row}
 use Rattle.register.specs.Module.{Register, proper, properNames}
+use Rattle.register.specs.Proper.{Proper, proper-parts, parts-proper}
 use Rattle.register.specs.Encode.{encodeWords, crsKnown, crsBase, slot, slots}
 use Rattle.register.specs.Decode.{settled-other, encodes, registerOf, isRegister}
 use Rattle.register.specs.Slots.{length-slot, length-slots}
-use Rattle.register.specs.CheckIs.{long, read-back, word₅}
+use Rattle.register.specs.CheckIs.{long, read-back, word₅, register-parts, is-register}
 use Rattle.register.specs.Buffers.{padded, padded-holds, names-are}
 use Rattle.register.specs.Change.{withCrs, withMissing}
-use Rattle.register_change.specs.Bytes.{setCrs, putSlot, pushMissing}
-use Rattle.register_change.specs.Encoded.{Proper, proper-parts, parts-proper, is-register, register-parts, store-encodes}
+use Rattle.register_change.specs.Bytes.{setCrs, putSlot, takesName, pushMissing}
+use Rattle.register_change.specs.Encoded.{header-there, store-encodes}
 
 -- the CRS
 
@@ -31,7 +32,8 @@ module _ (records names missing : List ℕ) (base : ℕ) (b : base < 2 ^ 32) whe
   crs-encodes r e =
       let m = names-are records names missing r e in
       let h : holds missing (slots (r .missing)) ≡ true = rw (m .1) (padded-holds (length missing) (slots (r .missing))) in
-      store-encodes (setWordIn records 4 1) names missing missing (withCrs r (crsBase (r .crs))) (withCrs r base) 2 base
+      rw (le-ltb (length records) 32 (header-there records names missing r e))
+      (store-encodes (setWordIn records 4 1) names missing missing (withCrs r (crsBase (r .crs))) (withCrs r base) 2 base
       (store-encodes records names missing missing r (withCrs r (crsBase (r .crs))) 1 1 e (λ z. omega arith) (λ z. omega arith) (omega arith)
       (omega arith)
       refl
@@ -45,7 +47,7 @@ module _ (records names missing : List ℕ) (base : ℕ) (b : base < 2 ^ 32) whe
       refl
       refl
       (m .2)
-      h
+      h)
 
   -- the register that is then read
   pub crs-kept
@@ -132,6 +134,13 @@ module _ (records names missing name : List ℕ) (g : isName name ≡ true) wher
       ∙ sym (settled-other (wordsIn records) 5 (λ z. omega arith))
       ∙ word₅ records names missing r p e
 
+  -- the lengths are those of a register and of a name
+  takes : (r : Register) → encodes records names missing r ≡ true → takesName (length records) (length missing) (length name) ≡ true
+  unfolding takesName
+  takes r e =
+      also (le-leb 32 (length records) (header-there records names missing r e))
+      (also (eq-eqb (length missing) 32896 (names-are records names missing r e .2)) (le-leb (length name) 512 (name-short name g)))
+
   abbrev step : Bool → ℕ → List ℕ × List ℕ
   step t n = if t then (setWordIn records 20 (n + 1), putSlot missing (514 * n) name) else (records, missing)
 
@@ -140,7 +149,7 @@ module _ (records names missing name : List ℕ) (g : isName name ≡ true) wher
       → encodes (pushed .0) names (pushed .1) (withMissing r name) ≡ true
   unfolding pushMissing withMissing encodeWords
   push-encodes r p e =
-      rw (count-word r p e) (go (ltb (length (r .missing)) 64) refl)
+      rw (takes r e, count-word r p e) (go (ltb (length (r .missing)) 64) refl)
     where
       ns : List (List ℕ)
       ns = r .missing

@@ -7,16 +7,17 @@ use native.Mathlib.Omega.{arith}
 use lib.ListN.{length, length-append}
 use Rattle.window.specs.Tests.{both, also}
 use Rattle.register.specs.Module.{Export, Module, Register, properModule, properModules, proper}
+use Rattle.register.specs.Proper.{proper-parts, parts-proper}
 use Rattle.register.specs.Encode.{exportWords, moduleNames, moduleWords, recordWords, recordNames, encodeWords, slots}
 use Rattle.register.specs.Decode.{encodes, registerOf, isRegister}
 use Rattle.register.specs.Slots.{length-slots}
-use Rattle.register.specs.CheckIs.{read-back}
+use Rattle.register.specs.CheckIs.{read-back, register-parts, is-register}
 use Rattle.register.specs.Change.{without, removed}
 use Rattle.register.specs.Buffers.{Below, padded, names-are, encodeMissing, encode-encodes}
 use Rattle.register_append.specs.Laid.{below-append}
 use Rattle.register_append.specs.Stands.{encoded-small}
 use Rattle.register_change.specs.Lower.{below-left, below-right, length-records}
-use Rattle.register_change.specs.Encoded.{proper-parts, parts-proper, is-register, register-parts, whole-fits}
+use Rattle.register_change.specs.Encoded.{whole-fits}
 use Rattle.register_change.specs.Remove.{Stands, remaining}
 
 -- words stay small when name offsets fall

@@ -11,6 +11,7 @@ use Rattle.register.specs.Words.{flat, wordsIn}
 use Rattle.register.specs.Module.{Export, Module}
 use Rattle.register.specs.Encode.{exportWords, moduleNames, moduleWords, recordWords, flag}
 use Rattle.register.specs.Decode.{moduleSize}
+use Rattle.register.specs.CheckComplete.{record-size}
 use Rattle.register.specs.Buffers.{Below, length-flat, words-flat}
 use Rattle.register_append.specs.Sets.{change-laid, word-laid, flat-append}
 use Rattle.register_append.specs.Held.{words-long}
@@ -101,10 +102,6 @@ length-records q p (m ∷ ms) =
     let i = length-records (q + length (moduleNames m)) (p + length (moduleNames m)) ms in
     rw (length-append, length-append, words-long q m, words-long p m, i)
 
-pub size-of : (q : ℕ) (m : Module) (rest : List ℕ) → moduleSize (moduleWords q m ++ rest) ≡ length (moduleWords q m)
-unfolding moduleSize moduleWords
-size-of q m rest = sym (words-long q m)
-
 -- a record in the middle of bytes
 module _ (m : Module) (a z : List ℕ) (o q d : ℕ) (lo : length a ≡ o) (h : d ≤ q) (b : Below (2 ^ 32) (moduleWords q m)) where
   abbrev from : ℕ
@@ -132,7 +129,7 @@ module _ (m : Module) (a z : List ℕ) (o q d : ℕ) (lo : length a ≡ o) (h : 
   pub size-amid : moduleSize (wordsIn (drop o (a ++ (flat (moduleWords q m) ++ z)))) ≡ length (moduleWords q m)
   size-amid =
       let p : drop o (a ++ (flat (moduleWords q m) ++ z)) ≡ flat (moduleWords q m) ++ z = drop-at a (flat (moduleWords q m) ++ z) o lo in
-      rw (p, words-flat (moduleWords q m) z b) (size-of q m (wordsIn z))
+      rw (p, words-flat (moduleWords q m) z b) (record-size m (wordsIn z) q)
 
   pub lower-record : lowerRecord (a ++ (flat (moduleWords q m) ++ z)) o d ≡ a ++ (flat (moduleWords (q - d) m) ++ z)
   unfolding lowerRecord moduleWords

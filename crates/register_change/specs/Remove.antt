@@ -13,6 +13,7 @@ use Rattle.register.specs.Lists.{part-middle}
 use Rattle.register.specs.Module.{Module, Register}
 use Rattle.register.specs.Encode.{recordWords, recordNames, moduleWords, moduleNames, encodeWords, crsKnown, crsBase}
 use Rattle.register.specs.Decode.{moduleSize, registerOf, isRegister}
+use Rattle.register.specs.CheckIs.{register-parts}
 use Rattle.register.specs.Change.{without, removed}
 use Rattle.register.specs.Buffers.{Below, padded, length-padded, length-flat, names-are, encodeRecords, encodeNames}
 use Rattle.register.specs.declared.words.Crs.{Crs}
@@ -22,7 +23,7 @@ use Rattle.register_append.specs.Append.{names-append, words-append}
 use Rattle.register_append.specs.Stands.{encoded-small}
 use Rattle.register_change.specs.Bytes.{closed, namesEnd, lowerHeader, cutRecord}
 use Rattle.register_change.specs.Lower.{Records, word-amid, lower-amid, group, length-group, below-left, below-right, length-records, size-amid}
-use Rattle.register_change.specs.Encoded.{register-parts, whole-fits, records-exact}
+use Rattle.register_change.specs.Encoded.{whole-fits, records-exact}
 
 -- the record of module number `number` begins at byte `place` of a register
 pub record Stands (records names : List ℕ) (place : ℕ) : Type 0 where

@@ -20,7 +20,7 @@ fn move_down(buffer: &mut [u8], from: usize, gap: usize)
 }
 
 // Closes the gap of `gap` bytes at `from`; as many bytes at the end become 0.
-pub fn close_gap(buffer: &mut [u8], from: usize, gap: usize)
+pub(crate) fn close_gap(buffer: &mut [u8], from: usize, gap: usize)
     requires { ⌜ from + gap ≤ length (now buffer) ⌝ }
     ensures { λ _. ⌜ now (buffer .exit) ≡ closed (now (buffer .entry)) from gap ⌝ }
 {

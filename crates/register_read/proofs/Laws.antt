@@ -1,15 +1,16 @@
 -- From the code's parts and words to the definitions.
 use Prim.Native.Nat.{ℕ, zero, suc, _+_, _-_, _*_, _/_, _≤_, _<_}
 use mathlib.Core.Path.{_≡_, refl, sym, ap, _∙_}
-use mathlib.Core.List.{List, _∷_}
+use mathlib.Core.List.{List, [], _∷_}
 use mathlib.Core.Bool.{Bool, true, false}
 use native.Mathlib.Omega.{arith}
 use lib.ListN.{length, take, drop, getD, drop-of-length-le}
+use lib.Seq.{take-nil}
 use borrow.Author.Tests.{lt-ltb, le-ltb}
 use Rattle.window.specs.Memory.{if_then_else_}
 use Rattle.register.specs.Words.{part, same, wordsIn, length-words, part-words}
 use Rattle.register.specs.Module.{findFrom, findExport}
-use Rattle.register.specs.Decode.{exportAt, exportsFrom, exportsIn, readModule}
+use Rattle.register.specs.Decode.{exportAt, exportsFrom, exportsIn, readModule, slotLength, slotName}
 use Rattle.register.specs.declared.exports.Found.the-variants as found
 use Rattle.register.proofs.Laws.{rest-of}
 use Rattle.register_read.specs.declared.Symbol.{Symbol}
@@ -22,6 +23,18 @@ rest-none l place h =
     let g : length l ≤ place = omega arith in
     let e : length l ≤ length l = omega arith in
     rest-of l (length l) ∙ drop-of-length-le l e ∙ sym (drop-of-length-le l g)
+
+-- a slot of less than two bytes has no name
+pub slot-short : (s : List ℕ) → length s < 2 → drop 2 s ≡ slotName s
+unfolding slotName part
+slot-short s h =
+    let g : length s ≤ 2 = omega arith in
+    let e : drop 2 s ≡ [] = drop-of-length-le s g in
+    rw (e, take-nil)
+
+pub slot-is : (s : List ℕ) → part s 2 (getD s 0 0 + 256 * getD s 1 0) ≡ slotName s
+unfolding slotName slotLength
+slot-is s = refl
 
 -- number i of some words
 

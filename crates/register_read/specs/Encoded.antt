@@ -6,17 +6,17 @@ use mathlib.Core.Bool.{Bool, true, false, _&&_}
 use native.Mathlib.Omega.{arith}
 use lib.ListN.{length, take, drop, getD, set, length-append, take-append-drop}
 use lib.Seq.{drop-set-lt, drop-drop, drop-append-seam}
-use lib.Dec.{eqb, leb}
-use borrow.Author.Tests.{leb-true}
+use lib.Dec.{eqb}
 use Rattle.window.specs.Memory.{if_then_else_}
 use Rattle.window.specs.Tests.{both}
 use Rattle.register.specs.Words.{part, same, allZero, holds, wordsIn, words-drop, length-words}
 use Rattle.register.specs.Lists.{same-true}
-use Rattle.register.specs.Module.{Module, Register, properModule, properModules, properNames, proper}
+use Rattle.register.specs.Module.{Module, Register, properModule, properModules, proper}
+use Rattle.register.specs.Proper.{Proper, proper-parts}
 use Rattle.register.specs.Encode.{moduleNames, moduleWords, recordWords, recordNames, encodeWords, slots}
 use Rattle.register.specs.Decode.{settled, settled-other, readRegister, registerOf, encodes, isRegister, readSlots, slotName}
 use Rattle.register.specs.CheckComplete.{module-complete}
-use Rattle.register.specs.CheckIs.{length-settled, begins-long}
+use Rattle.register.specs.CheckIs.{length-settled, begins-long, register-parts}
 use Rattle.register.specs.Buffers.{padded, names-are}
 use Rattle.register.specs.declared.exports.Found.the-variants.{At}
 use Rattle.register_read.specs.Read.{Encoded, modulesOf, moduleBytes, placeFrom, recordAt, moduleAt}
@@ -96,16 +96,10 @@ module _ (records names missing : List ℕ) (h : isRegister records names missin
   modules-are = refl
 
   parts : (proper reg ≡ true) × (encodes records names missing reg ≡ true)
-  unfolding isRegister
-  parts = both (proper reg) (encodes records names missing reg) h
+  parts = register-parts records names missing h
 
-  proper-parts : (properModules (reg .modules) ≡ true) × (length (reg .missing) ≤ 64)
-  unfolding proper
-  proper-parts =
-      let t : Bool = leb (length (reg .missing)) 64 && properNames (reg .missing) in
-      let a = both (leb (length (reg .modules)) 64) (properModules (reg .modules) && t) (parts .0) in
-      let b = both (properModules (reg .modules)) t (a .1) in
-      (b .0, leb-true (length (reg .missing)) 64 (both (leb (length (reg .missing)) 64) (properNames (reg .missing)) (b .1) .0))
+  own : Proper reg
+  own = proper-parts reg (parts .0)
 
   encoded-words : take (length (encodeWords reg)) ws ≡ encodeWords reg
   unfolding encodes
@@ -128,7 +122,7 @@ module _ (records names missing : List ℕ) (h : isRegister records names missin
       let l : 8 + length (recordWords 0 ms) ≤ length (wordsIn records) =
       omega (arith, begins-long (encodeWords reg) ws encoded-words, length-settled (wordsIn records)) in
       rw modules-are
-      (standing ms records names 8 0 rest [] _ e (names-are records names missing reg (parts .1) .0) refl (proper-parts .0) l)
+      (standing ms records names 8 0 rest [] _ e (names-are records names missing reg (parts .1) .0) refl (own .modules) l)
 
   -- header word 0
   pub module-count : length (modulesOf records names) ≡ getD (wordsIn records) 0 0
@@ -149,7 +143,7 @@ module _ (records names missing : List ℕ) (h : isRegister records names missin
   missing-name k g =
       let e : getD ws 5 0 ≡ getD (wordsIn records) 5 0 = settled-other (wordsIn records) 5 (λ e. omega arith) in
       let l : length missing ≡ 32896 = names-are records names missing reg (parts .1) .2 in (
-        omega (arith, missing-count, proper-parts .1),
+        omega (arith, missing-count, own .few),
         sym (slot-at (getD ws 5 0) k missing (omega arith)),
       )
 

@@ -85,14 +85,14 @@ pub fn missing_count(records: &[u8]) -> u32
     words::word(records, 5)
 }
 
-// Missing name number k.
+// Missing name number k; empty past the list.
 pub fn missing_name(missing: &[u8], k: u32) -> &[u8]
-    requires { ⌜ 514 * k + 514 ≤ length (now missing) ⌝ }
     ensures { λ r. ⌜ now r ≡ slotName (part (now (missing .entry)) (514 * k) 514) ⌝ }
 {
-    let from = 514 * (k as usize);
-    let end = from + 514;
-    let slot = &missing[from..end];
+    let slot = super::bytes_at(missing, 514 * (k as usize), 514);
+    if slot.len() < 2 {
+        return super::bytes_from(slot, 2);
+    }
     let low = slot[0] as usize;
     let high = slot[1] as usize;
     super::bytes_at(slot, 2, low + 256 * high)

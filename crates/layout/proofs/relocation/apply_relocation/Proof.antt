@@ -1,7 +1,8 @@
--- By what the relocation writes: `relocation-nothing` and `relocation-word`.
+-- By what the relocation writes: `relocation-nothing` and `word-written`.
 use mathlib.Core.Path.{sym}
 use borrow.Author.Needs.{needs}
-use Rattle.layout.specs.Relocation.{relocation-word, relocation-nothing}
+use Rattle.layout.specs.Relocation.{relocation-nothing}
+use Rattle.layout.proofs.Laws.{word-written}
 use Rattle.layout.proofs.relocation.apply_relocation.Statement.{statement}
 use Rattle.layout.proofs.relocation.apply_relocation.Tie as tie
 
@@ -27,9 +28,9 @@ same-length c = search needs
 
 returns-2 : tie.Need-returns-2
 returns-2 c =
-    let k = c .before .before .before .before .before in
-    let a = k .before .before .before .before .args in
-    cc (relocation-word (a .at) (a .target) (a .kind) (a .addend) (a .symbol) (a .target-final) (a .w .now) {v = k .word .given .0 .0} (cc))
+    let a = c .before .before .before .before .before .before .before .before .before .args in
+    word-written (a .at) (a .target) (a .kind) (a .addend) (a .symbol) (a .target-final) (a .w .now) (c .before .before .before .before .before .word .given .0 .0)
+    (c .before .before .before .before .before .before .before .relocated-word .ensures) (c .before .before .before .before .before .word .given .1) (c .before .before .write32-privileged .ensures)
 
 pub apply-relocation-spec : {M : Type 1} → statement M
 apply-relocation-spec =

@@ -1,8 +1,8 @@
--- By the count: `segment-missing`, and `segment-found` with the words that the calls give.
+-- By the count: `segment-missing`, and `found-in-words` with the words that the calls give.
 use mathlib.Core.Path.{sym}
 use borrow.Author.Needs.{needs}
-use Rattle.layout.specs.Segments.{segment-missing, segment-found, field-word}
-use Rattle.layout.specs.Header.{segmentTableOffset}
+use Rattle.layout.specs.Segments.{segment-missing, field-word}
+use Rattle.layout.proofs.Laws.{found-in-words}
 use Rattle.layout.proofs.segments.segment.Statement.{statement}
 use Rattle.layout.proofs.segments.segment.Tie as tie
 
@@ -40,12 +40,10 @@ from-raw-requires c κs = search needs
 
 returns-2 : tie.Need-returns-2
 returns-2 c =
-    let t = c .before .before .before .before .before .before .before .before in
-    let a = t .before .before .before .args in
-    cc (
-      segment-found (a .at) (a .base) (a .index) (a .w .now) (rw (t .before .field .ensures, field-word) at (t .if1 .left)),
-      field-word (a .at) (a .base) segmentTableOffset (a .w .now),
-    )
+    let a = c .before .before .before .before .before .before .before .before .before .before .before .args in
+    found-in-words (a .at) (a .base) (a .index) (a .w .now) (c .before .before .before .before .before .before .before .field2 .ensures) (c .before .before .before .before .before .before .entry-address .ensures) (c .before .before .before .before .wrapping-add-u32 .ensures)
+    (c .before .before .wrapping-add-u322 .ensures) (rw (c .before .before .before .before .before .before .before .before .before .field .ensures, field-word) at (c .before .before .before .before .before .before .before .before .if1 .left)) (c .before .before .before .before .before .read32 .ensures) (c .before .before .before .read322 .ensures)
+    (c .before .read323 .ensures) (c .from-raw .ensures)
 
 pub segment-spec : {M : Type 1} → statement M
 segment-spec =

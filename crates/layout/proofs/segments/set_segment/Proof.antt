@@ -1,7 +1,6 @@
--- The three writes, at the entry that the table offset gives: `setSegment-words`.
+-- The three writes, at the entry that the table offset gives: `set-in-words`.
 use borrow.Author.Needs.{needs}
-use Rattle.layout.specs.Segments.{field-word, setSegment-words}
-use Rattle.layout.specs.Header.{segmentTableOffset}
+use Rattle.layout.proofs.Laws.{set-in-words}
 use Rattle.layout.proofs.segments.set_segment.Statement.{statement}
 use Rattle.layout.proofs.segments.set_segment.Tie as tie
 
@@ -35,7 +34,8 @@ same-length c = search needs
 returns : tie.Need-returns
 returns c =
     let a = c .before .before .before .before .before .before .before .before .before .before .before .before .before .before .before .before .before .before .before .args in
-    cc (setSegment-words (a .at) (a .base) (a .index) (a .w .now) (a .value), field-word (a .at) (a .base) segmentTableOffset (a .w .now))
+    set-in-words (a .at) (a .base) (a .index) (a .w .now) (c .before .before .before .before .before .before .before .before .before .before .before .before .before .before .before .before .field .ensures) (c .before .before .before .before .before .before .before .before .before .before .before .before .before .before .before .entry-address .ensures) (c .before .before .before .before .before .before .before .before .before .wrapping-add-u32 .ensures)
+    (c .before .before .before .before .wrapping-add-u322 .ensures) (a .value) (c .before .before .before .before .before .before .before .before .before .before .before .before .before .write32 .ensures) (c .before .before .before .before .before .before .before .before .write322 .ensures) (c .before .before .before .raw .ensures) (c .before .before .write323 .ensures)
 
 pub set-segment-spec : {M : Type 1} → statement M
 set-segment-spec =

@@ -1,7 +1,8 @@
 -- By cases: no such segment, an offset at or past its size, an offset inside.
 use mathlib.Core.Path.{sym}
 use borrow.Author.Needs.{needs}
-use Rattle.layout.specs.Segments.{tag-missing, tag-past, tag-at}
+use Rattle.layout.specs.Segments.{tag-missing, tag-past}
+use Rattle.layout.proofs.Laws.{tag-found}
 use Rattle.layout.proofs.segments.tag_to_address.Statement.{statement}
 use Rattle.layout.proofs.segments.tag_to_address.Tie as tie
 
@@ -36,9 +37,9 @@ wrapping-add-u32-requires c κs = search needs
 
 returns-3 : tie.Need-returns-3
 returns-3 c =
-    let k = c .before .before .before .before .before in
-    let a = k .before .before .before .before .before .args in
-    cc (tag-at (a .at) (a .base) (a .tag .0) (a .w .now) {s = k .entry .given .0 .0} (cc) (search needs))
+    let a = c .before .before .before .before .before .before .before .before .before .before .args in
+    tag-found (a .at) (a .base) (a .tag .0) (a .w .now) (c .before .before .before .before .before .entry .given .0 .0) (cc) (c .before .before .before .offset .ensures) (c .before .if1 .left)
+    (c .wrapping-add-u32 .ensures)
 
 pub tag-to-address-spec : {M : Type 1} → statement M
 tag-to-address-spec =

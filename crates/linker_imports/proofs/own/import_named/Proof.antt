@@ -1,7 +1,7 @@
 -- By whether the batch waits, and whether an auto-linked module has the name.
 use borrow.Author.Needs.{needs}
 use Rattle.linker_imports.proofs.Laws.{name-fits, name-taken}
-use Rattle.linker_imports.proofs.Missing.{register-sizes, name-short, own-passed, own-found, own-missing}
+use Rattle.linker_imports.proofs.Missing.{own-passed, own-found, own-missing}
 use Rattle.linker_imports.proofs.own.import_named.Statement.{statement}
 use Rattle.linker_imports.proofs.own.import_named.Tie as tie
 
@@ -53,13 +53,7 @@ slice-aggregate-push-missing c =
     name-taken _ _ (p8 .read-name .ensures)
 
 push-missing-requires : tie.Need-push-missing-requires
-push-missing-requires c κs =
-    let p8 = c .before .before .before .before .before .before .before .before in
-    let p11 = p8 .before .before .before in
-    let p23 = p11 .before .before .before .before .before .before .before .before .before .before .before .before in
-    let a = p23 .args in
-    let s = register-sizes (a .records .now) (a .names .now) (a .missing .now) (p23 .pre) in
-    (s .0, s .1, name-short (a .at) (p11 .read322 .result) (a .w .now) _ (p8 .read-name .ensures))
+push-missing-requires c κs = search needs
 
 same-length : tie.Need-same-length
 same-length c = search needs

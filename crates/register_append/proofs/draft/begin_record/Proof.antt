@@ -1,7 +1,7 @@
 use native.Mathlib.Omega.{arith}
 use lib.ListN.{length}
 use borrow.Author.Needs.{needs}
-use Rattle.register_append.specs.Draft.{usedBytes, usedNames, draftAt, room-inside}
+use Rattle.register_append.specs.Draft.{usedBytes, usedNames, draftAt, room-inside, room-word}
 use Rattle.register_append.proofs.Laws.{begin-many, begin-no-words, begin-no-names, begin-open}
 use Rattle.register_append.proofs.draft.begin_record.Statement.{statement}
 use Rattle.register_append.proofs.draft.begin_record.Tie as tie
@@ -62,7 +62,7 @@ flag-word-requires : tie.Need-flag-word-requires
 flag-word-requires c κs = search needs
 
 cast-write-first : tie.Need-cast-write-first
-cast-write-first c = search needs
+cast-write-first c = omega (arith, c .before .before .before .room2 .ensures, room-word (length (c .before .before .before .before .before .before .before .before .before .before .before .before .before .before .before .before .args .names .now)))
 
 write-first-requires : tie.Need-write-first-requires
 write-first-requires c κs =

@@ -1,46 +1,62 @@
+use native.Mathlib.Omega.{arith}
+use borrow.Author.Tests.{not-true, not-false}
 use borrow.Author.Needs.{needs}
-use Rattle.register_append.specs.Draft.{finishRecord}
+use Rattle.register_append.proofs.Laws.{open-places, finish-shut, finish-past, finish-done}
 use Rattle.register_append.proofs.draft.finish_record.Statement.{statement}
 use Rattle.register_append.proofs.draft.finish_record.Tie as tie
 
-load32-requires : tie.Need-load32-requires
-load32-requires c κs = search needs
-
-wrapping-add-u32-requires : tie.Need-wrapping-add-u32-requires
-wrapping-add-u32-requires c κs = search needs
-
-store32-requires : tie.Need-store32-requires
-store32-requires c κs = search needs
-
-cast-store32 : tie.Need-cast-store32
-cast-store32 c = search needs
-
-store32-requires-2 : tie.Need-store32-requires-2
-store32-requires-2 c κs = search needs
-
-cast-store32-2 : tie.Need-cast-store32-2
-cast-store32-2 c = search needs
-
-store32-requires-3 : tie.Need-store32-requires-3
-store32-requires-3 c κs = search needs
+is-open-requires : tie.Need-is-open-requires
+is-open-requires c κs = search needs
 
 same-length : tie.Need-same-length
 same-length c = search needs
 
 returns : tie.Need-returns
-unfolding finishRecord
-returns c = rw (
-  c .before .before .store323 .ensures,
-  c .before .before .before .before .before .before .before .store322 .ensures,
-  c .before .before .before .before .before .before .before .before .before .before .before .before .store32 .ensures,
-  c .before .before .before .before .before .before .before .before .before .before .before .before .before .wrapping-add-u32 .ensures,
-  c .before .before .before .before .before .before .before .before .before .before .before .before .before .before .before .load32 .ensures,
-)
+returns c = finish-shut _ _ (c .before .is-open .ensures) (not-true _ (c .if1 .taken))
+
+same-length-2 : tie.Need-same-length-2
+same-length-2 c = search needs
+
+returns-2 : tie.Need-returns-2
+returns-2 c = finish-past _ _ (c .before .before .before .is-open .ensures) (not-false _ (c .before .before .if1 .left)) (c .if2 .taken)
+
+load32-requires : tie.Need-load32-requires
+load32-requires c κs = let h = open-places _ _ (c .before .before .before .before .is-open .ensures) (not-false _ (c .before .before .before .if1 .left)) in omega (arith, h .0, h .1)
+
+wrapping-add-u32-requires : tie.Need-wrapping-add-u32-requires
+wrapping-add-u32-requires c κs = search needs
+
+store32-requires : tie.Need-store32-requires
+store32-requires c κs = let h = open-places _ _ (c .before .before .before .before .before .before .before .is-open .ensures) (not-false _ (c .before .before .before .before .before .before .if1 .left)) in omega (arith, h .0, h .1)
+
+cast-store32 : tie.Need-cast-store32
+cast-store32 c = let h = open-places _ _ (c .before .before .before .before .before .before .before .before .before .before .before .before .is-open .ensures) (not-false _ (c .before .before .before .before .before .before .before .before .before .before .before .if1 .left)) in omega (arith, h .2)
+
+store32-requires-2 : tie.Need-store32-requires-2
+store32-requires-2 c κs = let h = open-places _ _ (c .before .before .before .before .before .before .before .before .before .before .before .before .is-open .ensures) (not-false _ (c .before .before .before .before .before .before .before .before .before .before .before .if1 .left)) in omega (arith, h .0, h .1, c .before .before .before .before .store32 .kept .0)
+
+cast-store32-2 : tie.Need-cast-store32-2
+cast-store32-2 c = search needs
+
+store32-requires-3 : tie.Need-store32-requires-3
+store32-requires-3 c κs = let h = open-places _ _ (c .before .before .before .before .before .before .before .before .before .before .before .before .before .before .before .before .before .is-open .ensures) (not-false _ (c .before .before .before .before .before .before .before .before .before .before .before .before .before .before .before .before .if1 .left)) in omega (arith, h .0, h .1, c .before .before .before .before .store322 .kept .0, c .before .before .before .before .before .before .before .before .before .store32 .kept .0)
+
+same-length-3 : tie.Need-same-length-3
+same-length-3 c = search needs
+
+returns-3 : tie.Need-returns-3
+returns-3 c = finish-done _ _ (c .before .before .before .before .before .before .before .before .before .before .before .before .before .before .before .before .before .before .before .before .is-open .ensures) (not-false _ (c .before .before .before .before .before .before .before .before .before .before .before .before .before .before .before .before .before .before .before .if1 .left)) (c .before .before .before .before .before .before .before .before .before .before .before .before .before .before .before .before .before .if2 .left) (c .before .before .before .before .before .before .before .before .before .before .before .before .before .before .before .load32 .ensures)
+    (c .before .before .before .before .before .before .before .before .before .before .before .before .before .wrapping-add-u32 .ensures) (c .before .before .before .before .before .before .before .before .before .before .before .before .store32 .ensures) (c .before .before .before .before .before .before .before .store322 .ensures) (c .before .before .store323 .ensures)
 
 pub finish-record-spec : {M : Type 1} → statement M
 finish-record-spec =
     tie.close
     (tie.spec
+    is-open-requires
+    same-length
+    returns
+    same-length-2
+    returns-2
     load32-requires
     wrapping-add-u32-requires
     store32-requires
@@ -48,5 +64,5 @@ finish-record-spec =
     store32-requires-2
     cast-store32-2
     store32-requires-3
-    same-length
-    returns)
+    same-length-3
+    returns-3)

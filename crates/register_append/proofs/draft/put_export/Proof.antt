@@ -1,16 +1,27 @@
-use mathlib.Core.Path.{ap, _∙_}
+use mathlib.Core.Path.{refl}
 use native.Mathlib.Omega.{arith}
+use borrow.Author.Tests.{not-true, not-false}
 use borrow.Author.Needs.{needs}
-use Rattle.window.specs.Word.{setWordIn}
-use Rattle.register_append.proofs.Laws.{so-far, list-end, found-fits, put-place, put-again, put-new}
+use Rattle.register_append.proofs.Laws.{open-places, so-far, counts-past, counts-inside, found-fits, put-place, put-shut, put-past, put-again, put-new}
 use Rattle.register_append.proofs.draft.put_export.Statement.{statement}
 use Rattle.register_append.proofs.draft.put_export.Tie as tie
 
+is-open-requires : tie.Need-is-open-requires
+is-open-requires c κs = search needs
+
+same-length : tie.Need-same-length
+same-length c = search needs
+
+returns : tie.Need-returns
+returns c = put-shut _ _ _ _ _ (c .before .is-open .ensures) (not-true _ (c .if1 .taken))
+
 add-load32 : tie.Need-add-load32
-add-load32 c = search needs
+add-load32 c =
+    let h = open-places _ _ (c .before .before .is-open .ensures) (not-false _ (c .before .if1 .left)) in omega (arith, h .0, h .2)
 
 load32-requires : tie.Need-load32-requires
-load32-requires c κs = search needs
+load32-requires c κs =
+    let h = open-places _ _ (c .before .before .is-open .ensures) (not-false _ (c .before .if1 .left)) in omega (arith, h .0, h .1)
 
 cast-from : tie.Need-cast-from
 cast-from c = search needs
@@ -22,13 +33,16 @@ mul-from : tie.Need-mul-from
 mul-from c = search needs
 
 add-from-2 : tie.Need-add-from-2
-add-from-2 c = search needs
+add-from-2 c =
+    let h = open-places _ _ (c .before .before .before .is-open .ensures) (not-false _ (c .before .before .if1 .left)) in omega (arith, h .0, h .2)
 
 add-load32-2 : tie.Need-add-load32-2
-add-load32-2 c = search needs
+add-load32-2 c =
+    let h = open-places _ _ (c .before .before .before .before .is-open .ensures) (not-false _ (c .before .before .before .if1 .left)) in omega (arith, h .0, h .2)
 
 load32-requires-2 : tie.Need-load32-requires-2
-load32-requires-2 c κs = search needs
+load32-requires-2 c κs =
+    let h = open-places _ _ (c .before .before .before .before .is-open .ensures) (not-false _ (c .before .before .before .if1 .left)) in omega (arith, h .0, h .1)
 
 cast-to : tie.Need-cast-to
 cast-to c = search needs
@@ -37,7 +51,15 @@ mul-to : tie.Need-mul-to
 mul-to c = search needs
 
 add-to : tie.Need-add-to
-add-to c = search needs
+add-to c =
+    let h = open-places _ _ (c .before .before .before .before .before .is-open .ensures) (not-false _ (c .before .before .before .before .if1 .left)) in omega (arith, h .0, h .2)
+
+same-length-2 : tie.Need-same-length-2
+same-length-2 c = search needs
+
+returns-2 : tie.Need-returns-2
+returns-2 c = put-past _ _ _ _ _ (c .before .before .before .before .before .before .before .is-open .ensures) (not-false _ (c .before .before .before .before .before .before .if1 .left))
+    (counts-past _ _ (c .before .before .before .before .load32 .ensures) (c .before .before .load322 .ensures) (c .if2 .taken))
 
 sub-find-export : tie.Need-sub-find-export
 sub-find-export c = search needs
@@ -47,8 +69,7 @@ part-find-export-start c = search needs
 
 part-find-export-end : tie.Need-part-find-export-end
 part-find-export-end c =
-    list-end _ (c .before .before .before .before .before .before .before .before .args .draft) (c .before .before .before .load32 .ensures)
-    (c .before .load322 .ensures) (c .before .before .before .before .before .before .before .before .pre .4)
+    let h = open-places _ _ (c .before .before .before .before .before .before .before .before .is-open .ensures) (not-false _ (c .before .before .before .before .before .before .before .if1 .left)) in omega (arith, h .1, c .before .if2 .left)
 
 find-export-requires : tie.Need-find-export-requires
 find-export-requires c κs = search needs
@@ -57,48 +78,35 @@ enum-known-k : tie.Need-enum-known-k
 enum-known-k c = search needs
 
 mul-store32 : tie.Need-mul-store32
-mul-store32 c = let h =
-    found-fits _ _ (c .before .before .before .before .before .before .before .before .before .before .load32 .ensures)
-    (c .before .before .before .before .before .before .before .before .load322 .ensures) _ _ _
-    (c .before .before .before .before .before .before .before .before .before .before .before .before .before .before .before .pre .4)
-    (c .before .before .before .before .find-export .ensures) (c .before .before .k .given .1) in omega arith
+mul-store32 c =
+    let h = open-places _ _ (c .before .before .before .before .before .before .before .before .before .before .before .before .before .before .before .is-open .ensures) (not-false _ (c .before .before .before .before .before .before .before .before .before .before .before .before .before .before .if1 .left)) in
+    let g = found-fits _ (c .before .before .before .before .before .before .before .before .before .before .before .before .before .before .before .before .before .before .before .before .args .draft) (c .before .before .before .before .before .before .before .before .before .before .before .before .load32 .ensures) (c .before .before .before .before .before .before .before .before .before .before .load322 .ensures) _ _ _ (omega (arith, h .1, c .before .before .before .before .before .before .before .before .if2 .left)) (c .before .before .before .before .find-export .ensures)
+    (c .before .before .k .given .1) in omega arith
 
 add-store32 : tie.Need-add-store32
-add-store32 c = let h =
-    found-fits _ _ (c .before .before .before .before .before .before .before .before .before .before .load32 .ensures)
-    (c .before .before .before .before .before .before .before .before .load322 .ensures) _ _ _
-    (c .before .before .before .before .before .before .before .before .before .before .before .before .before .before .before .pre .4)
-    (c .before .before .before .before .find-export .ensures) (c .before .before .k .given .1) in omega arith
+add-store32 c =
+    let h = open-places _ _ (c .before .before .before .before .before .before .before .before .before .before .before .before .before .before .before .is-open .ensures) (not-false _ (c .before .before .before .before .before .before .before .before .before .before .before .before .before .before .if1 .left)) in
+    let g = found-fits _ (c .before .before .before .before .before .before .before .before .before .before .before .before .before .before .before .before .before .before .before .before .args .draft) (c .before .before .before .before .before .before .before .before .before .before .before .before .load32 .ensures) (c .before .before .before .before .before .before .before .before .before .before .load322 .ensures) _ _ _ (omega (arith, h .1, c .before .before .before .before .before .before .before .before .if2 .left)) (c .before .before .before .before .find-export .ensures)
+    (c .before .before .k .given .1) in omega arith
 
 add-store32-2 : tie.Need-add-store32-2
-add-store32-2 c = let h =
-    found-fits _ _ (c .before .before .before .before .before .before .before .before .before .before .load32 .ensures)
-    (c .before .before .before .before .before .before .before .before .load322 .ensures) _ _ _
-    (c .before .before .before .before .before .before .before .before .before .before .before .before .before .before .before .pre .4)
-    (c .before .before .before .before .find-export .ensures) (c .before .before .k .given .1) in omega arith
+add-store32-2 c =
+    let h = open-places _ _ (c .before .before .before .before .before .before .before .before .before .before .before .before .before .before .before .is-open .ensures) (not-false _ (c .before .before .before .before .before .before .before .before .before .before .before .before .before .before .if1 .left)) in
+    let g = found-fits _ (c .before .before .before .before .before .before .before .before .before .before .before .before .before .before .before .before .before .before .before .before .args .draft) (c .before .before .before .before .before .before .before .before .before .before .before .before .load32 .ensures) (c .before .before .before .before .before .before .before .before .before .before .load322 .ensures) _ _ _ (omega (arith, h .1, c .before .before .before .before .before .before .before .before .if2 .left)) (c .before .before .before .before .find-export .ensures)
+    (c .before .before .k .given .1) in omega arith
 
 store32-requires : tie.Need-store32-requires
-store32-requires c κs = let h =
-    found-fits _ _ (c .before .before .before .before .before .before .before .before .before .before .load32 .ensures)
-    (c .before .before .before .before .before .before .before .before .load322 .ensures) _ _ _
-    (c .before .before .before .before .before .before .before .before .before .before .before .before .before .before .before .pre .4)
-    (c .before .before .before .before .find-export .ensures) (c .before .before .k .given .1) in omega arith
+store32-requires c κs =
+    let h = open-places _ _ (c .before .before .before .before .before .before .before .before .before .before .before .before .before .before .before .is-open .ensures) (not-false _ (c .before .before .before .before .before .before .before .before .before .before .before .before .before .before .if1 .left)) in
+    let g = found-fits _ (c .before .before .before .before .before .before .before .before .before .before .before .before .before .before .before .before .before .before .before .before .args .draft) (c .before .before .before .before .before .before .before .before .before .before .before .before .load32 .ensures) (c .before .before .before .before .before .before .before .before .before .before .load322 .ensures) _ _ _ (omega (arith, h .1, c .before .before .before .before .before .before .before .before .if2 .left)) (c .before .before .before .before .find-export .ensures)
+    (c .before .before .k .given .1) in omega arith
 
 enum-told : tie.Need-enum-told
 enum-told c = search needs
 
 add-export-requires : tie.Need-add-export-requires
-add-export-requires c κs = search needs
-
-same-length : tie.Need-same-length
-same-length c = search needs
-
-same-length-2 : tie.Need-same-length-2
-same-length-2 c = search needs
-
-returns : tie.Need-returns
-returns c = put-again _ _ _ _ _ _
-    (so-far _ (c .before .before .before .before .before .before .before .before .before .before .before .before .before .before .before .before .before .before .args .draft) (c .before .before .before .before .before .before .before .before .before .before .before .before .before .load32 .ensures) (c .before .before .before .before .before .before .before .before .before .before .before .load322 .ensures)) (c .before .before .before .before .before .before .before .find-export .ensures) _ (c .before .before .before .before .before .k .given .1) (c .before .before .store32 .ensures ∙ ap (λ t. setWordIn (c .before .before .before .before .before .before .before .before .before .before .before .before .before .before .before .before .before .before .args .records .now) t (c .before .before .before .before .before .before .before .before .before .before .before .before .before .before .before .before .before .before .args .address)) (put-place _ (c .before .before .before .before .before .before .before .before .before .before .before .before .before .before .before .before .before .before .args .draft) (c .before .before .before .before .before .before .before .before .before .before .before .before .before .load32 .ensures) (c .before .before .before .before .before .before .before .before .before .before .before .load322 .ensures) _))
+add-export-requires c κs =
+    let h = open-places _ _ (c .before .before .before .before .before .before .before .before .before .before .before .before .before .before .before .is-open .ensures) (not-false _ (c .before .before .before .before .before .before .before .before .before .before .before .before .before .before .if1 .left)) in omega (arith, h .0, h .1)
 
 same-length-3 : tie.Need-same-length-3
 same-length-3 c = search needs
@@ -106,14 +114,33 @@ same-length-3 c = search needs
 same-length-4 : tie.Need-same-length-4
 same-length-4 c = search needs
 
-returns-2 : tie.Need-returns-2
-returns-2 c = put-new _ _ _ _ _ _
-    (so-far _ (c .before .before .before .before .before .before .before .before .before .before .before .before .before .before .before .before .before .before .before .before .args .draft) (c .before .before .before .before .before .before .before .before .before .before .before .before .before .before .before .load32 .ensures) (c .before .before .before .before .before .before .before .before .before .before .before .before .before .load322 .ensures)) (c .before .before .before .before .before .before .before .before .before .find-export .ensures) (c .before .before .before .before .before .before .before .enum-told .given .1) (c .before .before .before .before .add-export .ensures)
+returns-3 : tie.Need-returns-3
+returns-3 c = put-again _ _ _ _ _ (c .before .before .before .before .before .before .before .before .before .before .before .before .before .before .before .before .before .before .is-open .ensures) (not-false _ (c .before .before .before .before .before .before .before .before .before .before .before .before .before .before .before .before .before .if1 .left))
+    (counts-inside _ _ (c .before .before .before .before .before .before .before .before .before .before .before .before .before .before .before .load32 .ensures) (c .before .before .before .before .before .before .before .before .before .before .before .before .before .load322 .ensures) (c .before .before .before .before .before .before .before .before .before .before .before .if2 .left)) _
+    (so-far _ (c .before .before .before .before .before .before .before .before .before .before .before .before .before .before .before .before .before .before .before .before .before .before .before .args .draft) (c .before .before .before .before .before .before .before .before .before .before .before .before .before .before .before .load32 .ensures) (c .before .before .before .before .before .before .before .before .before .before .before .before .before .load322 .ensures)) (c .before .before .before .before .before .before .before .find-export .ensures) (c .before .before .before .before .before .k .given .0 .0)
+    (c .before .before .before .before .before .k .given .1) (c .before .before .store32 .ensures)
+    (put-place _ (c .before .before .before .before .before .before .before .before .before .before .before .before .before .before .before .before .before .before .before .before .before .before .before .args .draft) (c .before .before .before .before .before .before .before .before .before .before .before .before .before .before .before .load32 .ensures) (c .before .before .before .before .before .before .before .before .before .before .before .before .before .load322 .ensures))
+    refl
+
+same-length-5 : tie.Need-same-length-5
+same-length-5 c = search needs
+
+same-length-6 : tie.Need-same-length-6
+same-length-6 c = search needs
+
+returns-4 : tie.Need-returns-4
+returns-4 c = put-new _ _ _ _ _ (c .before .before .before .before .before .before .before .before .before .before .before .before .before .before .before .before .before .before .before .before .is-open .ensures) (not-false _ (c .before .before .before .before .before .before .before .before .before .before .before .before .before .before .before .before .before .before .before .if1 .left))
+    (counts-inside _ _ (c .before .before .before .before .before .before .before .before .before .before .before .before .before .before .before .before .before .load32 .ensures) (c .before .before .before .before .before .before .before .before .before .before .before .before .before .before .before .load322 .ensures) (c .before .before .before .before .before .before .before .before .before .before .before .before .before .if2 .left)) _
+    (so-far _ (c .before .before .before .before .before .before .before .before .before .before .before .before .before .before .before .before .before .before .before .before .before .before .before .before .before .args .draft) (c .before .before .before .before .before .before .before .before .before .before .before .before .before .before .before .before .before .load32 .ensures) (c .before .before .before .before .before .before .before .before .before .before .before .before .before .before .before .load322 .ensures)) (c .before .before .before .before .before .before .before .before .before .find-export .ensures) (c .before .before .before .before .before .before .before .enum-told .given .1)
+    (c .before .before .before .before .add-export .ensures)
 
 pub put-export-spec : {M : Type 1} → statement M
 put-export-spec =
     tie.close
     (tie.spec
+    is-open-requires
+    same-length
+    returns
     add-load32
     load32-requires
     cast-from
@@ -125,6 +152,8 @@ put-export-spec =
     cast-to
     mul-to
     add-to
+    same-length-2
+    returns-2
     sub-find-export
     part-find-export-start
     part-find-export-end
@@ -136,9 +165,9 @@ put-export-spec =
     store32-requires
     enum-told
     add-export-requires
-    same-length
-    same-length-2
-    returns
     same-length-3
     same-length-4
-    returns-2)
+    returns-3
+    same-length-5
+    same-length-6
+    returns-4)

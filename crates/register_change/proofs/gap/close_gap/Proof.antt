@@ -1,4 +1,4 @@
-use mathlib.Core.Path.{_∙_}
+use mathlib.Core.Path.{refl}
 use borrow.Author.Needs.{needs}
 use Rattle.register_change.proofs.Laws.{closed-in-steps}
 use Rattle.register_change.proofs.gap.close_gap.Statement.{statement}
@@ -17,11 +17,8 @@ same-length : tie.Need-same-length
 same-length c = search needs
 
 returns : tie.Need-returns
-returns c = c .before .before .clear .ensures
-    ∙ closed-in-steps _ (c .before .before .before .before .before .before .before .before .before .args .from)
-    (c .before .before .before .before .before .before .before .before .before .args .gap)
-    (c .before .before .before .before .before .before .before .before .before .pre)
-    (c .before .before .before .before .before .before .move-down .ensures) (c .before .before .before .before .before .before .move-down .kept .0)
+returns c = closed-in-steps _ (c .before .before .before .before .before .before .before .before .before .args .from) (c .before .before .before .before .before .before .before .before .before .args .gap) _ (c .before .before .before .before .before .before .before .before .before .pre) (c .before .before .before .before .before .before .move-down .ensures) (c .before .before .before .before .before .before .move-down .kept .0)
+    (c .before .before .clear .ensures) refl
 
 pub close-gap-spec : {M : Type 1} → statement M
 close-gap-spec =

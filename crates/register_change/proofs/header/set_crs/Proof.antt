@@ -1,7 +1,12 @@
+use borrow.Author.Tests.{lt-ltb, le-ltb}
 use borrow.Author.Needs.{needs}
 use Rattle.register_change.specs.Bytes.{setCrs}
 use Rattle.register_change.proofs.header.set_crs.Statement.{statement}
 use Rattle.register_change.proofs.header.set_crs.Tie as tie
+
+returns : tie.Need-returns
+unfolding setCrs
+returns c = rw (lt-ltb _ _ (c .if1 .taken))
 
 store32-requires : tie.Need-store32-requires
 store32-requires c κs = search needs
@@ -12,9 +17,10 @@ store32-requires-2 c κs = search needs
 same-length : tie.Need-same-length
 same-length c = search needs
 
-returns : tie.Need-returns
+returns-2 : tie.Need-returns-2
 unfolding setCrs
-returns c = rw (c .before .before .store322 .ensures, c .before .before .before .before .before .before .store32 .ensures)
+returns-2 c = rw (c .before .before .store322 .ensures, c .before .before .before .before .before .before .store32 .ensures, le-ltb _ _ (c .before .before .before .before .before .before .before .before .if1 .left))
 
 pub set-crs-spec : {M : Type 1} → statement M
-set-crs-spec = tie.close (tie.spec store32-requires store32-requires-2 same-length returns)
+set-crs-spec =
+    tie.close (tie.spec returns store32-requires store32-requires-2 same-length returns-2)

@@ -26,7 +26,7 @@ add-copy-into : tie.Need-add-copy-into
 add-copy-into c = search needs
 
 copy-into-requires : tie.Need-copy-into-requires
-copy-into-requires c κs = simp length-set (omega arith)
+copy-into-requires c κs = search needs
 
 same-length : tie.Need-same-length
 same-length c = c .before .before .copy-into .kept .0 ∙ simp length-set

@@ -1,26 +1,22 @@
-use Prim.Native.Nat.{_*_}
-use mathlib.Core.Path.{_∙_}
+use mathlib.Core.Path.{ap, _∙_}
 use native.Mathlib.Omega.{arith}
 use borrow.Author.Needs.{needs}
-use Rattle.register.specs.Decode.{slotLength, slotName}
-use Rattle.register.proofs.Laws.{part-whole}
+use Rattle.register.specs.Decode.{slotName}
+use Rattle.register_read.proofs.Laws.{slot-short, slot-is}
 use Rattle.register_read.proofs.modules.missing_name.Statement.{statement}
 use Rattle.register_read.proofs.modules.missing_name.Tie as tie
 
-mul-from : tie.Need-mul-from
-mul-from c = search needs
+mul-bytes-at : tie.Need-mul-bytes-at
+mul-bytes-at c = search needs
 
-add-end : tie.Need-add-end
-add-end c = search needs
+bytes-at-requires : tie.Need-bytes-at-requires
+bytes-at-requires c κs = search needs
 
-sub-slot : tie.Need-sub-slot
-sub-slot c = search needs
+bytes-from-requires : tie.Need-bytes-from-requires
+bytes-from-requires c κs = search needs
 
-part-slot-start : tie.Need-part-slot-start
-part-slot-start c = search needs
-
-part-slot-end : tie.Need-part-slot-end
-part-slot-end c = search needs
+returns : tie.Need-returns
+returns c = c .bytes-from .ensures ∙ slot-short _ (c .before .if1 .taken) ∙ ap slotName (c .before .before .bytes-at .ensures)
 
 shared-slice-read-low : tie.Need-shared-slice-read-low
 shared-slice-read-low c = search needs
@@ -34,35 +30,31 @@ shared-slice-read-high c = search needs
 cast-high : tie.Need-cast-high
 cast-high c = omega (arith, c .shared-slice-known3 .given 1)
 
-mul-bytes-at : tie.Need-mul-bytes-at
-mul-bytes-at c = omega (arith, c .shared-slice-known3 .given 1)
+mul-bytes-at-2 : tie.Need-mul-bytes-at-2
+mul-bytes-at-2 c = omega (arith, c .shared-slice-known3 .given 1)
 
 add-bytes-at : tie.Need-add-bytes-at
 add-bytes-at c = omega (arith, c .shared-slice-known3 .given 1, c .before .shared-slice-known2 .given 0)
 
-bytes-at-requires : tie.Need-bytes-at-requires
-bytes-at-requires c κs = search needs
+bytes-at-requires-2 : tie.Need-bytes-at-requires-2
+bytes-at-requires-2 c κs = search needs
 
-returns : tie.Need-returns
-unfolding slotName slotLength
-returns c =
-    let a = c .before .before .before .before .before .args in
-    c .bytes-at .ensures ∙ rw (part-whole (a .missing .now) (514 * a .k) 514)
+returns-2 : tie.Need-returns-2
+returns-2 c = c .bytes-at2 .ensures ∙ slot-is _ ∙ ap slotName (c .before .before .before .before .bytes-at .ensures)
 
 pub missing-name-spec : {M : Type 1} → statement M
 missing-name-spec =
     tie.close
     (tie.spec
-    mul-from
-    add-end
-    sub-slot
-    part-slot-start
-    part-slot-end
+    mul-bytes-at
+    bytes-at-requires
+    bytes-from-requires
+    returns
     shared-slice-read-low
     cast-low
     shared-slice-read-high
     cast-high
-    mul-bytes-at
+    mul-bytes-at-2
     add-bytes-at
-    bytes-at-requires
-    returns)
+    bytes-at-requires-2
+    returns-2)

@@ -1,0 +1,65 @@
+use borrow.Author.Needs.{needs}
+use Rattle.linker_exports.proofs.Laws.{passed-named, added-named}
+use Rattle.linker_exports.proofs.add_named.Statement.{statement}
+use Rattle.linker_exports.proofs.add_named.Tie as tie
+
+entry-address-requires : tie.Need-entry-address-requires
+entry-address-requires c κs = search needs
+
+read32-requires : tie.Need-read32-requires
+read32-requires c κs = search needs
+
+wrapping-add-u32-requires : tie.Need-wrapping-add-u32-requires
+wrapping-add-u32-requires c κs = search needs
+
+read32-requires-2 : tie.Need-read32-requires-2
+read32-requires-2 c κs = search needs
+
+tag-to-address-requires : tie.Need-tag-to-address-requires
+tag-to-address-requires c κs = search needs
+
+enum-told : tie.Need-enum-told
+enum-told c = search needs
+
+enum-known-address : tie.Need-enum-known-address
+enum-known-address c = search needs
+
+put-named-requires : tie.Need-put-named-requires
+put-named-requires c κs = search needs
+
+returns : tie.Need-returns
+returns c =
+    let a = c .before .before .before .before .before .before .before .before .before .before .args in
+    λ h. passed-named (a .at) (a .w .now) (a .base) (a .i) (a .table) _ _ _ (a .before) (a .records .now) (a .names .now) _
+    (c .before .before .before .before .before .before .entry-address .ensures) (c .before .before .before .before .wrapping-add-u32 .ensures) (c .before .before .before .read322 .ensures) (c .before .before .tag-to-address .ensures) h
+    (c .enum-told .given .1)
+
+same-length : tie.Need-same-length
+same-length c = search needs
+
+same-length-2 : tie.Need-same-length-2
+same-length-2 c = search needs
+
+returns-2 : tie.Need-returns-2
+returns-2 c =
+    let a = c .before .before .before .before .before .before .before .before .before .before .before .before .before .before .before .before .before .before .args in
+    λ h. added-named (a .at) (a .w .now) (a .base) (a .i) (a .table) _ _ _ (a .before) (a .records .now) (a .names .now) _
+    (c .before .before .before .before .before .before .before .before .before .before .before .before .before .before .entry-address .ensures) (c .before .before .before .before .before .before .before .before .before .before .before .before .wrapping-add-u32 .ensures) (c .before .before .before .before .before .before .before .before .before .before .before .read322 .ensures) (c .before .before .before .before .before .before .before .before .before .before .tag-to-address .ensures) h
+    _ _ _ _ _ (c .before .before .before .before .before .before .before .before .address .given .1) (search needs) (c .before .before .before .before .before .before .before .before .before .before .before .before .before .read32 .ensures) (c .before .before .before .before .put-named .ensures)
+
+pub add-named-spec : {M : Type 1} → statement M
+add-named-spec =
+    tie.close
+    (tie.spec
+    entry-address-requires
+    read32-requires
+    wrapping-add-u32-requires
+    read32-requires-2
+    tag-to-address-requires
+    enum-told
+    enum-known-address
+    put-named-requires
+    returns
+    same-length
+    same-length-2
+    returns-2)

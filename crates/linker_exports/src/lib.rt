@@ -1,0 +1,323 @@
+// A module's exports, read from its image into a new record of the register. The image is only read; the record is written
+// step by step after the last one, and given up where it has no room.
+ghost use mathlib.Core.Path.{_≡_};
+ghost use mathlib.Core.Bool.{true};
+ghost use mathlib.Core.List.{List, []};
+ghost use Prim.Native.Nat.{ℕ, _+_};
+ghost use Rattle.window.specs.Memory.{wordAt};
+ghost use Rattle.window.specs.Access.{run};
+ghost use Rattle.window.specs.Name.{nameAt};
+ghost use Rattle.layout.specs.Header.{exportNamedSymbolTableOffset, exportIndexedSymbolTableOffset};
+ghost use Rattle.layout.specs.Segments.{tagToAddress};
+ghost use Rattle.register.specs.Decode.{isRegister, registerOf};
+ghost use Rattle.register_append.specs.Draft.{beginRecord};
+ghost use Rattle.linker.specs.Relocation.{addressOr0};
+ghost use Rattle.linker.specs.Exports.{namedExports, indexedExports, readSegments, readModule};
+ghost use Rattle.linker_exports.specs.Read.{headerWord, segmentOf, segmentsTo, namedTo, indexedTo, atMost16, ownName};
+ghost use Rattle.linker_exports.specs.Writing.{tried, putTried};
+ghost use Rattle.linker_exports.specs.Modules.{withSegments, withNamed, withIndexeds, Turns, Bare, Unindexed, Empty, Any};
+ghost use Rattle.linker_exports.specs.Exported.{exported, registerWith};
+use layout::fields::entry_address;
+use layout::fields::field;
+use layout::format::EXPORT_INDEXED_SYMBOL_ENTRY_SIZE;
+use layout::format::EXPORT_NAMED_SYMBOL_ENTRY_SIZE;
+use layout::format::SegmentTag;
+use layout::header;
+use layout::segments;
+use layout::segments::Address;
+use layout::segments::FoundSegment;
+use register_append::draft;
+use register_append::draft::Draft;
+use register_append::draft::Drafted;
+
+// Whether the module has its record.
+pub enum Indexed {
+    Appended,
+    NoRoom,
+}
+
+// The draft that a step gives; where the step had no room the record is given up.
+fn kept(records: &mut [u8], names: &mut [u8], before: Draft, after: Drafted) -> Drafted
+    ensures { λ r. ⌜ (r, now (records .exit), now (names .exit)) ≡ tried before after (now (records .entry)) (now (names .entry)) ⌝ }
+{
+    match after {
+        Drafted::Full => {
+            draft::give_up(records, names, before);
+            Drafted::Full
+        }
+        Drafted::Open(next) => Drafted::Open(next),
+    }
+}
+
+// The address of segment i, 0 where there is none.
+fn segment_offset(at: u32, w: &[u8], base: u32, i: u32) -> u32
+    ensures { λ r. ⌜ r ≡ segmentOf at (now (w .entry)) base i ⌝ }
+{
+    match segments::segment(at, w, base, i) {
+        FoundSegment::Found(entry) => entry.offset,
+        FoundSegment::Missing => 0,
+    }
+}
+
+// A record keeps 16 segments.
+fn at_most_16(n: u32) -> u32
+    ensures { λ r. ⌜ r ≡ atMost16 n ⌝ }
+{
+    if 16 < n {
+        return 16;
+    }
+    n
+}
+
+// Adds segment i.
+fn add_segment(
+    at: u32,
+    w: &[u8],
+    base: u32,
+    i: u32,
+    records: &mut [u8],
+    names: &mut [u8],
+    before: Draft,
+) -> Drafted
+    ensures { λ r. ⌜ Turns Bare (λ m. withSegments m (segmentsTo at (now (w .entry)) base i))
+        (λ m. withSegments m (segmentsTo at (now (w .entry)) base (i + 1)))
+        before (now (records .entry)) (now (names .entry)) r (now (records .exit)) (now (names .exit)) ⌝ }
+{
+    let address = segment_offset(at, w, base, i);
+    let after = draft::push_segment(records, before, address);
+    kept(records, names, before, after)
+}
+
+// Adds the segments.
+fn add_segments(
+    at: u32,
+    w: &[u8],
+    base: u32,
+    records: &mut [u8],
+    names: &mut [u8],
+    before: Draft,
+) -> Drafted
+    ensures { λ r. ⌜ Turns Bare (λ m. withSegments m []) (λ m. withSegments m (run at (readSegments base) (now (w .entry)) .0))
+        before (now (records .entry)) (now (names .entry)) r (now (records .exit)) (now (names .exit)) ⌝ }
+{
+    let count = at_most_16(field(at, w, base, header::SEGMENT_NUM));
+    let mut last = before;
+    let mut i: u32 = 0;
+    while i < count {
+        match add_segment(at, w, base, i, records, names, last) {
+            Drafted::Full => {
+                return Drafted::Full;
+            }
+            Drafted::Open(next) => {
+                last = next;
+            }
+        }
+        i += 1;
+    }
+    Drafted::Open(last)
+}
+
+// The address that the tag at `entry` gives, 0 where it gives none.
+fn indexed_address(at: u32, w: &[u8], base: u32, entry: u32) -> u32
+    ensures { λ r. ⌜ r ≡ addressOr0 (run at (tagToAddress base (wordAt at (now (w .entry)) entry)) (now (w .entry)) .0) ⌝ }
+{
+    let tag = SegmentTag(window::read32(at, w, entry));
+    match segments::tag_to_address(at, w, base, tag) {
+        Address::At(address) => address,
+        Address::Nowhere => 0,
+    }
+}
+
+// Adds the indexed export of entry i.
+fn add_indexed(
+    at: u32,
+    w: &[u8],
+    base: u32,
+    table: u32,
+    i: u32,
+    records: &mut [u8],
+    names: &mut [u8],
+    before: Draft,
+) -> Drafted
+    ensures { λ r. ⌜ (table ≡ headerWord at (now (w .entry)) base exportIndexedSymbolTableOffset
+        → Turns Any (λ m. withIndexeds m (indexedTo at (now (w .entry)) base i)) (λ m. withIndexeds m (indexedTo at (now (w .entry)) base (i + 1)))
+        before (now (records .entry)) (now (names .entry)) r (now (records .exit)) (now (names .exit))) ⌝ }
+{
+    let entry = entry_address(table, i, EXPORT_INDEXED_SYMBOL_ENTRY_SIZE);
+    let address = indexed_address(at, w, base, entry);
+    let after = draft::push_indexed(records, before, address);
+    kept(records, names, before, after)
+}
+
+// Adds the indexed exports.
+fn add_all_indexed(
+    at: u32,
+    w: &[u8],
+    base: u32,
+    records: &mut [u8],
+    names: &mut [u8],
+    before: Draft,
+) -> Drafted
+    ensures { λ r. ⌜ Turns Any (λ m. withIndexeds m []) (λ m. withIndexeds m (run at (indexedExports base) (now (w .entry)) .0))
+        before (now (records .entry)) (now (names .entry)) r (now (records .exit)) (now (names .exit)) ⌝ }
+{
+    let table = field(at, w, base, header::EXPORT_INDEXED_SYMBOL_TABLE_OFFSET);
+    let count = field(at, w, base, header::EXPORT_INDEXED_SYMBOL_NUM);
+    let mut last = before;
+    let mut i: u32 = 0;
+    while i < count {
+        match add_indexed(at, w, base, table, i, records, names, last) {
+            Drafted::Full => {
+                return Drafted::Full;
+            }
+            Drafted::Open(next) => {
+                last = next;
+            }
+        }
+        i += 1;
+    }
+    Drafted::Open(last)
+}
+
+// Gives the record the export of the name at `place`.
+fn put_named(
+    at: u32,
+    w: &[u8],
+    place: u32,
+    address: u32,
+    records: &mut [u8],
+    names: &mut [u8],
+    before: Draft,
+) -> Drafted
+    ensures { λ r. ⌜ (r, now (records .exit), now (names .exit))
+        ≡ putTried before (now (records .entry)) (now (names .entry)) (run at (nameAt place) (now (w .entry)) .0) address ⌝ }
+{
+    let mut buffer = [0u8; 512];
+    let count = window::name::read_name(at, w, place, &mut buffer);
+    let after = draft::put_export(records, names, before, &buffer[..count], address);
+    kept(records, names, before, after)
+}
+
+// Adds the named export of entry i, if its tag gives an address.
+fn add_named(
+    at: u32,
+    w: &[u8],
+    base: u32,
+    table: u32,
+    i: u32,
+    records: &mut [u8],
+    names: &mut [u8],
+    before: Draft,
+) -> Drafted
+    ensures { λ r. ⌜ (table ≡ headerWord at (now (w .entry)) base exportNamedSymbolTableOffset
+        → Turns Unindexed (λ m. withNamed m (namedTo at (now (w .entry)) base i)) (λ m. withNamed m (namedTo at (now (w .entry)) base (i + 1)))
+        before (now (records .entry)) (now (names .entry)) r (now (records .exit)) (now (names .exit))) ⌝ }
+{
+    let entry = entry_address(table, i, EXPORT_NAMED_SYMBOL_ENTRY_SIZE);
+    let place = window::read32(at, w, entry);
+    let tag = SegmentTag(window::read32(at, w, std::num::wrapping_add_u32(entry, 4)));
+    match segments::tag_to_address(at, w, base, tag) {
+        Address::Nowhere => Drafted::Open(before),
+        Address::At(address) => put_named(at, w, place, address, records, names, before),
+    }
+}
+
+// Adds the named exports.
+fn add_all_named(
+    at: u32,
+    w: &[u8],
+    base: u32,
+    records: &mut [u8],
+    names: &mut [u8],
+    before: Draft,
+) -> Drafted
+    ensures { λ r. ⌜ Turns Unindexed (λ m. withNamed m []) (λ m. withNamed m (run at (namedExports base) (now (w .entry)) .0))
+        before (now (records .entry)) (now (names .entry)) r (now (records .exit)) (now (names .exit)) ⌝ }
+{
+    let table = field(at, w, base, header::EXPORT_NAMED_SYMBOL_TABLE_OFFSET);
+    let count = field(at, w, base, header::EXPORT_NAMED_SYMBOL_NUM);
+    let mut last = before;
+    let mut i: u32 = 0;
+    while i < count {
+        match add_named(at, w, base, table, i, records, names, last) {
+            Drafted::Full => {
+                return Drafted::Full;
+            }
+            Drafted::Open(next) => {
+                last = next;
+            }
+        }
+        i += 1;
+    }
+    Drafted::Open(last)
+}
+
+// Begins the module's record with its own name.
+fn begin(
+    at: u32,
+    w: &[u8],
+    base: u32,
+    size: u32,
+    auto_link: bool,
+    records: &mut [u8],
+    names: &mut [u8],
+) -> Drafted
+    ensures { λ r. ⌜ (r, now (records .exit), now (names .exit))
+        ≡ beginRecord (now (records .entry)) (now (names .entry)) base size «auto_link» (ownName at (now (w .entry)) base) ⌝ }
+{
+    let mut buffer = [0u8; 512];
+    let place = field(at, w, base, header::MODULE_NAME_OFFSET);
+    let count = window::name::read_name(at, w, place, &mut buffer);
+    draft::begin_record(records, names, base, size, auto_link, &buffer[..count])
+}
+
+// Adds segments, named and indexed exports to a record that has its name.
+fn add_lists(
+    at: u32,
+    w: &[u8],
+    base: u32,
+    records: &mut [u8],
+    names: &mut [u8],
+    before: Draft,
+) -> Drafted
+    ensures { λ r. ⌜ Turns Empty (λ m. m) (λ m. withIndexeds (withNamed (withSegments m (run at (readSegments base) (now (w .entry)) .0))
+        (run at (namedExports base) (now (w .entry)) .0)) (run at (indexedExports base) (now (w .entry)) .0))
+        before (now (records .entry)) (now (names .entry)) r (now (records .exit)) (now (names .exit)) ⌝ }
+{
+    let Drafted::Open(first) = add_segments(at, w, base, records, names, before) else {
+        return Drafted::Full;
+    };
+    let Drafted::Open(second) = add_all_named(at, w, base, records, names, first) else {
+        return Drafted::Full;
+    };
+    add_all_indexed(at, w, base, records, names, second)
+}
+
+// Reads the module at base into a new record of a register that records and names encode.
+pub fn index_exports(
+    at: u32,
+    w: &[u8],
+    records: &mut [u8],
+    names: &mut [u8],
+    base: u32,
+    size: u32,
+    auto_link: bool,
+) -> Indexed
+    ensures { λ r. ⌜ ((missing : List ℕ) → isRegister (now (records .entry)) (now (names .entry)) missing ≡ true
+        → ((r, now (records .exit), now (names .exit))
+        ≡ exported (now (records .entry)) (now (names .entry)) (registerOf (now (records .entry)) (now (names .entry)) missing)
+        (run at (readModule base size «auto_link») (now (w .entry)) .0))
+        × (isRegister (now (records .exit)) (now (names .exit)) missing ≡ true)
+        × (registerOf (now (records .exit)) (now (names .exit)) missing
+        ≡ registerWith (now (records .entry)) (now (names .entry)) (registerOf (now (records .entry)) (now (names .entry)) missing)
+        (run at (readModule base size «auto_link») (now (w .entry)) .0))) ⌝ }
+{
+    let Drafted::Open(first) = begin(at, w, base, size, auto_link, records, names) else {
+        return Indexed::NoRoom;
+    };
+    let Drafted::Open(last) = add_lists(at, w, base, records, names, first) else {
+        return Indexed::NoRoom;
+    };
+    draft::finish_record(records, last);
+    Indexed::Appended
+}
