@@ -14,6 +14,7 @@ pub mod Refusals
 pub mod Gives
 pub mod Answers
 pub mod Room
+pub mod Removed
 pub mod Reads
 pub mod Valid
 pub mod Fit
