@@ -9,6 +9,7 @@ pub mod Fix
 pub mod Unrebase
 pub mod Calls
 pub mod Shape
+pub mod OtherList
 pub mod Outcome
 pub mod Refusals
 pub mod Gives
