@@ -9,11 +9,13 @@ pub mod Fix
 pub mod Unrebase
 pub mod Calls
 pub mod Shape
+pub mod OtherList
 pub mod Outcome
 pub mod Refusals
 pub mod Gives
 pub mod Answers
 pub mod Room
+pub mod Removed
 pub mod Reads
 pub mod Valid
 pub mod Fit

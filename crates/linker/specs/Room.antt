@@ -13,31 +13,52 @@ use Rattle.register.specs.Words.{bytesOf, flat}
 use Rattle.register.specs.declared.words.Crs.{Crs}
 use Rattle.register.specs.declared.words.Crs.the-variants.{Unknown, Known}
 use Rattle.register.specs.Module.{Export, Module, Register, proper, properModule, properNames}
-use Rattle.register.specs.Encode.{exportWords, exportNames, moduleNames, moduleWords, flag, recordWords, recordNames, encodeWords, crsKnown, crsBase}
+use Rattle.register.specs.Encode.{slots, exportWords, exportNames, moduleNames, moduleWords, flag, recordWords, recordNames, encodeWords, crsKnown, crsBase}
 use Rattle.register.specs.Decode.{isRegister}
+use Rattle.register.specs.Proper.{proper-parts, parts-proper}
+use Rattle.register.specs.CheckIs.{is-register}
 use Rattle.register.specs.Slots.{length-slots}
 use Rattle.register.specs.Change.{appended}
-use Rattle.register.specs.Buffers.{Below, padded, encodeRecords, encodeNames, encodeMissing, encode-encodes}
+use Rattle.register.specs.Buffers.{Below, padded, length-padded, length-flat, encodeRecords, encodeNames, encodeMissing, encode-encodes}
 use Rattle.register_append.specs.Draft.{roomIn, room-inside, room-word}
 use Rattle.register_append.specs.Laid.{below-append}
 use Rattle.register_append.specs.Held.{words-long}
 use Rattle.register_append.specs.Append.{names-append, words-append}
 use Rattle.register_append.specs.Stands.{appended-proper}
-use Rattle.register.specs.Proper.{proper-parts, parts-proper}
-use Rattle.register.specs.CheckIs.{is-register}
 use Rattle.linker.specs.Calls.{fits}
 
--- the bytes that a call leaves of r, in buffers of given lengths, are an encoding
+-- the bytes that a call leaves of r are an encoding
+abbrev pub Encoding : ℕ → ℕ → Register → Type 0
+Encoding records names r = isRegister (encodeRecords records r) (encodeNames names r) (encodeMissing r) ≡ true
+
+-- in buffers of just those lengths
+abbrev pub Sized : ℕ → ℕ → Register → Type 0
+Sized records names r =
+    (length (encodeRecords records r) ≡ records) × (length (encodeNames names r) ≡ names) × (length (encodeMissing r) ≡ 32896)
+
 abbrev pub Stored : ℕ → ℕ → Register → Type 0
-Stored records names r = isRegister (encodeRecords records r) (encodeNames names r) (encodeMissing r) ≡ true
+Stored records names r = Encoding records names r × Sized records names r
+
+pub sized
+    : (records names : ℕ) (r : Register) → proper r ≡ true → 4 * length (encodeWords r) ≤ records → length (recordNames (r .modules)) ≤ names
+    → Sized records names r
+unfolding encodeRecords encodeNames encodeMissing
+sized records names r p h g =
+    let a = proper-parts r p in (
+      length-padded records (flat (encodeWords r)) (omega (arith, length-flat (encodeWords r))),
+      length-padded names (recordNames (r .modules)) g,
+      length-padded 32896 (slots (r .missing)) (omega (arith, a .few, length-slots (r .missing) (a .kept))),
+    )
 
 pub stored
-    : (records names : ℕ) (r : Register) → proper r ≡ true → 4 * length (encodeWords r) ≤ records → Below (2 ^ 32) (encodeWords r)
-    → Stored records names r
-stored records names r p h s =
-    let a = proper-parts r p in
-    is-register (encodeRecords records r) (encodeNames names r) (encodeMissing r) r p
-    (encode-encodes records names r h s (omega (arith, a .few, length-slots (r .missing) (a .kept))))
+    : (records names : ℕ) (r : Register) → proper r ≡ true → 4 * length (encodeWords r) ≤ records → length (recordNames (r .modules)) ≤ names
+    → Below (2 ^ 32) (encodeWords r) → Stored records names r
+stored records names r p h g s =
+    let a = proper-parts r p in (
+      is-register (encodeRecords records r) (encodeNames names r) (encodeMissing r) r p
+          (encode-encodes records names r h s (omega (arith, a .few, length-slots (r .missing) (a .kept)))),
+      sized records names r p h g,
+    )
 
 -- and bytes again
 flat-bytes : (ws : List ℕ) → Below 256 (flat ws)
@@ -193,4 +214,5 @@ module _ (records names : ℕ) (r : Register) (m : Module) (p : proper r ≡ tru
         stored records names with
         (parts-proper with (record { count = a .count; modules = a .modules; few = h; kept = k }))
         (omega (arith, their-room .0, room-inside records))
+        (omega (arith, their-room .1, room-inside names))
         (with-small h)

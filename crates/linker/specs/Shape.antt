@@ -57,19 +57,19 @@ Headers at w [] = Unit {0}
 Headers at w (a ∷ bs) = Header at w a × (AllApart a bs × Headers at w bs)
 
 -- the two words of one header
-own : (a : ℕ) → Off (a ⊕ nextCro) (a ⊕ previousCro)
+pub own : (a : ℕ) → Off (a ⊕ nextCro) (a ⊕ previousCro)
 unfolding place
 own a = (omega arith, omega arith)
 
-turned : (a b : ℕ) → Apart a b → Apart b a
+pub turned : (a b : ℕ) → Apart a b → Apart b a
 turned a b h s t = let k = h t s in (k .1, k .0)
 
-off-turned : (x y : ℕ) → Off x y → Off y x
+pub off-turned : (x y : ℕ) → Off x y → Off y x
 off-turned x y h = (h .1, h .0)
 
 -- a word written, seen from another header and from its own
 module _ (at : ℕ) (w : List ℕ) (x v y : ℕ) where
-  elsewhere : Off x y → wordAt at (putWord at w x v) y ≡ wordAt at w y
+  pub elsewhere : Off x y → wordAt at (putWord at w x v) y ≡ wordAt at w y
   elsewhere o = wordAt-apart at w x v y (o .0) (o .1)
 
   still-whole : Whole at w y → Whole at (putWord at w x v) y
@@ -97,7 +97,7 @@ last-more m [] base = refl
 last-more m (n ∷ ns) base = last-more n ns base
 
 -- the last of several is apart from what all are apart from
-last-apart : (a n : ℕ) (ns : List ℕ) → AllApart a (n ∷ ns) → Apart a (lastOf n ns)
+pub last-apart : (a n : ℕ) (ns : List ℕ) → AllApart a (n ∷ ns) → Apart a (lastOf n ns)
 unfolding AllApart lastOf
 last-apart a n [] h = h .0
 last-apart a n (k ∷ ns) h = last-apart a k ns (h .1)
@@ -121,24 +121,21 @@ near-turned a b (inr h) = inr (turned a b h)
 
 -- what `register` does once the head is read
 abbrev atEnd : ℕ → ℕ → Bool → ℕ → Prog (Unit {0})
-atEnd crs base auto head =
-    (if eqb head 0 then setField crs (headField auto) base >> setField base previousCro base
-    else (field head previousCro >>= λ tail. setField tail nextCro base >> setField base previousCro tail >> setField head previousCro base))
-    >> setField base nextCro 0
+atEnd crs base auto head = (if eqb head 0 then becomesHead crs (headField auto) base else becomesTail head base) >> setField base nextCro 0
 
 module _ (at : ℕ) (w : List ℕ) (crs base : ℕ) (auto : Bool) where
-  abbrev alone : List ℕ
+  abbrev pub alone : List ℕ
   alone = putWord at (putWord at (putWord at w (crs ⊕ headField auto) base) (base ⊕ previousCro) base) (base ⊕ nextCro) 0
 
-  first-listed : wordAt at w (crs ⊕ headField auto) ≡ 0 → run at (register crs base auto) w .1 ≡ alone
+  pub first-listed : wordAt at w (crs ⊕ headField auto) ≡ 0 → run at (register crs base auto) w .1 ≡ alone
   unfolding register becomesHead becomesTail field setField run _>>=_
   first-listed e = ap (λ h. run at (atEnd crs base auto h) w .1) e
 
-  abbrev afterTail : ℕ → ℕ → List ℕ
+  abbrev pub afterTail : ℕ → ℕ → List ℕ
   afterTail m t =
       putWord at (putWord at (putWord at (putWord at w (t ⊕ nextCro) base) (base ⊕ previousCro) t) (m ⊕ previousCro) base) (base ⊕ nextCro) 0
 
-  later-listed
+  pub later-listed
       : (m t : ℕ) → 0 < m → wordAt at w (crs ⊕ headField auto) ≡ m → previous at w m ≡ t
       → run at (register crs base auto) w .1 ≡ afterTail m t
   unfolding register becomesHead becomesTail field setField run _>>=_
@@ -156,7 +153,7 @@ module _ (at : ℕ) (w : List ℕ) (crs base : ℕ) (auto : Bool) where
     abbrev u₃ : List ℕ
     u₃ = putWord at u₂ (m ⊕ previousCro) base
 
-    unwritten
+    pub unwritten
         : (y : ℕ) → Off (t ⊕ nextCro) y → Off (base ⊕ previousCro) y → Off (m ⊕ previousCro) y → Off (base ⊕ nextCro) y
         → wordAt at (afterTail m t) y ≡ wordAt at w y
     unwritten y o₁ o₂ o₃ o₄ =

@@ -1,14 +1,14 @@
 -- Every call on a valid register leaves a valid register, whatever the lent bytes and the arguments: number 4's rule stays met.
-use Prim.Native.Nat.{ℕ, suc, _+_, _*_, _^_, _≤_, _<_}
-use mathlib.Core.Path.{_≡_, refl, ap, _∙_, subst}
+use Prim.Native.Nat.{ℕ, suc, _+_, _^_, _≤_, _<_}
+use mathlib.Core.Path.{_≡_, refl, sym, _∙_}
 use mathlib.Core.List.{List, [], _∷_, _++_}
 use mathlib.Core.Bool.{Bool, true, false, not}
 use native.Mathlib.Omega.{arith}
-use lib.ListN.{length, take, length-append}
+use lib.ListN.{length, length-append}
 use lib.Dec.{eqb, ltb}
 use borrow.Author.Tests.{ltb-true}
 use Rattle.window.specs.Memory.{if_then_else_, _⊕_, goodWindow}
-use Rattle.window.specs.Access.{Prog, get32, run}
+use Rattle.window.specs.Access.{Prog, get32, run, length-run}
 use Rattle.window.specs.Name.{isName, nameAt}
 use Rattle.window.specs.Small.{run-bytes}
 use Rattle.window.specs.Tests.{both, also}
@@ -16,20 +16,18 @@ use Rattle.layout.specs.Header.{importNamedSymbolTableOffset, importNamedSymbol
 use Rattle.layout.specs.Segments.{field, setField, entryAt}
 use Rattle.register.specs.declared.words.Crs.the-variants.{Known}
 use Rattle.register.specs.Module.{Module, Register, proper, properNames}
-use Rattle.register.specs.Encode.{recordWords, encodeWords, crsBase, slots}
+use Rattle.register.specs.Encode.{encodeWords, crsBase}
 use Rattle.register.specs.Decode.{isRegister}
-use Rattle.register.specs.Change.{appended, removed, without, withCrs}
-use Rattle.register.specs.Buffers.{Below, padded, names-are, encodeRecords, encodeNames, encodeMissing}
-use Rattle.register_append.specs.Stands.{encoded-small}
 use Rattle.register.specs.Proper.{proper-parts}
 use Rattle.register.specs.CheckIs.{register-parts}
-use Rattle.register_change.specs.Remove.{Stands, remaining}
-use Rattle.register_change.specs.Left.{remove-kept}
+use Rattle.register.specs.Change.{appended, removed, without, withCrs}
+use Rattle.register.specs.Buffers.{Below, names-are}
+use Rattle.register_append.specs.Stands.{encoded-small}
 use Rattle.register_read.specs.Read.{lookupIn}
 use Rattle.register_read.specs.declared.Symbol.{Symbol}
 use Rattle.register_read.specs.declared.Symbol.the-variants.{At, Nothing}
-use Rattle.linker.specs.declared.rebase.Rebased.{Rebased}
 use Rattle.linker.specs.declared.rebase.Lent.{Lent}
+use Rattle.linker.specs.declared.rebase.Rebased.{Rebased}
 use Rattle.linker.specs.Relocation.{resetExternalRelocations}
 use Rattle.linker.specs.Exports.{readModule}
 use Rattle.linker.specs.Imports.{isUnresolved, resolve, mostMissing, noted, importNamed, applyImportNamedSymbols, applyModuleImports, applyExportsToLoaded}
@@ -41,6 +39,7 @@ use Rattle.linker.specs.Outcome.{Bytes, registerAfter, settle, chain, ou
 use Rattle.linker.specs.Refusals.{lentRegister}
 use Rattle.linker.specs.Gives.{Yields, yields-ret, yields-bind, yields-then, yields-if, yields-loop}
 use Rattle.linker.specs.Room.{Stored, records-bytes, Fits, fits-means, with-stored}
+use Rattle.linker.specs.Removed.{removed-stored}
 use Rattle.linker.specs.Reads.{Readable, readModule-yields, name-yields}
 
 -- "the bytes are an encoding", number 4's rule
@@ -168,17 +167,15 @@ module _ (b : Bytes) (v : Valid b) (t : AreBytes b) where
   abbrev lent : Register
   lent = lentRegister b
 
-  -- without one of its modules, the register is stored again
-  removed-stored : (k : ℕ) → k < length (lent .modules) → Stored (length (b .records)) (length (b .names)) (removed lent k)
-  unfolding remaining removed encodeMissing
-  removed-stored k h =
-      let e = register-parts (b .records) (b .names) (b .missing) v .1 in
-      let m = names-are (b .records) (b .names) (b .missing) lent e in
-      let a : b .missing ≡ padded 32896 (slots (lent .missing)) = m .1 ∙ ap (λ n. padded n (slots (lent .missing))) (m .2) in
-      let s : Stands (b .records) (b .names) (32 + 4 * length (recordWords 0 (take k (lent .modules)))) =
-      record { missing = b .missing; number = k; holds = v; below = h; there = refl } in
-      subst (λ x. isRegister (encodeRecords (length (b .records)) (removed lent k)) (encodeNames (length (b .names)) (removed lent k)) x ≡ true) a
-      (remove-kept (t .1) s .0)
+  -- a register again, bytes again, in buffers of the same lengths
+  abbrev pub Left : Bytes → Type 0
+  Left c =
+      Valid c
+      × AreBytes c
+      × ((length (c .window) ≡ length (b .window))
+      × (length (c .records) ≡ length (b .records))
+      × (length (c .names) ≡ length (b .names))
+      × (length (c .missing) ≡ length (b .missing)))
 
   abbrev M : Answer → Type 0
   M a = Leaves (length (b .records)) (length (b .names)) a
@@ -193,34 +190,38 @@ module _ (b : Bytes) (v : Valid b) (t : AreBytes b) where
           yields-then at M (resetImporters m (without (lent .modules) k)) _
           (λ _. yields-then at M (unlisted (lent .crs) base) _
           (λ _. yields-then at M (unrebase base) _
-          (λ _. yields-ret at M (Done 1 (removed lent k)) (removed-stored k (omega (arith, first-inside base (lent .modules) 0 k m e .1))))))
+          (λ _. yields-ret at M (Done 1 (removed lent k))
+          (removed-stored (b .records) (b .names) (b .missing) v (t .1) k (omega (arith, first-inside base (lent .modules) 0 k m e .1))))))
 
   -- what an answer leaves
-  after : (a : Answer) (w : List ℕ) → Below 256 w → Leaves (length (b .records)) (length (b .names)) a
-      → Valid (registerAfter b w a) × AreBytes (registerAfter b w a)
+  after
+      : (a : Answer) (w : List ℕ) → Below 256 w → length w ≡ length (b .window) → M a
+      → Left (registerAfter b w a)
   unfolding registerAfter
-  after NotACro w h l = (v, (h, t .1))
-  after BadSegment w h l = (v, (h, t .1))
-  after NoRoom w h l = (v, (h, t .1))
-  after Kept w h l = (v, (h, t .1))
-  after (Done x r) w h l = (l, (h, records-bytes (length (b .records)) r))
+  after NotACro w h e l = (v, (h, t .1), (e, refl, refl, refl))
+  after BadSegment w h e l = (v, (h, t .1), (e, refl, refl, refl))
+  after NoRoom w h e l = (v, (h, t .1), (e, refl, refl, refl))
+  after Kept w h e l = (v, (h, t .1), (e, refl, refl, refl))
+  after (Done x r) w h e l =
+      let m = names-are (b .records) (b .names) (b .missing) lent (register-parts (b .records) (b .names) (b .missing) v .1) .2 in
+      (l .0, (h, records-bytes (length (b .records)) r), (e, l .1 .0, l .1 .1, l .1 .2 ∙ sym m))
 
   -- any call whose answers leave a register, on a window of bytes
   pub valid-after
       : (call : ℕ → ℕ → Register → Prog Answer) (at : ℕ)
       → Yields at (Leaves (length (b .records)) (length (b .names))) (call (length (b .records)) (length (b .names)) lent)
-      → Valid (outcome call at b .left) × AreBytes (outcome call at b .left)
+      → Left (outcome call at b .left)
   unfolding outcome settle
   valid-after call at h = rw v (go (goodWindow at (b .window)))
     where
       x : Prog Answer
       x = call (length (b .records)) (length (b .names)) lent
 
-      go
-          : (g : Bool)
-          → Valid (chain g true b (settle b (run at x (b .window))) .left) × AreBytes (chain g true b (settle b (run at x (b .window))) .left)
-      go false = (v, t)
-      go true = after (run at x (b .window) .0) (run at x (b .window) .1) (run-bytes at x (b .window) (t .0)) (h (b .window) (t .0))
+      go : (g : Bool) → Left (chain g true b (settle b (run at x (b .window))) .left)
+      go false = (v, t, (refl, refl, refl, refl))
+      go true =
+          after (run at x (b .window) .0) (run at x (b .window) .1) (run-bytes at x (b .window) (t .0)) (length-run at x (b .window))
+          (h (b .window) (t .0))
 
   abbrev parts : (proper lent ≡ true) × Below (2 ^ 32) (encodeWords lent)
   parts =
@@ -230,7 +231,7 @@ module _ (b : Bytes) (v : Valid b) (t : AreBytes b) where
   -- the three calls: whatever the arguments and the lent bytes, the register is valid again
   pub initialize-valid
       : (base size at : ℕ) → Word base → Word size
-      → Valid (initializeOutcome base size at b .left) × AreBytes (initializeOutcome base size at b .left)
+      → Left (initializeOutcome base size at b .left)
   unfolding initializeOutcome
   initialize-valid base size at hb hs =
       valid-after (initialize base size) at
@@ -238,12 +239,12 @@ module _ (b : Bytes) (v : Valid b) (t : AreBytes b) where
 
   pub load-valid
       : (l : Lent) (auto level at : ℕ) → Word (l .base) → Word (l .size)
-      → Valid (loadOutcome l auto level at b .left) × AreBytes (loadOutcome l auto level at b .left)
+      → Left (loadOutcome l auto level at b .left)
   unfolding loadOutcome
   load-valid l auto level at hb hs =
       valid-after (load l (not (eqb auto 0)) level) at
       (load-yields at (length (b .records)) (length (b .names)) lent (parts .0) (parts .1) l (not (eqb auto 0)) level hb hs)
 
-  pub unload-valid : (base at : ℕ) → Valid (unloadOutcome base at b .left) × AreBytes (unloadOutcome base at b .left)
+  pub unload-valid : (base at : ℕ) → Left (unloadOutcome base at b .left)
   unfolding unloadOutcome
   unload-valid base at = valid-after (λ records names. unload base) at (unload-yields at base)

@@ -3,23 +3,13 @@ ghost use mathlib.Core.Path.{_≡_};
 ghost use Rattle.window.specs.Access.{run};
 ghost use Rattle.window.specs.Name.{nameAt};
 ghost use Rattle.register.specs.Words.{same};
-ghost use Rattle.register_read.specs.Read.{Encoded, modulesOf, placeFrom, hasName, lookupIn, exportOf, moduleAt};
+ghost use Rattle.register_read.specs.Read.{Encoded, modulesOf, placeFrom, hasName, exportOf, moduleAt};
 use register::exports::Found;
 use register::exports::same_name;
 use register_read::Symbol;
 use register_read::export_named;
 use register_read::modules::first_with_name;
 use window::name::read_name;
-
-// Named lookup of the name at `address`.
-pub fn lookup(at: u32, w: &[u8], records: &[u8], names: &[u8], address: u32) -> Symbol
-    requires { ⌜ Encoded (now records) (now names) ⌝ }
-    ensures { λ r. ⌜ r ≡ lookupIn (modulesOf (now (records .entry)) (now (names .entry))) (run at (nameAt address) (now (w .entry)) .0) ⌝ }
-{
-    let mut buffer = [0u8; 512];
-    let n = read_name(at, w, address, &mut buffer);
-    register_read::modules::lookup(records, names, &buffer[..n])
-}
 
 // Where the record of the first module with the name at `address` begins.
 pub fn module_by_name(at: u32, w: &[u8], records: &[u8], names: &[u8], address: u32) -> Found

@@ -71,12 +71,12 @@ module _ {b : ℕ} (l : 0 < b) where
       (below-without q′ ms k (below-right (moduleWords q m) (recordWords q′ ms) s))
 
 -- nothing grows, and what is left is proper
-record Less (q : ℕ) (ms : List Module) (k : ℕ) : Type 0 where
-  modules : length (without ms k) ≤ length ms
-  words : length (recordWords q (without ms k)) ≤ length (recordWords q ms)
-  names : length (recordNames (without ms k)) ≤ length (recordNames ms)
+pub record Less (q : ℕ) (ms : List Module) (k : ℕ) : Type 0 where
+  pub modules : length (without ms k) ≤ length ms
+  pub words : length (recordWords q (without ms k)) ≤ length (recordWords q ms)
+  pub names : length (recordNames (without ms k)) ≤ length (recordNames ms)
 
-less : (q : ℕ) (ms : List Module) (k : ℕ) → Less q ms k
+pub less : (q : ℕ) (ms : List Module) (k : ℕ) → Less q ms k
 unfolding without recordWords recordNames
 less q [] k = record { modules = omega arith; words = omega arith; names = omega arith }
 less q (m ∷ ms) zero =
