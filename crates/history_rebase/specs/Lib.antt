@@ -1,0 +1,2 @@
+-- What rebasing and the external reset do to the bytes of a well-laid image, a file a step.
+pub mod Cells
