@@ -103,17 +103,15 @@ module _ (m : Image) where
   first-in : (e f j : ℕ) → Batch F e f → e ≤ j → j ≤ f → firstOf F j ≡ e
   first-in e f zero b l g = let z : e ≡ 0 = omega arith in rw (← z) (first-begin e f b)
   first-in e f (suc j) b l g =
-      elim (ℕ-discrete (suc j) e) [
-        | yes h ↦ rw h (first-begin e f b)
-        | no h ↦ first-more j (b .goes-on j (omega arith) (omega arith)) ∙ first-in e f j b (omega arith) (omega arith)
-      ]
+      elim (ℕ-discrete (suc j) e)
+      [ yes h ↦ rw h (first-begin e f b)
+      | no h ↦ first-more j (b .goes-on j (omega arith) (omega arith)) ∙ first-in e f j b (omega arith) (omega arith) ]
 
   first-out : (e f j : ℕ) → Batch F e f → (e ≤ j → j ≤ f → ⊥) → firstOf F j ≢ e
   first-out e f j b o h =
-      elim (decLe e j) [
-        | yes l ↦ absurd (elim (decLe j f) [ yes g ↦ o l g | no g ↦ absurd (omega (arith, h, first-past f j (b .ends) (omega arith), b .ordered)) ])
-        | no l ↦ absurd (omega (arith, h, first-low j))
-      ]
+      elim (decLe e j)
+      [ yes l ↦ absurd (elim (decLe j f) [ yes g ↦ o l g | no g ↦ absurd (omega (arith, h, first-past f j (b .ends) (omega arith), b .ordered)) ])
+      | no l ↦ absurd (omega (arith, h, first-low j)) ]
 
   -- new links at e give its batch a new symbol
   set-links : (φ : Links) (e f : ℕ) (x : Option ℕ) → Batch F e f → Set (symbols φ) (symbols (relink φ e x)) e f (symbolFor (handler m) x)

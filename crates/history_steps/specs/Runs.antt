@@ -67,9 +67,9 @@ module _ (m : Image) (laid : WellLaid m) (low : Low (Area m)) {T : Memory} (view
   relinked {φ} offered i l e f b =
       record {
         changed =
-            λ d h k j g.
-            let z : k ≡ i = laid .alone .own-batch k i j l (g ∙ sym h) in
-            rw (z, one-first i e f d b h) (relink-same φ e (linkTo (φ e) (offered i)));
+          λ d h k j g.
+          let z : k ≡ i = laid .alone .own-batch k i j l (g ∙ sym h) in
+          rw (z, one-first i e f d b h) (relink-same φ e (linkTo (φ e) (offered i)));
         same = λ d o. relink-other φ e (linkTo (φ e) (offered i)) d (λ z. o (rw z (b .first)));
       }
 
@@ -166,13 +166,12 @@ module _ (m : Image) (laid : WellLaid m) (low : Low (Area m)) {T : Memory} (view
     run-import : (k : ℕ) → k < runCount F j (make 0) → (i : ℕ) × At-run k i
     unfolding entry
     run-import k h =
-        let r = run-at (omega arith) in (
-          r .0 + k,
-          record {
-            is = q .counted (r .0 + k) (omega (arith, r .2));
-            at = q .number (r .0 + k) ∙ rw (q .wide, r .1) (omega arith);
-          },
-        )
+        let r = run-at (omega arith) in
+        (r .0 + k,
+        record {
+          is = q .counted (r .0 + k) (omega (arith, r .2));
+          at = q .number (r .0 + k) ∙ rw (q .wide, r .1) (omega arith);
+        })
 
     run-nonzero : 0 < runCount F j (make 0) → runStart F j (make 0) ≢ 0
     run-nonzero h z =
