@@ -1,3 +1,4 @@
 -- What rebasing and the external reset do to the bytes of a well-laid image, a file a step.
 pub mod Cells
 pub mod Stage
+pub mod Header
