@@ -2,3 +2,4 @@
 pub mod Cells
 pub mod Stage
 pub mod Header
+pub mod Fields
