@@ -3,3 +3,5 @@ pub mod Cells
 pub mod Stage
 pub mod Header
 pub mod Fields
+pub mod Placing
+pub mod Segments
