@@ -5,3 +5,4 @@ pub mod Header
 pub mod Fields
 pub mod Placing
 pub mod Segments
+pub mod Tables
