@@ -53,11 +53,11 @@ module _ (m : Image) (laid : WellLaid m) (low : Low (Area m)) where
       let e = part-inside m laid (table n) _ (entry-in-table F n i (tableNumber n .width - 1) l h (omega (arith, w))) in omega (arith, w, e)
 
   module _ {ζ : ℕ → List ℕ} {M : Memory} (s : Stage m ζ M) where
-    start-is : (n : ℕ) → n < 12 → word M (base + tableNumber n .field) ≡ movedOffset base (start F (tableNumber n))
+    pub start-is : (n : ℕ) → n < 12 → word M (base + tableNumber n .field) ≡ movedOffset base (start F (tableNumber n))
     unfolding start
     start-is n l = let f = field-of n l .0 in rw (f .2) (s .fields (f .0) (f .1))
 
-    count-is : (n : ℕ) → n < 12 → word M (base + (tableNumber n .field + 4)) ≡ count F (tableNumber n)
+    pub count-is : (n : ℕ) → n < 12 → word M (base + (tableNumber n .field + 4)) ≡ count F (tableNumber n)
     unfolding count
     count-is n l =
         let f = field-of n l .0 in

@@ -6,3 +6,4 @@ pub mod Fields
 pub mod Placing
 pub mod Segments
 pub mod Tables
+pub mod Viewed
