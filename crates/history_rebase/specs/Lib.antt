@@ -7,3 +7,4 @@ pub mod Placing
 pub mod Segments
 pub mod Tables
 pub mod Viewed
+pub mod Internal
