@@ -8,3 +8,4 @@ pub mod Segments
 pub mod Tables
 pub mod Viewed
 pub mod Internal
+pub mod Rebased

@@ -54,6 +54,18 @@ module _ (m : Image) where
         → M (base + (entry F (tableNumber n) i + k)) ≡ F (entry F (tableNumber n) i + k)
     pub strings : (p o : ℕ) → InPart F (string p) o → M (base + o) ≡ F o
 
+  -- the header alone, as every stage has it
+  pub record Headed (M : Memory) : Type 0 where
+    pub fields : (i : ℕ) → i < 17 → word M (base + (0xb0 + 8 * i)) ≡ movedOffset base (word F (0xb0 + 8 * i))
+    pub header-plain : (o : ℕ) → o < 0x138 → Unmoved o → M (base + o) ≡ F o
+
+  pub headed-same : {M N : Memory} → ((o : ℕ) → o < 0x138 → N (base + o) ≡ M (base + o)) → Headed M → Headed N
+  headed-same {M} {N} g h =
+      record {
+        fields = λ i l. four m N M (0xb0 + 8 * i) (λ k j. g (0xb0 + 8 * i + k) (omega arith)) ∙ h .fields i l;
+        header-plain = λ o l u. g o l ∙ h .header-plain o l u;
+      }
+
   -- segment i in its place
   pub record Row (i : ℕ) (M : Memory) : Type 0 where
     pub place : word M (base + entry F segments i) ≡ segmentPlace m i
