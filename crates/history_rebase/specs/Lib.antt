@@ -9,3 +9,4 @@ pub mod Tables
 pub mod Viewed
 pub mod Internal
 pub mod Rebased
+pub mod Reset
