@@ -10,3 +10,4 @@ pub mod Viewed
 pub mod Internal
 pub mod Rebased
 pub mod Reset
+pub mod Standing
