@@ -27,6 +27,17 @@ use Rattle.history_rebase.specs.Stage.{word-is, Unmoved, Stage}
 abbrev pub unmoved : ℕ → List ℕ
 unmoved n = []
 
+module _ (m : Image) where
+  -- the image stands in memory as the file has it
+  abbrev pub Fresh : Memory → Type 0
+  Fresh B = (o : ℕ) → o < sizeOf (m .coming) → B (baseOf (m .coming) + o) ≡ m .file o
+
+  -- the segments' table is as the file has it
+  abbrev pub FileRows : Memory → Type 0
+  FileRows M =
+      (i k : ℕ) → i < count (m .file) segments → k < 12
+      → M (baseOf (m .coming) + (entry (m .file) segments i + k)) ≡ m .file (entry (m .file) segments i + k)
+
 module _ (m : Image) (laid : WellLaid m) (low : Low (Area m)) where
   abbrev F : ℕ → ℕ
   F = m .file
@@ -36,14 +47,6 @@ module _ (m : Image) (laid : WellLaid m) (low : Low (Area m)) where
 
   abbrev S : ℕ → Type 0
   S = Area m
-
-  -- the image stands in memory as the file has it
-  abbrev pub Fresh : Memory → Type 0
-  Fresh B = (o : ℕ) → o < sizeOf (m .coming) → B (base + o) ≡ F o
-
-  -- the segments' table is as the file has it
-  abbrev pub FileRows : Memory → Type 0
-  FileRows M = (i k : ℕ) → i < count F segments → k < 12 → M (base + (entry F segments i + k)) ≡ F (entry F segments i + k)
 
   abbrev Field : ℕ → ℕ → Type 0
   Field i q = In (base + (0xb0 + 8 * i)) 4 q
@@ -72,7 +75,7 @@ module _ (m : Image) (laid : WellLaid m) (low : Low (Area m)) where
       ∙ ap (movedOffset base) (word-off M N (λ q. (i : ℕ) × (i < j) × Field i q) (base + (0xb0 + 8 * j)) (t .kept) (λ q a c. absurd (omega (arith, a, c .1, c .2)))),
       g .1))))
 
-  module _ {B : Memory} (fresh : Fresh B) where
+  module _ {B : Memory} (fresh : Fresh m B) where
     header-left
         : (M N : Memory) → Kept (In (base + 0x84) 4) B M → Turned Field (FieldMoved M) M 17 N → (o : ℕ) → o < sizeOf (m .coming)
         → (In 0x84 4 o → ⊥) → ((i : ℕ) → i < 17 → In (0xb0 + 8 * i) 4 o → ⊥) → N (base + o) ≡ F o
@@ -88,7 +91,7 @@ module _ (m : Image) (laid : WellLaid m) (low : Low (Area m)) where
         header-left M N k t o (part-inside m laid r o h) (λ i. absurd (omega (arith, i))) (λ j g i. absurd (omega (arith, g, i)))
 
     -- after it the image is at its first stage
-    pub header-does : Does S (moveHeader true base) (λ _ N. Stage m unmoved N × FileRows N) B
+    pub header-does : Does S (moveHeader true base) (λ _ N. Stage m unmoved N × FileRows m N) B
     unfolding moveHeader Among tables
     header-does =
         let h = in-header 0x84 (lit≤ tt) in

@@ -37,6 +37,10 @@ use Rattle.history_rebase.specs.Fields.{entry-inside, reads-start, reads
 use Rattle.history_rebase.specs.Tables.{with-columns}
 use Rattle.history_rebase.specs.Viewed.{pointed, viewed}
 
+-- the bytes of the internal relocated words
+abbrev pub Inner : Image → ℕ → Type 0
+Inner m q = (i : ℕ) × (p : ℕ) × WordAt m (internal i) p × In p 4 q
+
 module _ (m : Image) (laid : WellLaid m) (low : Low (Area m)) where
   abbrev F : ℕ → ℕ
   F = m .file
@@ -47,18 +51,14 @@ module _ (m : Image) (laid : WellLaid m) (low : Low (Area m)) where
   abbrev S : ℕ → Type 0
   S = Area m
 
-  -- the bytes of the internal relocated words
-  abbrev pub Inner : ℕ → Type 0
-  Inner q = (i : ℕ) × (p : ℕ) × WordAt m (internal i) p × In p 4 q
-
-  inner-view : {M N : Memory} → View m M → Kept Inner M N → View m N
+  inner-view : {M N : Memory} → View m M → Kept (Inner m) M N → View m N
   inner-view {M} {N} v k =
       view-agree m M N (λ o h. sym (k (base + o) (λ c. spot-no-word m laid o (spot F o h) (internal (c .0)) (c .1) (c .2) (c .3)))) v
 
   module _ {M : Memory} (s : Stage m pointed M) (v : View m M) where
     -- entries of the internal table are as the file has them
     plain-byte
-        : {N : Memory} → Kept Inner M N → (j k : ℕ) → j < count F internals → k < 12 → N (base + (entry F internals j + k)) ≡ F (entry F internals j + k)
+        : {N : Memory} → Kept (Inner m) M N → (j k : ℕ) → j < count F internals → k < 12 → N (base + (entry F internals j + k)) ≡ F (entry F internals j + k)
     unfolding tables pointed with-columns Among Touched
     plain-byte n j k l h =
         n (base + (entry F internals j + k))
@@ -67,7 +67,7 @@ module _ (m : Image) (laid : WellLaid m) (low : Low (Area m)) where
         ((λ e. absurd (omega (arith, e))), (λ e. absurd (omega (arith, e))), (λ e. absurd (omega (arith, e)))) (c .3))
         ∙ s .plain 10 j k (lit< tt) (omega arith) l h (λ x a. absurd a)
 
-    module _ {N : Memory} (n : Kept Inner M N) (j : ℕ) (l : j < count F internals) where
+    module _ {N : Memory} (n : Kept (Inner m) M N) (j : ℕ) (l : j < count F internals) where
       inside : entry F internals j + 12 ≤ sizeOf (m .coming)
       unfolding tables
       inside = entry-inside m laid low 10 j (lit< tt) l
@@ -108,13 +108,13 @@ module _ (m : Image) (laid : WellLaid m) (low : Low (Area m)) where
       -- the write itself, where there is one
       writes-inner
           : (p d a f : ℕ) → (Writes m (kind F internals j) → WordAt m (internal j) p)
-          → Does S (applyRelocation p (relocationType (kind F internals j)) d a f) (λ _ L. Kept Inner M L) N
+          → Does S (applyRelocation p (relocationType (kind F internals j)) d a f) (λ _ L. Kept (Inner m) M L) N
       unfolding applyRelocation patch
       writes-inner p d a f h = go (sort (relocationType (kind F internals j)))
         where
           go
               : Sort (relocationType (kind F internals j))
-              → Does S (patch p (relocatedWord (relocationType (kind F internals j)) d a f)) (λ _ L. Kept Inner M L) N
+              → Does S (patch p (relocatedWord (relocationType (kind F internals j)) d a f)) (λ _ L. Kept (Inner m) M L) N
           go (writes g) =
               let w = h (g 0 0 0) in
               let u = g d a f in
@@ -136,13 +136,13 @@ module _ (m : Image) (laid : WellLaid m) (low : Low (Area m)) where
       abbrev into : FoundSegment → Prog (Unit {0})
       into x = relocateInto base (oldPlace m) x t (kind F internals j) (symbolSegment F j) (addend F internals j)
 
-      relocates-inner : Does S (into (placedSegment m (tagSegment t))) (λ _ L. Kept Inner M L) N
+      relocates-inner : Does S (into (placedSegment m (tagSegment t))) (λ _ L. Kept (Inner m) M L) N
       unfolding placedSegment relocateInto relocateFrom WordAt
       relocates-inner = found (decLt (tagSegment t) (count F segments))
         where
           found
               : Dec (tagSegment t < count F segments)
-              → Does S (into (if ltb (tagSegment t) (count F segments) then Found (placed (tagSegment t)) else Missing)) (λ _ L. Kept Inner M L) N
+              → Does S (into (if ltb (tagSegment t) (count F segments) then Found (placed (tagSegment t)) else Missing)) (λ _ L. Kept (Inner m) M L) N
           found (no a) = rw (le-ltb (tagSegment t) (count F segments) (omega arith)) (does-ret S n)
           found (yes a) = rw (lt-ltb (tagSegment t) (count F segments) a) (usable (decLt (tagOffset t) (fileSegment F (tagSegment t) .size)))
             where
@@ -158,20 +158,20 @@ module _ (m : Image) (laid : WellLaid m) (low : Low (Area m)) where
               symbol
                   : tagOffset t < fileSegment F (tagSegment t) .size → Dec (symbolSegment F j < count F segments)
                   → Does S (from (if ltb (symbolSegment F j) (count F segments) then Found (placed (symbolSegment F j)) else Missing))
-                  (λ _ L. Kept Inner M L) N
+                  (λ _ L. Kept (Inner m) M L) N
               symbol b (no c) = rw (le-ltb (symbolSegment F j) (count F segments) (omega arith)) (does-ret S n)
               symbol b (yes c) =
                   rw (lt-ltb (symbolSegment F j) (count F segments) c)
                   (writes-inner target (addend F internals j) (segmentPlace m (symbolSegment F j)) final (λ w. (l, w, c, final, address-is a b, refl)))
 
-              usable : Dec (tagOffset t < fileSegment F (tagSegment t) .size) → Does S (into (Found (placed (tagSegment t)))) (λ _ L. Kept Inner M L) N
+              usable : Dec (tagOffset t < fileSegment F (tagSegment t) .size) → Does S (into (Found (placed (tagSegment t)))) (λ _ L. Kept (Inner m) M L) N
               usable (no b) = rw (le-ltb (tagOffset t) (fileSegment F (tagSegment t) .size) (omega arith)) (does-ret S n)
               usable (yes b) =
                   rw (lt-ltb (tagOffset t) (fileSegment F (tagSegment t) .size) b)
                   (does-read S (segment base (symbolSegment F j)) _ (placedSegment m (symbolSegment F j))
                   (reads-segment m laid low (inner-view v n) (symbolSegment F j)) (symbol b (decLt (symbolSegment F j) (count F segments))))
 
-      turn : Does S (applyInternalRelocation base (oldPlace m) (base + entry F internals j)) (λ _ L. Kept Inner M L) N
+      turn : Does S (applyInternalRelocation base (oldPlace m) (base + entry F internals j)) (λ _ L. Kept (Inner m) M L) N
       unfolding applyInternalRelocation
       turn =
           does-read S (get32 (base + entry F internals j)) _ t reads-tag
@@ -181,7 +181,7 @@ module _ (m : Image) (laid : WellLaid m) (low : Low (Area m)) where
           (does-read S (segment base (tagSegment t)) _ (placedSegment m (tagSegment t)) (reads-segment m laid low (inner-view v n) (tagSegment t))
           relocates-inner))))
 
-    pub internal-does : Does S (applyInternalRelocations base (oldPlace m)) (λ _ N. View m N × Kept Inner M N) M
+    pub internal-does : Does S (applyInternalRelocations base (oldPlace m)) (λ _ N. View m N × Kept (Inner m) M N) M
     unfolding applyInternalRelocations tables
     internal-does =
         does-read S (field base internalRelocationTableOffset) _ (movedOffset base (start F internals)) (reads-start m laid low s 10 (lit< tt))
@@ -189,7 +189,7 @@ module _ (m : Image) (laid : WellLaid m) (low : Low (Area m)) where
         (does-mono S
         (does-loop S {A = Unit {0}}
         (λ i _. applyInternalRelocation base (oldPlace m) (entryAt (movedOffset base (start F internals)) i relocationEntrySize))
-        (λ _ _ N. Kept Inner M N) 0 (count F internals) tt M
+        (λ _ _ N. Kept (Inner m) M N) 0 (count F internals) tt M
         (λ j b N g h n.
         let l : j < count F internals = omega arith in
         rw (entry-at m laid low 10 j (lit< tt) l (omega (arith, inside n j l))) (turn n j l)) (λ q o. refl))

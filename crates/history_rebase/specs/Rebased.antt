@@ -50,7 +50,7 @@ module _ (m : Image) (laid : WellLaid m) (low : Low (Area m)) where
   abbrev pub Segmented : Moved → Memory → Type 0
   Segmented x N = (x ≡ Bad) ⊎ ((x ≡ OldPlace (oldPlace m)) × Stage m unmoved N × Rows m N)
 
-  inner-header : {M N : Memory} → Kept (Inner m laid low) M N → Headed m M → Headed m N
+  inner-header : {M N : Memory} → Kept (Inner m) M N → Headed m M → Headed m N
   unfolding InPart Touched
   inner-header n h =
       headed-same m
@@ -71,8 +71,8 @@ module _ (m : Image) (laid : WellLaid m) (low : Low (Area m)) where
       (refl, k .0, inner-header (k .1) (record { fields = g .0 .fields; header-plain = g .0 .header-plain })))))))
 
   pub rebased-with
-      : {B : Memory} → Fresh m laid low B → (step : Prog Moved)
-      → ((M : Memory) → Stage m unmoved M → FileRows m laid low M → Does S step Segmented M) → Does S (rebaseWith base step) (Outcome m) B
+      : {B : Memory} → Fresh m B → (step : Prog Moved)
+      → ((M : Memory) → Stage m unmoved M → FileRows m M → Does S step Segmented M) → Does S (rebaseWith base step) (Outcome m) B
   unfolding rebaseWith Outcome
   rebased-with {B} fresh step f =
       let i = laid .alone .header-inside in
@@ -95,7 +95,7 @@ module _ (l : Lent) (auto level : ℕ) (f : ℕ → ℕ) where
 
   pub rebased
       : (laid : WellLaid m₁) (low : Low (Area m₁)) → ((o : ℕ) → o < l .size → f o < 256) → l .«data_at» < 2 ^ 32 → l .«bss_at» < 2 ^ 32
-      → {B : Memory} → Fresh m₁ laid low B → Does (Area m₁) (rebase l) (Outcome m₁) B
+      → {B : Memory} → Fresh m₁ B → Does (Area m₁) (rebase l) (Outcome m₁) B
   unfolding rebase
   rebased laid low bytes d b fresh =
       rebased-with m₁ laid low fresh (moveSegments l) (λ M s r. segments-move l auto level f laid low bytes d b s r)
@@ -110,7 +110,7 @@ module _ (at size : ℕ) (f : ℕ → ℕ) where
   old-0 = refl
 
   module _ (laid : WellLaid m₀) (low : Low (Area m₀)) where
-    file-row : {M : Memory} → FileRows m₀ laid low M → Rows m₀ M
+    file-row : {M : Memory} → FileRows m₀ M → Rows m₀ M
     unfolding segmentPlace placeOf fileSegment
     file-row {M} r i l =
         record {
@@ -124,7 +124,7 @@ module _ (at size : ℕ) (f : ℕ → ℕ) where
             word-is f M at (entry f segments i + x)
             (λ k g. let e : entry f segments i + x + k ≡ entry f segments i + (x + k) = omega arith in rw e (r i (x + k) l (omega arith)))
 
-    pub rebased-static : {B : Memory} → Fresh m₀ laid low B → Does (Area m₀) (rebaseStatic at) (Outcome m₀) B
+    pub rebased-static : {B : Memory} → Fresh m₀ B → Does (Area m₀) (rebaseStatic at) (Outcome m₀) B
     unfolding rebaseStatic
     rebased-static fresh =
         rebased-with m₀ laid low fresh (lookAtSegments at >> ret (OldPlace 0))

@@ -30,16 +30,7 @@ use Rattle.history_steps.specs.Reading.{entry-at, reads-count, reads-start, rea
 use Rattle.history_steps.specs.Batch.{Sort, sort, writes, writes-not, nowhere-no, word-address, word-at, word-writes-not, value-is, entry-inside, mark-sum, reads-tag, reads-kind, reads-addend}
 use Rattle.history_rebase.specs.Cells.{Turned, cells}
 
-module _ (m : Image) (laid : WellLaid m) (low : Low (Area m)) where
-  abbrev F : ℕ → ℕ
-  F = m .file
-
-  abbrev base : ℕ
-  base = baseOf (m .coming)
-
-  abbrev S : ℕ → Type 0
-  S = Area m
-
+module _ (m : Image) where
   -- the word of external entry j; with its mark
   abbrev WordOf : ℕ → ℕ → Type 0
   WordOf j q = (p : ℕ) × WordAt m (external j) p × In p 4 q
@@ -56,13 +47,23 @@ module _ (m : Image) (laid : WellLaid m) (low : Low (Area m)) where
     pub word-reset : Symbol (handler m) j N
     pub mark-reset : N (markAt m j) ≡ 0
 
-  outer-apart : (i j : ℕ) → i < j → j < count F externals → (q : ℕ) → Outer i q → Outer j q → ⊥
+module _ (m : Image) (laid : WellLaid m) (low : Low (Area m)) where
+  abbrev F : ℕ → ℕ
+  F = m .file
+
+  abbrev base : ℕ
+  base = baseOf (m .coming)
+
+  abbrev S : ℕ → Type 0
+  S = Area m
+
+  outer-apart : (i j : ℕ) → i < j → j < count F externals → (q : ℕ) → Outer m i q → Outer m j q → ⊥
   outer-apart i j l h q (inl a) (inl b) = words-apart m laid i j (a .0) (b .0) q (λ e. absurd (omega (arith, e))) (a .1) (b .1) (a .2) (b .2)
   outer-apart i j l h q (inl a) (inr e) = word-no-mark m laid i (a .0) j (a .1) h (rw e (a .2))
   outer-apart i j l h q (inr e) (inl b) = word-no-mark m laid j (b .0) i (b .1) (omega arith) (rw e (b .2))
   outer-apart i j l h q (inr e) (inr d) = absurd (omega (arith, marks-apart m laid i j (e ∙ sym d)))
 
-  reset-local : (i : ℕ) (N L : Memory) → ((q : ℕ) → Outer i q → L q ≡ N q) → Reset i N → Reset i L
+  reset-local : (i : ℕ) (N L : Memory) → ((q : ℕ) → Outer m i q → L q ≡ N q) → Reset m i N → Reset m i L
   reset-local i N L g r =
       record {
         word-reset = λ p k l h. g (p + k) (inl (p, h, (omega arith, omega arith))) ∙ r .word-reset p k l h;
@@ -70,11 +71,11 @@ module _ (m : Image) (laid : WellLaid m) (low : Low (Area m)) where
       }
 
   -- what is seen is none of it
-  outer-view : {M N : Memory} (n : ℕ) → n ≤ count F externals → View m M → Kept (λ q. (j : ℕ) × (j < n) × Outer j q) M N → View m N
+  outer-view : {M N : Memory} (n : ℕ) → n ≤ count F externals → View m M → Kept (λ q. (j : ℕ) × (j < n) × Outer m j q) M N → View m N
   outer-view {M} {N} n b v k =
       view-agree m M N (λ o h. sym (k (base + o) (λ c. off o (spot F o h) (c .0) (omega (arith, b, c .1)) (c .2)))) v
     where
-      off : (o : ℕ) → Spot F o → (j : ℕ) → j < count F externals → Outer j (base + o) → ⊥
+      off : (o : ℕ) → Spot F o → (j : ℕ) → j < count F externals → Outer m j (base + o) → ⊥
       off o s j l (inl a) = spot-no-word m laid o s (external j) (a .0) (a .1) (a .2)
       off o s j l (inr e) = spot-no-mark m laid o s j l (mark-offset m laid o j e)
 
@@ -83,20 +84,20 @@ module _ (m : Image) (laid : WellLaid m) (low : Low (Area m)) where
     symbol-set
         : {N : Memory} (j a : ℕ) → j < count F externals
         → Does S (relocateAt (address m (tag F externals j)) (kind F externals j) (addend F externals j) a)
-        (λ _ L. Symbol a j L × Kept (WordOf j) N L) N
+        (λ _ L. Symbol m a j L × Kept (WordOf m j) N L) N
     unfolding relocateAt applyRelocation patch
     symbol-set {N} j a l = go (address m (tag F externals j)) refl
       where
         go
             : (x : Address) → address m (tag F externals j) ≡ x
-            → Does S (relocateAt x (kind F externals j) (addend F externals j) a) (λ _ L. Symbol a j L × Kept (WordOf j) N L) N
+            → Does S (relocateAt x (kind F externals j) (addend F externals j) a) (λ _ L. Symbol m a j L × Kept (WordOf m j) N L) N
         go Nowhere e = does-ret S ((λ p k i h. absurd (nowhere-no p (sym e ∙ word-address m laid low v 0 0 j p h))), λ q o. refl)
         go (At p) e = at-sort (sort (relocationType (kind F externals j)))
           where
             at-sort
                 : Sort (relocationType (kind F externals j))
                 → Does S (patch p (relocatedWord (relocationType (kind F externals j)) (addend F externals j) a p))
-                (λ _ L. Symbol a j L × Kept (WordOf j) N L) N
+                (λ _ L. Symbol m a j L × Kept (WordOf m j) N L) N
             at-sort (writes f) =
                 let h : WordAt m (external j) p = word-at m laid low v 0 0 j p l (f 0 0 0) e in
                 let g = f (addend F externals j) a p in
@@ -111,12 +112,9 @@ module _ (m : Image) (laid : WellLaid m) (low : Low (Area m)) where
                 rw (f (addend F externals j) a p)
                 (does-ret S ((λ q k i h. absurd (word-writes-not m laid low v 0 0 j q f h)), λ q o. refl))
 
-    abbrev Resetting : ℕ → Memory → Type 0
-    Resetting j N = Turned Outer Reset M j N
-
     turn
         : (j : ℕ) (N : Memory) → j < count F externals → View m N
-        → Does S (resetEntry base (handler m) (base + entry F externals j)) (λ _ L. Reset j L × Kept (Outer j) N L) N
+        → Does S (resetEntry base (handler m) (base + entry F externals j)) (λ _ L. Reset m j L × Kept (Outer m j) N L) N
     unfolding resetEntry
     turn j N l w =
         rw (ne-eqb (handler m) 0 (laid .in-place .handler-there))
@@ -143,14 +141,14 @@ module _ (m : Image) (laid : WellLaid m) (low : Low (Area m)) where
     pub reset-does
         : Does S (resetExternalRelocations base)
         (λ _ N.
-        View m N × ((j : ℕ) → j < count F externals → Reset j N) × Kept (λ q. (j : ℕ) × (j < count F externals) × Outer j q) M N) M
+        View m N × ((j : ℕ) → j < count F externals → Reset m j N) × Kept (λ q. (j : ℕ) × (j < count F externals) × Outer m j q) M N) M
     unfolding resetExternalRelocations tables
     reset-does =
         does-read S (unresolvedSymbol base) _ (handler m) (reads-handler m laid low v)
         (does-read S (field base externalRelocationTableOffset) _ (movedOffset base (start F externals)) (reads-start m laid low v 5 (lit< tt))
         (does-read S (field base externalRelocationNum) _ (count F externals) (reads-count m laid low v 5 (lit< tt))
         (does-mono S
-        (cells Outer Reset M S {A = Unit {0}}
+        (cells (Outer m) (Reset m) M S {A = Unit {0}}
         (λ i _. resetEntry base (handler m) (entryAt (movedOffset base (start F externals)) i relocationEntrySize)) (count F externals) tt outer-apart (λ i l. reset-local i)
         (λ j b N l t.
         rw (entry-at m laid low 5 j (lit< tt) l (omega (arith, entry-inside m laid low v 0 0 j l)))

@@ -69,13 +69,13 @@ module _ (m : Image) (laid : WellLaid m) (low : Low (Area m)) where
 
   -- the entry of a turn to come is still the file's
   still
-      : {M N : Memory} (j : ℕ) → j < count F segments → FileRows m laid low M → Kept (λ q. (i : ℕ) × (i < j) × Cell i q) M N
+      : {M N : Memory} (j : ℕ) → j < count F segments → FileRows m M → Kept (λ q. (i : ℕ) × (i < j) × Cell i q) M N
       → (k : ℕ) → k < 12 → N (base + (entry F segments j + k)) ≡ F (entry F segments j + k)
   still j l f t k h =
       t (base + (entry F segments j + k)) (λ c. row-apart (c .0) j (c .1) _ (c .2) (omega arith, omega arith)) ∙ f j k l h
 
   -- "`initialize` neither changes nor checks segments"
-  pub looks : {ζ : ℕ → List ℕ} {M : Memory} → Stage m ζ M → FileRows m laid low M → Does S (lookAtSegments base) (λ _ N. N ≡ M) M
+  pub looks : {ζ : ℕ → List ℕ} {M : Memory} → Stage m ζ M → FileRows m M → Does S (lookAtSegments base) (λ _ N. N ≡ M) M
   unfolding lookAtSegments tables
   looks {ζ} {M} s f =
       does-read S (field base segmentNum) _ (count F segments) (reads-count m laid low s 0 (lit< tt))
@@ -92,7 +92,7 @@ module _ (l : Lent) (auto level : ℕ) (f : ℕ → ℕ) where
 
   module _ (laid : WellLaid m₁) (low : Low (Area m₁)) (bytes : (o : ℕ) → o < l .size → f o < 256)
            (data-small : l .«data_at» < 2 ^ 32) (bss-small : l .«bss_at» < 2 ^ 32) {ζ : ℕ → List ℕ} {M : Memory} (s : Stage m₁ ζ M)
-           (rows : FileRows m₁ laid low M) where
+           (rows : FileRows m₁ M) where
     abbrev old : ℕ → ℕ
     old j = oldAmong j (loaded l auto level) (fileSegment f)
 

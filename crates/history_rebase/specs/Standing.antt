@@ -48,15 +48,15 @@ module _ (m : Image) (laid : WellLaid m) (low : Low (Area m)) where
   base = baseOf (m .coming)
 
   -- nothing of it is in the header
-  outer-header : (o j : ℕ) → o < 0x138 → j < count F externals → Outer m laid low j (base + o) → ⊥
+  outer-header : (o j : ℕ) → o < 0x138 → j < count F externals → Outer m j (base + o) → ⊥
   unfolding InPart Touched
   outer-header o j l h (inl a) = laid .in-place .words-off (external j) (a .0) (a .1) header o l tt (a .2)
   outer-header o j l h (inr e) =
       let d = mark-offset m laid o j e in
       apart m laid header (table 5) o (λ z. absurd (omega (arith, ap sort z))) l (rw d (external-part m laid j 6 h (lit< tt)))
 
-  list-byte : {M N : Memory} → Headed m M → Kept (λ q. (j : ℕ) × (j < count F externals) × Outer m laid low j q) M N → Headed m N
-  list-byte h k = headed-same m (λ o l. k (base + o) (λ c. outer-header o (c .0) l (c .1) (c .2))) h
+  outer-headed : {M N : Memory} → Headed m M → Kept (λ q. (j : ℕ) × (j < count F externals) × Outer m j q) M N → Headed m N
+  outer-headed h k = headed-same m (λ o l. k (base + o) (λ c. outer-header o (c .0) l (c .1) (c .2))) h
 
   module _ (bytes : (o : ℕ) → o < sizeOf (m .coming) → F o < 256) where
     list-word
@@ -77,7 +77,7 @@ module _ (m : Image) (laid : WellLaid m) (low : Low (Area m)) where
     reset-stands v h =
         does-mono (Area m) (reset-does m laid low v)
         (λ _ N r.
-        let g = list-byte h (r .2) in
+        let g = outer-headed h (r .2) in
         (
           r .0,
           g,
