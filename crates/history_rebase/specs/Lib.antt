@@ -11,3 +11,4 @@ pub mod Internal
 pub mod Rebased
 pub mod Reset
 pub mod Standing
+pub mod Arrives
