@@ -1,5 +1,5 @@
 -- How `load` and `initialize` begin: a refusal, or a module that stands without links when its record is read.
-use Prim.Native.Nat.{ℕ, _+_, _^_, _<_}
+use Prim.Native.Nat.{ℕ, _^_, _<_}
 use mathlib.Core.Path.{_≡_, refl, _∙_}
 use mathlib.Core.Logic.{_⊎_, inl, inr}
 use mathlib.Core.Option.{none}
@@ -16,9 +16,9 @@ use Rattle.linker.specs.Relocation.{resetExternalRelocations}
 use Rattle.linker.specs.Exports.{readModule}
 use Rattle.linker.specs.Calls as calls
 use Rattle.linker.specs.Calls.{Answer, NotACro, BadSegment, NoRoom, rebase, rebaseStatic, enter, fits, linked}
-use Rattle.history.specs.Arrival.{Coming, initialized, loaded, Image, baseOf, sizeOf, Area}
+use Rattle.history.specs.Arrival.{initialized, loaded, Image, baseOf, sizeOf, Area}
 use Rattle.history.specs.WellLaid.{WellLaid}
-use Rattle.history_steps.specs.Wp.{Memory, Does, Kept, does-mono, does-ret, does-then, does-wider}
+use Rattle.history_steps.specs.Wp.{Memory, Does, Kept, does-ret, does-then, does-wider}
 use Rattle.history_steps.specs.View.{View}
 use Rattle.history_steps.specs.Links.{Stands}
 use Rattle.history_rebase.specs.Stage.{Headed}
@@ -45,9 +45,10 @@ Refuses Q m B = (x : Answer) (N : Memory) → (x ≡ NotACro) ⊎ (x ≡ BadSegm
 -- T holds the module's areas; Q is asked of the call
 module _ (T : ℕ → Type 0) (Q : Answer → Memory → Type 0) where
   module _ (m : Image) (laid : WellLaid m) (low : Low (Area m)) (bytes : (o : ℕ) → o < sizeOf (m .coming) → m .file o < 256)
-           (i : (q : ℕ) → Area m q → T q) where
+      (i : (q : ℕ) → Area m q → T q) where
     arrives
-        : {B : Memory} (records names : ℕ) (r : Register) (auto : Bool) (next : Module → Prog Answer) (step : Prog Rebased) → Does (Area m) step (Outcome m) B → Refuses Q m B
+        : {B : Memory} (records names : ℕ) (r : Register) (auto : Bool) (next : Module → Prog Answer) (step : Prog Rebased)
+        → Does (Area m) step (Outcome m) B → Refuses Q m B
         → ((N : Memory) → Arrived m B N → Does T (recorded records names r (baseOf (m .coming)) (sizeOf (m .coming)) auto next) Q N)
         → Does T (step >>= λ x. enter records names r (baseOf (m .coming)) (sizeOf (m .coming)) auto next x) Q B
     unfolding enter Outcome
@@ -78,7 +79,8 @@ module _ (T : ℕ → Type 0) (Q : Answer → Memory → Type 0) where
         → Does T (calls.load l auto level records names r) Q B
     unfolding calls.load
     load-arrives laid low bytes d b i fresh records names r refuses after =
-        arrives m₁ laid low bytes i records names r auto (linked r l auto level) (rebase l) (rebased l given level f laid low bytes d b fresh) refuses after
+        arrives m₁ laid low bytes i records names r auto (linked r l auto level) (rebase l)
+        (rebased l given level f laid low bytes d b fresh) refuses after
 
   -- the CRS
   module _ (base size : ℕ) (f : ℕ → ℕ) where
@@ -86,10 +88,11 @@ module _ (T : ℕ → Type 0) (Q : Answer → Memory → Type 0) where
     m₀ = record { coming = initialized base size; file = f }
 
     pub initialize-arrives
-        : (laid : WellLaid m₀) (low : Low (Area m₀)) (bytes : (o : ℕ) → o < size → f o < 256) (i : (q : ℕ) → Area m₀ q → T q) {B : Memory} → Fresh m₀ B
-        → (records names : ℕ) (r : Register) → Refuses Q m₀ B
+        : (laid : WellLaid m₀) (low : Low (Area m₀)) (bytes : (o : ℕ) → o < size → f o < 256) (i : (q : ℕ) → Area m₀ q → T q) {B : Memory}
+        → Fresh m₀ B → (records names : ℕ) (r : Register) → Refuses Q m₀ B
         → ((N : Memory) → Arrived m₀ B N → Does T (recorded records names r base size true (calls.initialized r base)) Q N)
         → Does T (calls.initialize base size records names r) Q B
     unfolding calls.initialize
     initialize-arrives laid low bytes i fresh records names r refuses after =
-        arrives m₀ laid low bytes i records names r true (calls.initialized r base) (rebaseStatic base) (rebased-static base size f laid low fresh) refuses after
+        arrives m₀ laid low bytes i records names r true (calls.initialized r base) (rebaseStatic base)
+        (rebased-static base size f laid low fresh) refuses after

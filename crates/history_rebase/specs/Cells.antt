@@ -1,7 +1,7 @@
 -- Loops whose turns write each in a cell of its own; and words that are moved.
-use Prim.Native.Nat.{ℕ, zero, suc, _+_, _%_, _^_, _≤_, _<_}
-use mathlib.Core.Path.{_≡_, refl, sym, ap, _∙_}
-use mathlib.Core.Logic.{_≢_, _⊎_, inl, inr}
+use Prim.Native.Nat.{ℕ, suc, _+_, _^_, _≤_, _<_}
+use mathlib.Core.Path.{_≡_, refl, ap, _∙_}
+use mathlib.Core.Logic.{_⊎_, inl, inr}
 use mathlib.Core.List.{List, [], _∷_}
 use mathlib.Core.Bool.{true}
 use native.Mathlib.Omega.{arith}
@@ -9,14 +9,14 @@ use native.Mathlib.Decide.{ℕ-discrete}
 use lib.Dec.{eqb}
 use borrow.Author.Tests.{eq-eqb, ne-eqb}
 use Rattle.window.specs.Memory.{if_then_else_, _⊕_}
-use Rattle.window.specs.Bytes.{byteOf, join, join-bytes, join-at}
-use Rattle.window.specs.Access.{Prog, ret, _>>=_, get32, put32}
+use Rattle.window.specs.Bytes.{byteOf, join-bytes, join-at}
+use Rattle.window.specs.Access.{Prog, ret, get32, put32}
 use Rattle.window.specs.Loop.{loop}
 use Rattle.window.specs.Within.{In, Four}
 use Rattle.window.specs.Mirror.{word, word-same, put4, put4-on, put4-off}
 use Rattle.linker.specs.Rebase.{moveWord, movePointers}
 use Rattle.history.specs.Arrival.{movedOffset}
-use Rattle.history_steps.specs.Wp.{Memory, Does, Kept, Reads, does-mono, does-ret, does-then, does-read, does-loop, ends-put32, reads-get32}
+use Rattle.history_steps.specs.Wp.{Memory, Does, Kept, does-mono, does-ret, does-then, does-read, does-loop, ends-put32, reads-get32}
 
 -- turn i writes in the cell C i, of whose bytes Q i speaks; M is where the loop starts
 module _ (C : ℕ → ℕ → Type 0) (Q : ℕ → Memory → Type 0) (M : Memory) where

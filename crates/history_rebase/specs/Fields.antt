@@ -1,26 +1,21 @@
 -- Reading at any stage of a rebase: the tables' starts and counts, and a segment as the file has it.
-use Prim.Native.Nat.{ℕ, zero, suc, _+_, _-_, _*_, _%_, _^_, _≤_, _<_}
-use mathlib.Core.Path.{_≡_, refl, sym, ap, _∙_}
-use mathlib.Core.Logic.{_≢_, _⊎_, inl, inr}
-use mathlib.Core.List.{List, []}
-use mathlib.Core.Bool.{true, false}
+use Prim.Native.Nat.{ℕ, _+_, _-_, _*_, _≤_, _<_}
+use mathlib.Core.Path.{_≡_, refl}
+use mathlib.Core.List.{List}
 use native.Mathlib.Omega.{arith}
-use native.Mathlib.Decide.{decLt}
-use lib.Dec.{ltb, lit<, lit≤}
-use borrow.Author.Tests.{lt-ltb, le-ltb}
-use Rattle.window.specs.Memory.{if_then_else_, _⊕_}
-use Rattle.window.specs.Access.{Prog, ret, _>>=_, get32}
-use Rattle.window.specs.Within.{In, Four, Low}
+use lib.Dec.{lit<, lit≤}
+use borrow.Author.Tests.{lt-ltb}
+use Rattle.window.specs.Memory.{_⊕_}
+use Rattle.window.specs.Access.{get32}
+use Rattle.window.specs.Within.{Low}
 use Rattle.window.specs.Mirror.{word}
-use Rattle.layout.specs.Header.{segmentNum, segmentTableOffset, segmentEntrySize}
-use Rattle.layout.specs.Format.{segmentType}
-use Rattle.layout.specs.Segments.{field, entryAt, segmentEntry, segment}
-use Rattle.layout.specs.declared.segments.FoundSegment.{FoundSegment}
-use Rattle.layout.specs.declared.segments.FoundSegment.the-variants.{Found, Missing}
+use Rattle.layout.specs.Header.{segmentNum, segmentTableOffset}
+use Rattle.layout.specs.Segments.{field, segmentEntry, segment}
+use Rattle.layout.specs.declared.segments.FoundSegment.the-variants.{Found}
 use Rattle.history.specs.Below.{AllBelow, below}
 use Rattle.history.specs.Image.{tables, segments, start, count, entry, fileSegment}
 use Rattle.history.specs.Arrival.{Image, baseOf, sizeOf, movedOffset, Area}
-use Rattle.history.specs.WellLaid.{table, tableNumber, InPart, WellLaid}
+use Rattle.history.specs.WellLaid.{table, tableNumber, WellLaid}
 use Rattle.history_steps.specs.Wp.{Memory, Reads, reads-then, reads-ret, reads-get32}
 use Rattle.history_steps.specs.Parts.{part-inside, entry-in-table}
 use Rattle.history_steps.specs.Reading.{plain-sum, four-at, entry-at}
@@ -30,11 +25,33 @@ use Rattle.history_rebase.specs.Stage.{word-is, Stage, header-reads}
 abbrev FieldOf : ℕ → Type 0
 FieldOf n = ((f : ℕ) × (f < 17) × (tableNumber n .field ≡ 0xb0 + 8 * f)) × (0 < tableNumber n .width)
 
+-- those of the first six tables, and of the other six
+first-fields : AllBelow FieldOf 6
+unfolding tables AllBelow
+first-fields = (
+  ((9, lit< tt, refl), lit< tt),
+  (
+    ((8, lit< tt, refl), lit< tt),
+    (
+      ((7, lit< tt, refl), lit< tt),
+      (((5, lit< tt, refl), lit< tt), (((4, lit< tt, refl), lit< tt), (((3, lit< tt, refl), lit< tt), tt))),
+    ),
+  ),
+)
+
 pub field-of : (n : ℕ) → n < 12 → FieldOf n
 unfolding tables AllBelow
 field-of n l =
-    below FieldOf 12 n l
-    (((16, lit< tt, refl), lit< tt), (((15, lit< tt, refl), lit< tt), (((14, lit< tt, refl), lit< tt), (((12, lit< tt, refl), lit< tt), (((11, lit< tt, refl), lit< tt), (((10, lit< tt, refl), lit< tt), (((9, lit< tt, refl), lit< tt), (((8, lit< tt, refl), lit< tt), (((7, lit< tt, refl), lit< tt), (((5, lit< tt, refl), lit< tt), (((4, lit< tt, refl), lit< tt), (((3, lit< tt, refl), lit< tt), tt))))))))))))
+    below FieldOf 12 n l (
+      ((16, lit< tt, refl), lit< tt),
+      (
+        ((15, lit< tt, refl), lit< tt),
+        (
+          ((14, lit< tt, refl), lit< tt),
+          (((12, lit< tt, refl), lit< tt), (((11, lit< tt, refl), lit< tt), (((10, lit< tt, refl), lit< tt), first-fields))),
+        ),
+      ),
+    )
 
 module _ (m : Image) (laid : WellLaid m) (low : Low (Area m)) where
   abbrev F : ℕ → ℕ

@@ -1,16 +1,12 @@
 -- Internal relocations write nothing but internal relocated words, so the view stays.
-use Prim.Native.Nat.{ℕ, suc, _+_, _*_, _≤_, _<_}
-use mathlib.Core.Path.{_≡_, refl, sym, ap, _∙_}
-use mathlib.Core.Logic.{_≢_, _⊎_, inl, inr}
-use mathlib.Core.List.{List}
-use mathlib.Core.Bool.{true, false}
+use Prim.Native.Nat.{ℕ, _+_, _≤_, _<_}
+use mathlib.Core.Path.{_≡_, refl, sym, _∙_}
 use native.Mathlib.Omega.{arith}
 use native.Mathlib.Decide.{decLt}
 use lib.Dec.{ltb, lit<, lit≤}
 use borrow.Author.Tests.{lt-ltb, le-ltb}
 use Rattle.window.specs.Memory.{if_then_else_, _⊕_}
-use Rattle.window.specs.Access.{Prog, ret, _>>=_, get8, get32}
-use Rattle.window.specs.Loop.{loop}
+use Rattle.window.specs.Access.{Prog, get8, get32}
 use Rattle.window.specs.Within.{In, Low}
 use Rattle.window.specs.Mirror.{word, put4-off}
 use Rattle.layout.specs.Header.{internalRelocationTableOffset, internalRelocationNum, relocationEntrySize}
@@ -25,17 +21,17 @@ use Rattle.linker.specs.Rebase.{at-offset}
 use Rattle.linker.specs.Relocation.{writePlace, relocateFrom, relocateInto, applyInternalRelocation, applyInternalRelocations}
 use Rattle.history.specs.Image.{tables, segments, internals, start, count, entry, fileSegment, tag, kind, symbolSegment, addend}
 use Rattle.history.specs.Arrival.{Image, baseOf, sizeOf, movedOffset, segmentPlace, oldPlace, placedSegment, address, Area}
-use Rattle.history.specs.WellLaid.{table, tableNumber, Touched, Relocated, internal, WordAt, Writes, WellLaid}
+use Rattle.history.specs.WellLaid.{table, Touched, internal, WordAt, Writes, WellLaid}
 use Rattle.history_steps.specs.Wp.{Memory, Does, Kept, Reads, does-mono, does-ret, does-read, does-loop, ends-privileged, reads-get8, reads-get32}
 use Rattle.history_steps.specs.View.{View, view-agree}
 use Rattle.history_steps.specs.Parts.{spot, spot-no-word, image-area, entry-in-table}
 use Rattle.history_steps.specs.Reading.{plain-sum, four-at, entry-at, reads-segment}
 use Rattle.history_steps.specs.Batch.{Sort, sort, writes, writes-not}
 use Rattle.history_rebase.specs.Cells.{Among}
-use Rattle.history_rebase.specs.Stage.{word-is, Stage, Rows}
+use Rattle.history_rebase.specs.Stage.{word-is, Stage}
 use Rattle.history_rebase.specs.Fields.{entry-inside, reads-start, reads-count}
 use Rattle.history_rebase.specs.Tables.{with-columns}
-use Rattle.history_rebase.specs.Viewed.{pointed, viewed}
+use Rattle.history_rebase.specs.Viewed.{pointed}
 
 -- the bytes of the internal relocated words
 abbrev pub Inner : Image → ℕ → Type 0
@@ -58,7 +54,8 @@ module _ (m : Image) (laid : WellLaid m) (low : Low (Area m)) where
   module _ {M : Memory} (s : Stage m pointed M) (v : View m M) where
     -- entries of the internal table are as the file has them
     plain-byte
-        : {N : Memory} → Kept (Inner m) M N → (j k : ℕ) → j < count F internals → k < 12 → N (base + (entry F internals j + k)) ≡ F (entry F internals j + k)
+        : {N : Memory} → Kept (Inner m) M N → (j k : ℕ) → j < count F internals → k < 12
+        → N (base + (entry F internals j + k)) ≡ F (entry F internals j + k)
     unfolding tables pointed with-columns Among Touched
     plain-byte n j k l h =
         n (base + (entry F internals j + k))
@@ -129,7 +126,9 @@ module _ (m : Image) (laid : WellLaid m) (low : Low (Area m)) where
       abbrev placed : ℕ → Segment
       placed i = at-offset (fileSegment F i) (segmentPlace m i)
 
-      address-is : tagSegment t < count F segments → tagOffset t < fileSegment F (tagSegment t) .size → address m t ≡ At (segmentPlace m (tagSegment t) ⊕ tagOffset t)
+      address-is
+          : tagSegment t < count F segments → tagOffset t < fileSegment F (tagSegment t) .size
+          → address m t ≡ At (segmentPlace m (tagSegment t) ⊕ tagOffset t)
       unfolding address placedSegment addressIn
       address-is a b = rw (lt-ltb (tagSegment t) (count F segments) a, lt-ltb (tagOffset t) (fileSegment F (tagSegment t) .size) b) refl
 
@@ -162,9 +161,12 @@ module _ (m : Image) (laid : WellLaid m) (low : Low (Area m)) where
               symbol b (no c) = rw (le-ltb (symbolSegment F j) (count F segments) (omega arith)) (does-ret S n)
               symbol b (yes c) =
                   rw (lt-ltb (symbolSegment F j) (count F segments) c)
-                  (writes-inner target (addend F internals j) (segmentPlace m (symbolSegment F j)) final (λ w. (l, w, c, final, address-is a b, refl)))
+                  (writes-inner target (addend F internals j) (segmentPlace m (symbolSegment F j)) final
+                  (λ w. (l, w, c, final, address-is a b, refl)))
 
-              usable : Dec (tagOffset t < fileSegment F (tagSegment t) .size) → Does S (into (Found (placed (tagSegment t)))) (λ _ L. Kept (Inner m) M L) N
+              usable
+                  : Dec (tagOffset t < fileSegment F (tagSegment t) .size)
+                  → Does S (into (Found (placed (tagSegment t)))) (λ _ L. Kept (Inner m) M L) N
               usable (no b) = rw (le-ltb (tagOffset t) (fileSegment F (tagSegment t) .size) (omega arith)) (does-ret S n)
               usable (yes b) =
                   rw (lt-ltb (tagOffset t) (fileSegment F (tagSegment t) .size) b)

@@ -1,59 +1,51 @@
 -- One segment of a load: refused, or written back with its place.
-use Prim.Native.Nat.{ℕ, zero, suc, _+_, _-_, _*_, _%_, _^_, _≤_, _<_}
-use mathlib.Core.Path.{_≡_, refl, sym, ap, _∙_}
-use mathlib.Core.Logic.{_≢_, _⊎_, inl, inr}
-use mathlib.Core.List.{List, []}
+use Prim.Native.Nat.{ℕ, _+_, _^_, _<_}
+use mathlib.Core.Path.{_≡_, refl, ap, _∙_}
+use mathlib.Core.Logic.{_⊎_, inl, inr}
+use mathlib.Core.List.{List}
 use mathlib.Core.Bool.{Bool, true, false}
 use native.Mathlib.Omega.{arith}
 use native.Mathlib.Decide.{ℕ-discrete}
-use lib.Dec.{eqb, ltb, lit<, lit≤}
+use lib.Dec.{eqb, ltb, lit<}
 use borrow.Author.Tests.{eq-eqb, ne-eqb}
 use Rattle.window.specs.Memory.{if_then_else_, _⊕_}
-use Rattle.window.specs.Access.{Prog, ret, _>>=_, _>>_, put32}
-use Rattle.window.specs.Loop.{loop}
-use Rattle.window.specs.Within.{In, Four, Low}
+use Rattle.window.specs.Within.{In, Low}
 use Rattle.window.specs.Mirror.{word, put4, put4-off}
-use Rattle.layout.specs.Header.{segmentNum, segmentTableOffset}
-use Rattle.layout.specs.Format.{segmentType, segmentTypeNumber, segmentType-number}
-use Rattle.layout.specs.Segments.{field, entryAt, segment, setSegment, setSegmentEntry}
+use Rattle.layout.specs.Header.{segmentTableOffset}
+use Rattle.layout.specs.Format.{segmentTypeNumber}
+use Rattle.layout.specs.Segments.{field, setSegment, setSegmentEntry}
 use Rattle.layout.specs.declared.format.Segment.{Segment}
 use Rattle.layout.specs.declared.format.SegmentType.{SegmentType}
 use Rattle.layout.specs.declared.format.SegmentType.the-variants.{Code, RoData, Data, Bss}
-use Rattle.layout.specs.declared.segments.FoundSegment.the-variants.{Found}
 use Rattle.linker.specs.declared.rebase.Lent.{Lent}
 use Rattle.linker.specs.declared.rebase.Placed.{Placed}
 use Rattle.linker.specs.declared.rebase.Placed.the-variants.{Refused, Put}
-use Rattle.linker.specs.declared.rebase.Moved.{Moved}
-use Rattle.linker.specs.declared.rebase.Moved.the-variants.{Bad, OldPlace}
-use Rattle.linker.specs.Rebase.{at-offset, movedPlace, lentPlace, place, writeBack, moveFound, moveSegment, moveSegments, lookAtSegments}
-use Rattle.history.specs.Image.{tables, segments, start, count, entry, fileSegment}
-use Rattle.history.specs.Arrival.{Coming, initialized, loaded, Image, baseOf, sizeOf, movedOffset, loadedPlace, placeOf, oldFor, oldAmong, segmentPlace, oldPlace, Area}
-use Rattle.history.specs.WellLaid.{Part, header, table, string, tableNumber, InPart, WellLaid}
-use Rattle.history_steps.specs.Wp.{Memory, Does, Kept, Reads, does-mono, does-ret, does-then, does-read, does-put32, does-loop, ends-put32}
-use Rattle.history_steps.specs.Parts.{apart, entry-in-table}
+use Rattle.linker.specs.Rebase.{at-offset, movedPlace, lentPlace, place}
+use Rattle.history.specs.Image.{tables, segments, start, count, entry}
+use Rattle.history.specs.Arrival.{Image, baseOf, movedOffset, loadedPlace, oldFor, Area}
+use Rattle.history.specs.WellLaid.{WellLaid}
+use Rattle.history_steps.specs.Wp.{Memory, Does, Kept, does-read, does-put32, ends-put32}
 use Rattle.history_steps.specs.Reading.{plain-sum, four-at, entry-at}
-use Rattle.history_rebase.specs.Cells.{Turned, none-turned, turned-more, put4-word, word-off}
-use Rattle.history_rebase.specs.Stage.{word-is, Stage, Row, Rows, row-same, Others, stage-more}
-use Rattle.history_rebase.specs.Header.{FileRows}
-use Rattle.history_rebase.specs.Fields.{entry-inside, reads-start, reads-count, reads-file-segment}
+use Rattle.history_rebase.specs.Cells.{put4-word, word-off}
+use Rattle.history_rebase.specs.Stage.{Stage}
+use Rattle.history_rebase.specs.Fields.{entry-inside, reads-start}
 
 -- three words written one after the other
 three-words
     : (M : Memory) (p a b c : ℕ) → a < 2 ^ 32 → b < 2 ^ 32 → c < 2 ^ 32
     → (word (put4 (put4 (put4 M p a) (p + 4) b) (p + 8) c) p ≡ a) × (word (put4 (put4 (put4 M p a) (p + 4) b) (p + 8) c) (p + 4) ≡ b)
     × (word (put4 (put4 (put4 M p a) (p + 4) b) (p + 8) c) (p + 8) ≡ c) × Kept (In p 12) M (put4 (put4 (put4 M p a) (p + 4) b) (p + 8) c)
-three-words M p a b c ha hb hc =
-    (
-      off M₂ (p + 8) c p (λ q i j. absurd (omega (arith, i, j)))
+three-words M p a b c ha hb hc = (
+  off M₂ (p + 8) c p (λ q i j. absurd (omega (arith, i, j)))
       ∙ off M₁ (p + 4) b p (λ q i j. absurd (omega (arith, i, j)))
       ∙ put4-word M p a ha,
-      off M₂ (p + 8) c (p + 4) (λ q i j. absurd (omega (arith, i, j))) ∙ put4-word M₁ (p + 4) b hb,
-      put4-word M₂ (p + 8) c hc,
-      λ q o.
+  off M₂ (p + 8) c (p + 4) (λ q i j. absurd (omega (arith, i, j))) ∙ put4-word M₁ (p + 4) b hb,
+  put4-word M₂ (p + 8) c hc,
+  λ q o.
       put4-off M₂ (p + 8) c q (λ i. o (omega (arith, i), omega (arith, i)))
       ∙ put4-off M₁ (p + 4) b q (λ i. o (omega (arith, i), omega (arith, i)))
       ∙ put4-off M p a q (λ i. o (omega (arith, i), omega (arith, i))),
-    )
+)
   where
     M₁ : Memory
     M₁ = put4 M p a
@@ -68,7 +60,9 @@ three-words M p a b c ha hb hc =
 abbrev pub Puts : Placed → Lent → Segment → SegmentType → ℕ → Type 0
 Puts x l s k old = (x ≡ Refused) ⊎ (x ≡ Put (at-offset s (loadedPlace l s k)) (oldFor s k (l .base) old))
 
-moved-cases : (l : Lent) (s : Segment) (old : ℕ) → (movedPlace l s old ≡ Refused) ⊎ (movedPlace l s old ≡ Put (at-offset s (movedOffset (l .base) (s .offset))) old)
+moved-cases
+    : (l : Lent) (s : Segment) (old : ℕ)
+    → (movedPlace l s old ≡ Refused) ⊎ (movedPlace l s old ≡ Put (at-offset s (movedOffset (l .base) (s .offset))) old)
 unfolding movedPlace movedOffset
 moved-cases l s old = go (ℕ-discrete (s .offset) 0)
   where

@@ -1,13 +1,13 @@
 -- What a rebase leaves: no module, a refused segment, or an image that shows its view.
-use Prim.Native.Nat.{ℕ, zero, suc, _+_, _*_, _^_, _≤_, _<_}
-use mathlib.Core.Path.{_≡_, refl, sym, ap, _∙_}
-use mathlib.Core.Logic.{_≢_, _⊎_, inl, inr}
+use Prim.Native.Nat.{ℕ, _+_, _^_, _≤_, _<_}
+use mathlib.Core.Path.{_≡_, refl, sym, ap}
+use mathlib.Core.Logic.{_⊎_, inl, inr}
 use mathlib.Core.Bool.{Bool, true, false}
 use native.Mathlib.Omega.{arith}
-use lib.Dec.{lit<, lit≤}
+use lib.Dec.{lit≤}
 use Rattle.window.specs.Memory.{if_then_else_, _⊕_}
 use Rattle.window.specs.Access.{Prog, ret, _>>=_, _>>_, get32}
-use Rattle.window.specs.Within.{In, Low}
+use Rattle.window.specs.Within.{Low}
 use Rattle.window.specs.Mirror.{word}
 use Rattle.layout.specs.Header.{magic}
 use Rattle.layout.specs.Format.{segmentType}
@@ -19,16 +19,16 @@ use Rattle.linker.specs.declared.rebase.Rebased.{Rebased}
 use Rattle.linker.specs.Rebase.{isMagic, moveHeader, moveSegments, lookAtSegments, moveTables}
 use Rattle.linker.specs.Relocation.{applyInternalRelocations}
 use Rattle.linker.specs.Calls.{relocate, rebaseWith, rebase, rebaseStatic}
-use Rattle.history.specs.Image.{segments, count, entry, fileSegment}
-use Rattle.history.specs.Arrival.{Coming, initialized, loaded, Image, baseOf, sizeOf, placeOf, oldAmong, segmentPlace, oldPlace, Area}
+use Rattle.history.specs.Image.{segments, entry, fileSegment}
+use Rattle.history.specs.Arrival.{initialized, loaded, Image, baseOf, placeOf, oldAmong, segmentPlace, oldPlace, Area}
 use Rattle.history.specs.WellLaid.{header, InPart, Touched, internal, WellLaid}
-use Rattle.history_steps.specs.Wp.{Memory, Does, Kept, Reads, does-mono, does-ret, does-then, does-read, reads-get32}
+use Rattle.history_steps.specs.Wp.{Memory, Does, Kept, does-ret, does-then, does-read, reads-get32}
 use Rattle.history_steps.specs.View.{View}
 use Rattle.history_steps.specs.Reading.{plain-sum, four-at}
-use Rattle.history_rebase.specs.Stage.{word-is, Stage, Row, Rows, Headed, headed-same}
+use Rattle.history_rebase.specs.Stage.{word-is, Stage, Rows, Headed, headed-same}
 use Rattle.history_rebase.specs.Header.{unmoved, Fresh, FileRows, header-does}
 use Rattle.history_rebase.specs.Segments.{looks, segments-move}
-use Rattle.history_rebase.specs.Viewed.{pointed, tables-move, viewed}
+use Rattle.history_rebase.specs.Viewed.{tables-move, viewed}
 use Rattle.history_rebase.specs.Internal.{Inner, internal-does}
 
 module _ (m : Image) where

@@ -1,15 +1,13 @@
 -- The external reset: every external word gets the handler's address and every mark is cleared; nothing else changes.
-use Prim.Native.Nat.{ℕ, suc, _+_, _*_, _%_, _≤_, _<_}
-use mathlib.Core.Path.{_≡_, refl, sym, ap, _∙_}
-use mathlib.Core.Logic.{_≢_, _⊎_, inl, inr}
-use mathlib.Core.Bool.{true, false}
+use Prim.Native.Nat.{ℕ, _+_, _≤_, _<_}
+use mathlib.Core.Path.{_≡_, refl, sym, _∙_}
+use mathlib.Core.Logic.{_⊎_, inl, inr}
 use native.Mathlib.Omega.{arith}
-use lib.Dec.{eqb, lit<}
+use lib.Dec.{lit<}
 use borrow.Author.Tests.{ne-eqb}
-use Rattle.window.specs.Memory.{if_then_else_, _⊕_}
+use Rattle.window.specs.Memory.{_⊕_}
 use Rattle.window.specs.Bytes.{byteOf}
-use Rattle.window.specs.Access.{Prog, ret, _>>=_, _>>_, get8, get32, put8}
-use Rattle.window.specs.Loop.{loop}
+use Rattle.window.specs.Access.{get8, get32}
 use Rattle.window.specs.Within.{In, Low}
 use Rattle.window.specs.Mirror.{put1-on, put1-off, put4-on, put4-off}
 use Rattle.layout.specs.Header.{relocationEntrySize, externalRelocationTableOffset, externalRelocationNum}
@@ -20,15 +18,15 @@ use Rattle.layout.specs.declared.segments.Address.{Address}
 use Rattle.layout.specs.declared.segments.Address.the-variants.{At, Nowhere}
 use Rattle.linker.specs.Relocation.{unresolvedSymbol, relocateAt, resetEntry, resetExternalRelocations}
 use Rattle.history.specs.Image.{tables, externals, start, count, entry, tag, kind, addend}
-use Rattle.history.specs.Arrival.{Image, baseOf, sizeOf, movedOffset, address, handler, Area}
-use Rattle.history.specs.WellLaid.{Relocated, external, WordAt, WellLaid}
-use Rattle.history_steps.specs.Wp.{Memory, Does, Kept, Reads, does-mono, does-ret, does-then, does-read, ends-put8, ends-privileged}
+use Rattle.history.specs.Arrival.{Image, baseOf, movedOffset, address, handler, Area}
+use Rattle.history.specs.WellLaid.{external, WordAt, WellLaid}
+use Rattle.history_steps.specs.Wp.{Memory, Does, Kept, does-mono, does-ret, does-then, does-read, ends-put8, ends-privileged}
 use Rattle.history_steps.specs.View.{View, view-agree}
 use Rattle.history_steps.specs.Parts.{Spot, spot, spot-no-word, spot-no-mark}
-use Rattle.history_steps.specs.Shows.{valueOf, markAt, word-count, one-place, words-apart, word-no-mark, marks-apart, mark-offset, is-mark, moving-area}
+use Rattle.history_steps.specs.Shows.{valueOf, markAt, one-place, words-apart, word-no-mark, marks-apart, mark-offset, is-mark, moving-area}
 use Rattle.history_steps.specs.Reading.{entry-at, reads-count, reads-start, reads-address, reads-handler}
 use Rattle.history_steps.specs.Batch.{Sort, sort, writes, writes-not, nowhere-no, word-address, word-at, word-writes-not, value-is, entry-inside, mark-sum, reads-tag, reads-kind, reads-addend}
-use Rattle.history_rebase.specs.Cells.{Turned, cells}
+use Rattle.history_rebase.specs.Cells.{cells}
 
 module _ (m : Image) where
   -- the word of external entry j; with its mark
@@ -102,10 +100,9 @@ module _ (m : Image) (laid : WellLaid m) (low : Low (Area m)) where
                 let h : WordAt m (external j) p = word-at m laid low v 0 0 j p l (f 0 0 0) e in
                 let g = f (addend F externals j) a p in
                 rw (g .1)
-                (ends-privileged S p (g .0) (λ k i. laid .in-place .words-inside (external j) p h (p + k) (omega arith, omega arith))
-                (
+                (ends-privileged S p (g .0) (λ k i. laid .in-place .words-inside (external j) p h (p + k) (omega arith, omega arith)) (
                   (λ q k i w.
-                  rw (one-place m laid j q p w h, value-is m laid low v 0 0 j a p (g .0) (g .1)) (put4-on N p (g .0) k i)),
+                      rw (one-place m laid j q p w h, value-is m laid low v 0 0 j a p (g .0) (g .1)) (put4-on N p (g .0) k i)),
                   λ q o. put4-off N p (g .0) q (λ i. o (p, h, i)),
                 ))
             at-sort (writes-not f) =
@@ -126,8 +123,7 @@ module _ (m : Image) (laid : WellLaid m) (low : Low (Area m)) where
         (symbol-set j (handler m) l)))))
         (λ _ L h.
         rw (mark-sum m laid low v 0 0 j l)
-        (ends-put8 S (markAt m j) 0 (moving-area m laid (markAt m j) (is-mark j l))
-        (
+        (ends-put8 S (markAt m j) 0 (moving-area m laid (markAt m j) (is-mark j l)) (
           record {
             word-reset =
                 λ p k i g.
@@ -149,7 +145,8 @@ module _ (m : Image) (laid : WellLaid m) (low : Low (Area m)) where
         (does-read S (field base externalRelocationNum) _ (count F externals) (reads-count m laid low v 5 (lit< tt))
         (does-mono S
         (cells (Outer m) (Reset m) M S {A = Unit {0}}
-        (λ i _. resetEntry base (handler m) (entryAt (movedOffset base (start F externals)) i relocationEntrySize)) (count F externals) tt outer-apart (λ i l. reset-local i)
+        (λ i _. resetEntry base (handler m) (entryAt (movedOffset base (start F externals)) i relocationEntrySize)) (count F externals) tt
+        outer-apart (λ i l. reset-local i)
         (λ j b N l t.
         rw (entry-at m laid low 5 j (lit< tt) l (omega (arith, entry-inside m laid low v 0 0 j l)))
         (turn j N l (outer-view j (omega arith) v (t .kept)))))

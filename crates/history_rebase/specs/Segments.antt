@@ -1,12 +1,11 @@
 -- The segments of a load: one is refused, or each is put in its place; `initialize` only looks at them.
-use Prim.Native.Nat.{ℕ, suc, _+_, _-_, _*_, _^_, _≤_, _<_}
-use mathlib.Core.Path.{_≡_, refl, sym, ap, _∙_}
-use mathlib.Core.Logic.{_≢_, _⊎_, inl, inr}
-use mathlib.Core.List.{List, []}
+use Prim.Native.Nat.{ℕ, suc, _+_, _-_, _^_, _≤_, _<_}
+use mathlib.Core.Path.{_≡_, refl, ap, _∙_}
+use mathlib.Core.Logic.{_⊎_, inl, inr}
+use mathlib.Core.List.{List}
 use native.Mathlib.Omega.{arith}
 use lib.Dec.{lit<}
-use Rattle.window.specs.Access.{Prog, ret, _>>=_, _>>_}
-use Rattle.window.specs.Loop.{loop}
+use Rattle.window.specs.Access.{ret, _>>_}
 use Rattle.window.specs.Within.{In, Low}
 use Rattle.window.specs.Mirror.{word}
 use Rattle.layout.specs.Header.{segmentNum}
@@ -15,18 +14,16 @@ use Rattle.layout.specs.Segments.{field, segment, setSegment}
 use Rattle.layout.specs.declared.format.Segment.{Segment}
 use Rattle.layout.specs.declared.segments.FoundSegment.the-variants.{Found}
 use Rattle.linker.specs.declared.rebase.Lent.{Lent}
-use Rattle.linker.specs.declared.rebase.Placed.{Placed}
-use Rattle.linker.specs.declared.rebase.Placed.the-variants.{Refused, Put}
 use Rattle.linker.specs.declared.rebase.Moved.{Moved}
 use Rattle.linker.specs.declared.rebase.Moved.the-variants.{Bad, OldPlace}
 use Rattle.linker.specs.Rebase.{at-offset, place, writeBack, moveFound, moveSegment, moveSegments, lookAtSegments}
 use Rattle.history.specs.Image.{tables, segments, count, entry, fileSegment}
-use Rattle.history.specs.Arrival.{Coming, initialized, loaded, Image, baseOf, sizeOf, loadedPlace, placeOf, oldFor, oldAmong, segmentPlace, oldPlace, Area}
-use Rattle.history.specs.WellLaid.{Part, table, tableNumber, InPart, WellLaid}
-use Rattle.history_steps.specs.Wp.{Memory, Does, Kept, Reads, does-mono, does-ret, does-then, does-read, does-loop}
+use Rattle.history.specs.Arrival.{loaded, Image, baseOf, loadedPlace, placeOf, oldAmong, segmentPlace, oldPlace, Area}
+use Rattle.history.specs.WellLaid.{table, InPart, WellLaid}
+use Rattle.history_steps.specs.Wp.{Memory, Does, Kept, does-mono, does-ret, does-then, does-read, does-loop}
 use Rattle.history_steps.specs.Parts.{apart, entry-in-table}
 use Rattle.history_rebase.specs.Cells.{Turned, none-turned, turned-more}
-use Rattle.history_rebase.specs.Stage.{word-is, Stage, Row, Rows, row-same, Others, stage-more}
+use Rattle.history_rebase.specs.Stage.{Stage, Row, Rows, row-same, stage-more}
 use Rattle.history_rebase.specs.Header.{FileRows}
 use Rattle.history_rebase.specs.Fields.{entry-inside, reads-count, reads-file-segment}
 use Rattle.history_rebase.specs.Placing.{Puts, place-cases, place-small, word-small, sets-segment}
@@ -91,8 +88,8 @@ module _ (l : Lent) (auto level : ℕ) (f : ℕ → ℕ) where
   m₁ = record { coming = loaded l auto level; file = f }
 
   module _ (laid : WellLaid m₁) (low : Low (Area m₁)) (bytes : (o : ℕ) → o < l .size → f o < 256)
-           (data-small : l .«data_at» < 2 ^ 32) (bss-small : l .«bss_at» < 2 ^ 32) {ζ : ℕ → List ℕ} {M : Memory} (s : Stage m₁ ζ M)
-           (rows : FileRows m₁ M) where
+      (data-small : l .«data_at» < 2 ^ 32) (bss-small : l .«bss_at» < 2 ^ 32) {ζ : ℕ → List ℕ} {M : Memory} (s : Stage m₁ ζ M)
+      (rows : FileRows m₁ M) where
     abbrev old : ℕ → ℕ
     old j = oldAmong j (loaded l auto level) (fileSegment f)
 
@@ -138,10 +135,11 @@ module _ (l : Lent) (auto level : ℕ) (f : ℕ → ℕ) where
             (sets-segment m₁ laid low st j h at (place-small l (fileSegment f j) (fileSegment f j .kind) data-small bss-small) (size-small j h))
             (λ _ L g.
             does-ret (Area m₁)
-            (inr
-            (refl,
-            turned-more (Cell m₁ laid low) (Row m₁) M j N L (λ i z. row-apart m₁ laid low i j z) (λ i z. row-local m₁ laid low i) t
-            (row-now j L (g .0) (g .1) (g .2)) (g .3)))))
+            (inr (
+              refl,
+              turned-more (Cell m₁ laid low) (Row m₁) M j N L (λ i z. row-apart m₁ laid low i j z) (λ i z. row-local m₁ laid low i) t
+                  (row-now j L (g .0) (g .1) (g .2)) (g .3),
+            ))))
 
     pub segments-move
         : Does (Area m₁) (moveSegments l) (λ x N. (x ≡ Bad) ⊎ ((x ≡ OldPlace (oldPlace m₁)) × Stage m₁ ζ N × Rows m₁ N)) M

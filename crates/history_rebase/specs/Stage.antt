@@ -1,25 +1,22 @@
 -- The image between the steps of a rebase: its header moved, and of some tables the pointers.
-use Prim.Native.Nat.{ℕ, zero, suc, _+_, _-_, _*_, _%_, _^_, _≤_, _<_}
+use Prim.Native.Nat.{ℕ, _+_, _*_, _≤_, _<_}
 use mathlib.Core.Path.{_≡_, refl, sym, ap, _∙_}
-use mathlib.Core.Logic.{_≢_, _⊎_, inl, inr}
-use mathlib.Core.List.{List, [], _∷_}
+use mathlib.Core.Logic.{_≢_}
+use mathlib.Core.List.{List}
 use native.Mathlib.Omega.{arith}
 use native.Mathlib.Decide.{ℕ-discrete}
-use lib.Dec.{lit<, lit≤}
 use Rattle.window.specs.Memory.{_⊕_}
 use Rattle.window.specs.Bytes.{join-at}
-use Rattle.window.specs.Access.{get32}
 use Rattle.window.specs.Within.{In, Low}
 use Rattle.window.specs.Mirror.{word}
-use Rattle.layout.specs.Header.{headerSize}
 use Rattle.layout.specs.Format.{segmentType}
 use Rattle.layout.specs.Segments.{field}
-use Rattle.history.specs.Image.{tables, segments, count, entry, fileSegment}
-use Rattle.history.specs.Arrival.{Image, baseOf, sizeOf, movedOffset, segmentPlace, Area}
+use Rattle.history.specs.Image.{segments, count, entry, fileSegment}
+use Rattle.history.specs.Arrival.{Image, baseOf, movedOffset, segmentPlace, Area}
 use Rattle.history.specs.WellLaid.{Part, header, table, string, tableNumber, InPart, WellLaid}
 use Rattle.history_steps.specs.Wp.{Memory, Reads, reads-get32}
 use Rattle.history_steps.specs.View.{four}
-use Rattle.history_steps.specs.Parts.{sort, number, part-inside, entry-in-table}
+use Rattle.history_steps.specs.Parts.{sort, number, entry-in-table}
 use Rattle.history_steps.specs.Reading.{plain-sum, four-at}
 use Rattle.history_rebase.specs.Cells.{Among}
 
@@ -76,7 +73,9 @@ module _ (m : Image) where
   Rows M = (i : ℕ) → i < count F segments → Row i M
 
   -- it is a matter of the entry's bytes
-  pub row-same : (i : ℕ) (M N : Memory) → ((k : ℕ) → k < 12 → N (base + (entry F segments i + k)) ≡ M (base + (entry F segments i + k))) → Row i M → Row i N
+  pub row-same
+      : (i : ℕ) (M N : Memory) → ((k : ℕ) → k < 12 → N (base + (entry F segments i + k)) ≡ M (base + (entry F segments i + k))) → Row i M
+      → Row i N
   row-same i M N h r =
       record {
         place = four m N M (entry F segments i) (λ k l. h k (omega arith)) ∙ r .place;

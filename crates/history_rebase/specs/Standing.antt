@@ -1,26 +1,26 @@
 -- After a rebase and the external reset a module stands without links, its list words as the file has them.
-use Prim.Native.Nat.{ℕ, suc, _+_, _*_, _/_, _%_, _≤_, _<_}
-use mathlib.Core.Path.{_≡_, refl, sym, ap, _∙_}
-use mathlib.Core.Logic.{_≢_, _⊎_, inl, inr}
+use Prim.Native.Nat.{ℕ, _+_, _*_, _/_, _≤_, _<_}
+use mathlib.Core.Path.{_≡_, refl, ap, _∙_}
+use mathlib.Core.Logic.{inl, inr}
 use mathlib.Core.Option.{none}
 use native.Mathlib.Omega.{arith}
 use lib.Dec.{lit<, lit≤}
 use Rattle.window.specs.Bytes.{byteOf}
-use Rattle.window.specs.Within.{In, Low}
+use Rattle.window.specs.Within.{Low}
 use Rattle.window.specs.Mirror.{word}
 use Rattle.layout.specs.Header.{nextCro, previousCro}
 use Rattle.linker.specs.Relocation.{resetExternalRelocations}
 use Rattle.history.specs.Below.{AllBelow, below}
-use Rattle.history.specs.Image.{externals, count, entry}
+use Rattle.history.specs.Image.{externals, count}
 use Rattle.history.specs.Arrival.{Image, baseOf, sizeOf, Area}
 use Rattle.history.specs.WellLaid.{header, table, InPart, Touched, external, WellLaid}
 use Rattle.history_steps.specs.Wp.{Memory, Does, Kept, does-mono}
 use Rattle.history_steps.specs.View.{View}
 use Rattle.history_steps.specs.Parts.{sort, apart, external-part}
-use Rattle.history_steps.specs.Shows.{markAt, mark-offset, word-count, Shows}
+use Rattle.history_steps.specs.Shows.{mark-offset, word-count}
 use Rattle.history_steps.specs.Links.{symbolFor, markFor, symbols, marks, Stands}
 use Rattle.history_rebase.specs.Stage.{Headed, headed-same}
-use Rattle.history_rebase.specs.Reset.{Outer, Reset, reset-does}
+use Rattle.history_rebase.specs.Reset.{Outer, reset-does}
 
 -- the bytes of a word are those that it was read from
 pub byte-word : (F : ℕ → ℕ) (o k : ℕ) → k < 4 → ((i : ℕ) → i < 4 → F (o + i) < 256) → F (o + k) ≡ byteOf k (word F o)
@@ -77,8 +77,7 @@ module _ (m : Image) (laid : WellLaid m) (low : Low (Area m)) where
     reset-stands v h =
         does-mono (Area m) (reset-does m laid low v)
         (λ _ N r.
-        let g = outer-headed h (r .2) in
-        (
+        let g = outer-headed h (r .2) in (
           r .0,
           g,
           record {

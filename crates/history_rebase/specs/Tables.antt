@@ -1,30 +1,28 @@
 -- The pointers in the entries of five tables move; nothing else does.
-use Prim.Native.Nat.{ℕ, suc, _+_, _-_, _*_, _^_, _≤_, _<_}
+use Prim.Native.Nat.{ℕ, _+_, _-_, _≤_, _<_}
 use mathlib.Core.Path.{_≡_, refl, sym, ap, _∙_}
 use mathlib.Core.Logic.{_≢_, _⊎_, inl, inr}
-use mathlib.Core.List.{List, [], _∷_}
+use mathlib.Core.List.{List, []}
 use mathlib.Core.Bool.{true}
 use native.Mathlib.Omega.{arith}
 use native.Mathlib.Decide.{decLt, ℕ-discrete}
-use lib.Dec.{eqb, lit<, lit≤}
+use lib.Dec.{eqb, lit<}
 use borrow.Author.Tests.{eq-eqb, ne-eqb}
 use Rattle.window.specs.Memory.{if_then_else_, _⊕_}
-use Rattle.window.specs.Access.{Prog, ret, _>>=_, _>>_}
+use Rattle.window.specs.Access.{Prog, ret, _>>=_}
 use Rattle.window.specs.Loop.{loop}
 use Rattle.window.specs.Within.{In, Four, Low}
 use Rattle.window.specs.Mirror.{word, word-same}
 use Rattle.layout.specs.Segments.{field, entryAt}
-use Rattle.layout.specs.Tables.{pointerTables}
-use Rattle.linker.specs.Rebase.{movePointers, moveTable, moveTables}
+use Rattle.linker.specs.Rebase.{movePointers}
 use Rattle.history.specs.Image.{tables, segments, start, count, entry}
 use Rattle.history.specs.Arrival.{Image, baseOf, sizeOf, movedOffset, Area}
-use Rattle.history.specs.WellLaid.{Part, header, table, string, tableNumber, InPart, WellLaid}
-use Rattle.history_steps.specs.Wp.{Memory, Does, Kept, Reads, does-mono, does-ret, does-then, does-read}
+use Rattle.history.specs.WellLaid.{table, tableNumber, WellLaid}
+use Rattle.history_steps.specs.Wp.{Memory, Does, does-mono, does-ret, does-read}
 use Rattle.history_steps.specs.Parts.{row, number, apart, entry-in-table}
 use Rattle.history_steps.specs.Reading.{plain-sum, four-at, moved-sum, entry-at}
 use Rattle.history_rebase.specs.Cells.{Turned, cells, Among, Spread, Columns, moves-columns, word-off}
-use Rattle.history_rebase.specs.Stage.{word-is, Stage, Row, Rows, row-same, Others, stage-more}
-use Rattle.history_rebase.specs.Header.{unmoved}
+use Rattle.history_rebase.specs.Stage.{word-is, Stage, Rows, row-same, Others, stage-more}
 use Rattle.history_rebase.specs.Fields.{field-of, entry-inside, reads-start, reads-count}
 
 -- other columns for table t
@@ -94,7 +92,8 @@ module _ (m : Image) (laid : WellLaid m) (low : Low (Area m)) where
     rows-move
         : (M : Memory)
         → Does S
-        (loop (λ i _. movePointers true base (entryAt (movedOffset base (start F (tableNumber t))) i (tableNumber t .width)) xs) 0 (count F (tableNumber t)) tt)
+        (loop (λ i _. movePointers true base (entryAt (movedOffset base (start F (tableNumber t))) i (tableNumber t .width)) xs) 0
+        (count F (tableNumber t)) tt)
         (λ _ N. Turned Cell (CellMoved M) M (count F (tableNumber t)) N) M
     unfolding tables
     rows-move M =
@@ -103,23 +102,28 @@ module _ (m : Image) (laid : WellLaid m) (low : Low (Area m)) where
         (λ j b N l u.
         rw (entry-at m laid low t j lt l (inside j l))
         (does-mono S (moves-columns S base (place j) xs N spread (λ x a. column-fits j x l a))
-        (λ _ L g.
-        ((λ x a.
-        g .0 x a
-        ∙ ap (movedOffset base)
-        (word-off M N (λ q. (i : ℕ) × (i < j) × Cell i q) (place j + x) (u .kept)
-        (λ q a₁ c. cells-apart (c .0) j (c .1) q (c .2) (x, a, a₁)))),
-        g .1))))
+        (λ _ L g. (
+          (λ x a.
+              g .0 x a
+              ∙ ap (movedOffset base)
+              (word-off M N (λ q. (i : ℕ) × (i < j) × Cell i q) (place j + x) (u .kept)
+              (λ q a₁ c. cells-apart (c .0) j (c .1) q (c .2) (x, a, a₁)))),
+          g .1,
+        ))))
 
     module _ (t≢0 : t ≢ 0) {ζ : ℕ → List ℕ} (new : ζ t ≡ []) {M : Memory} (s : Stage m ζ M) (rows : Rows m M) where
       none : (x : ℕ) → Among x (ζ t) → ⊥
       unfolding Among
       none x a = rw new at a
 
-      plain-row : (i k : ℕ) → i < count F (tableNumber t) → k < tableNumber t .width → M (base + (entry F (tableNumber t) i + k)) ≡ F (entry F (tableNumber t) i + k)
+      plain-row
+          : (i k : ℕ) → i < count F (tableNumber t) → k < tableNumber t .width
+          → M (base + (entry F (tableNumber t) i + k)) ≡ F (entry F (tableNumber t) i + k)
       plain-row i k l h = s .plain t i k lt t≢0 l h (λ x a. absurd (none x a))
 
-      plain-word : (i x : ℕ) → i < count F (tableNumber t) → Among x xs → word M (base + (entry F (tableNumber t) i + x)) ≡ word F (entry F (tableNumber t) i + x)
+      plain-word
+          : (i x : ℕ) → i < count F (tableNumber t) → Among x xs
+          → word M (base + (entry F (tableNumber t) i + x)) ≡ word F (entry F (tableNumber t) i + x)
       plain-word i x l a =
           let w = wide x a in
           word-is F M base (entry F (tableNumber t) i + x)
@@ -144,7 +148,8 @@ module _ (m : Image) (laid : WellLaid m) (low : Low (Area m)) where
           let b : Among x xs = rw (with-same ζ t xs) at a in
           let e : base + (entry F (tableNumber t) i + x) ≡ place i + x = omega arith in
           rw e (u .done i l x b) ∙ ap (movedOffset base) (rw e at (plain-word i x l b)))
-          (λ i k z l h o. u .kept (base + (entry F (tableNumber t) i + k)) (λ c. meets i k h o (c .0) (c .2) (ℕ-discrete i (c .0))) ∙ plain-row i k l h) s
+          (λ i k z l h o.
+          u .kept (base + (entry F (tableNumber t) i + k)) (λ c. meets i k h o (c .0) (c .2) (ℕ-discrete i (c .0))) ∙ plain-row i k l h) s
         where
           meets
               : (i k : ℕ) → k < tableNumber t .width → ((x : ℕ) → Among x (with-columns ζ t xs t) → In x 4 k → ⊥) → (j : ℕ)
@@ -156,7 +161,8 @@ module _ (m : Image) (laid : WellLaid m) (low : Low (Area m)) where
               let w = wide (c .0) (c .1) in
               elim (decLt i j) [
                 | yes l ↦ rows-apart i j k (entry F (tableNumber t) i + k - entry F (tableNumber t) j) l h (omega (arith, c .2))
-                | no l ↦ rows-apart j i (entry F (tableNumber t) i + k - entry F (tableNumber t) j) k (omega (arith, n)) (omega (arith, w, c .2)) (omega (arith, c .2))
+                | no l ↦
+                    rows-apart j i (entry F (tableNumber t) i + k - entry F (tableNumber t) j) k (omega (arith, n)) (omega (arith, w, c .2)) (omega (arith, c .2))
               ]
 
       rows-stay : {N : Memory} → Turned Cell (CellMoved M) M (count F (tableNumber t)) N → Rows m N

@@ -1,21 +1,20 @@
 -- After the five pointer tables the image shows its view.
-use Prim.Native.Nat.{ℕ, suc, _+_, _*_, _≤_, _<_}
-use mathlib.Core.Path.{_≡_, refl, sym, ap, _∙_}
+use Prim.Native.Nat.{ℕ, _+_, _≤_, _<_}
+use mathlib.Core.Path.{_≡_, refl}
 use mathlib.Core.Logic.{_≢_, _⊎_, inl, inr}
 use mathlib.Core.List.{List, [], _∷_}
 use mathlib.Core.Bool.{true}
 use native.Mathlib.Omega.{arith}
 use lib.Dec.{lit<, lit≤}
-use Rattle.window.specs.Access.{ret, _>>=_}
 use Rattle.window.specs.Within.{In, Low}
 use Rattle.window.specs.Mirror.{word}
 use Rattle.layout.specs.Header.{onUnresolvedSegmentTag}
 use Rattle.layout.specs.Tables.{pointerTable, pointerTables}
 use Rattle.linker.specs.Rebase.{moveTable, moveTables}
-use Rattle.history.specs.Image.{Table, tables, externals, start, count, entry}
-use Rattle.history.specs.Arrival.{Image, baseOf, sizeOf, movedOffset, Area}
-use Rattle.history.specs.Imports.{Import, named, indexed, anonymous, importEntry}
-use Rattle.history.specs.WellLaid.{string, tableNumber, InPart, WellLaid}
+use Rattle.history.specs.Image.{tables, start, count, entry}
+use Rattle.history.specs.Arrival.{Image, baseOf, movedOffset, Area}
+use Rattle.history.specs.Imports.{named, indexed, anonymous, importEntry}
+use Rattle.history.specs.WellLaid.{tableNumber, InPart, WellLaid}
 use Rattle.history_steps.specs.Wp.{Memory, Does, does-ret, does-then}
 use Rattle.history_steps.specs.View.{Pointing, name-field, table-field, export-name, import-name, import-batch, entry-name, entry-indexed, entry-anonymous, Plain, handler-tag, table-count, export-tag, indexed-tag, import-index, import-tag, indexed-count, anonymous-count, relocation-tag, relocation-addend, PlainByte, relocation-kind, relocation-end, string-byte, View}
 use Rattle.history_rebase.specs.Cells.{Among, Spread}
@@ -74,7 +73,8 @@ module _ (m : Image) (laid : WellLaid m) (low : Low (Area m)) where
       (table-moves m laid low 1 (0 ∷ []) (lit< tt) (one 0) (fits 8 (0 ∷ []) (lit≤ tt, tt)) (omega arith) refl s r)
       (λ _ M₁ h₁.
       does-then S (moveTable true base (pointerTable 0xf0 0xf4 20 3 0 4 12)) _
-      (table-moves m laid low 4 (0 ∷ 4 ∷ 12 ∷ []) (lit< tt) three (fits 20 (0 ∷ 4 ∷ 12 ∷ []) (lit≤ tt, (lit≤ tt, (lit≤ tt, tt)))) (omega arith) refl (h₁ .0) (h₁ .1))
+      (table-moves m laid low 4 (0 ∷ 4 ∷ 12 ∷ []) (lit< tt) three (fits 20 (0 ∷ 4 ∷ 12 ∷ []) (lit≤ tt, (lit≤ tt, (lit≤ tt, tt))))
+      (omega arith) refl (h₁ .0) (h₁ .1))
       (λ _ M₂ h₂.
       does-then S (moveTable true base (pointerTable 0x100 0x104 8 2 0 4 0)) _
       (table-moves m laid low 6 (0 ∷ 4 ∷ []) (lit< tt) two (fits 8 (0 ∷ 4 ∷ []) (lit≤ tt, (lit≤ tt, tt))) (omega arith) refl (h₂ .0) (h₂ .1))
@@ -90,11 +90,10 @@ module _ (m : Image) (laid : WellLaid m) (low : Low (Area m)) where
       two = ((λ x a. elim a [ inl e ↦ omega (arith, e) | inr b ↦ absurd b ]), one 4)
 
       three : Spread (0 ∷ 4 ∷ 12 ∷ [])
-      three =
-          (
-            (λ x a. elim a [ inl e ↦ omega (arith, e) | inr b ↦ elim b [ inl e ↦ omega (arith, e) | inr c ↦ absurd c ] ]),
-            ((λ x a. elim a [ inl e ↦ omega (arith, e) | inr b ↦ absurd b ]), one 12),
-          )
+      three = (
+        (λ x a. elim a [ inl e ↦ omega (arith, e) | inr b ↦ elim b [ inl e ↦ omega (arith, e) | inr c ↦ absurd c ] ]),
+        ((λ x a. elim a [ inl e ↦ omega (arith, e) | inr b ↦ absurd b ]), one 12),
+      )
 
   module _ {M : Memory} (s : Stage m pointed M) (r : Rows m M) where
     -- a word of table n, by its column
