@@ -33,11 +33,11 @@ use Rattle.history_steps.specs.Shows.{upd, upd-same, upd-other, wordFor,
 use Rattle.history_steps.specs.Reading.{plain-sum, four-at, reads-address}
 
 -- whether a kind writes does not hang on the addend, the symbol or the place
-data Sort (t : RelocationType) : Type 0 where
+pub data Sort (t : RelocationType) : Type 0 where
   writes : ((d a p : ℕ) → (v : ℕ) × (relocatedWord t d a p ≡ Word v)) → Sort t
   writes-not : ((d a p : ℕ) → relocatedWord t d a p ≡ Patch.Nothing) → Sort t
 
-sort : (t : RelocationType) → Sort t
+pub sort : (t : RelocationType) → Sort t
 sort RelocationType.Nothing = writes-not (λ d a p. refl)
 sort AbsoluteAddress = writes (λ d a p. (a ⊕ d, refl))
 sort RelativeAddress = writes (λ d a p. (_, refl))
@@ -52,14 +52,14 @@ pub record Set (σ ρ : ℕ → ℕ) (j f a : ℕ) : Type 0 where
   pub new : (i : ℕ) → j ≤ i → i ≤ f → ρ i ≡ a
   pub old : (i : ℕ) → (j ≤ i → i ≤ f → ⊥) → ρ i ≡ σ i
 
-nowhere-no : (p : ℕ) → _≡_ {A = Address} Nowhere (At p) → ⊥
+pub nowhere-no : (p : ℕ) → _≡_ {A = Address} Nowhere (At p) → ⊥
 nowhere-no p e = absurd (omega (arith, ap number e))
   where
     number : Address → ℕ
     number (At q) = 0
     number Nowhere = 1
 
-word-nothing : (v : ℕ) → _≡_ {A = Patch} (Word v) Patch.Nothing → ⊥
+pub word-nothing : (v : ℕ) → _≡_ {A = Patch} (Word v) Patch.Nothing → ⊥
 word-nothing v e = absurd (omega (arith, ap number e))
   where
     number : Patch → ℕ
@@ -100,21 +100,21 @@ module _ (m : Image) (laid : WellLaid m) (low : Low (Area m)) {T : Memory} (view
         rest = s .rest;
       }
 
-  word-address : (j p : ℕ) → WordAt m (external j) p → address m (tag F externals j) ≡ At p
+  pub word-address : (j p : ℕ) → WordAt m (external j) p → address m (tag F externals j) ≡ At p
   unfolding WordAt
   word-address j p h = h .2
 
-  word-at
+  pub word-at
       : (j p : ℕ) → j < count F externals → Writes m (kind F externals j) → address m (tag F externals j) ≡ At p → WordAt m (external j) p
   unfolding WordAt
   word-at j p l w e = (l, w, e)
 
-  word-writes-not
+  pub word-writes-not
       : (j p : ℕ) → ((d a q : ℕ) → relocatedWord (relocationType (kind F externals j)) d a q ≡ Patch.Nothing) → WordAt m (external j) p → ⊥
   unfolding WordAt
   word-writes-not j p f h = word-nothing (h .1 .0) (sym (h .1 .1) ∙ f 0 0 0)
 
-  value-is
+  pub value-is
       : (j a p u : ℕ) → relocatedWord (relocationType (kind F externals j)) (addend F externals j) a p ≡ Word u → valueOf m j a p ≡ u
   unfolding valueOf wordFor
   value-is j a p u e = ap wordFor e
@@ -145,13 +145,13 @@ module _ (m : Image) (laid : WellLaid m) (low : Low (Area m)) {T : Memory} (view
           at-sort (writes-not f) = rw (f (addend F externals j) a p) (does-ret S (no-word j a (λ q h. word-writes-not j q f h) s))
 
   -- an external entry lies in the image
-  entry-inside : (j : ℕ) → j < count F externals → entry F externals j + 12 ≤ sizeOf (m .coming)
+  pub entry-inside : (j : ℕ) → j < count F externals → entry F externals j + 12 ≤ sizeOf (m .coming)
   entry-inside j l = let e = part-inside m laid (table 5) (entry F externals j + 11) (external-part m laid j 11 l (lit< tt)) in omega (arith, e)
 
   pub entry-plus : (j k : ℕ) → j < count F externals → k < 12 → base + entry F externals j ⊕ k ≡ base + (entry F externals j + k)
   entry-plus j k l h = let b = plain-sum m laid low (entry F externals j + k) (omega (arith, entry-inside j l)) in omega (arith, b)
 
-  mark-sum : (j : ℕ) → j < count F externals → base + entry F externals j ⊕ 6 ≡ markAt m j
+  pub mark-sum : (j : ℕ) → j < count F externals → base + entry F externals j ⊕ 6 ≡ markAt m j
   unfolding markAt
   mark-sum j l = entry-plus j 6 l (lit< tt)
 

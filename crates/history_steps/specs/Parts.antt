@@ -43,13 +43,13 @@ sort header = 0
 sort (table n) = 1
 sort (string p) = 2
 
-abbrev number : Part → ℕ
+abbrev pub number : Part → ℕ
 number header = 0
 number (table n) = n
 number (string p) = p
 
 -- an entry's place among its table's rows
-row : (i c w k : ℕ) → i < c → k < w → i * w + k < c * w
+pub row : (i c w k : ℕ) → i < c → k < w → i * w + k < c * w
 row i c w k h g =
     let m : suc i * w ≤ c * w = mul-le-mul-right w h in
     let e : suc i * w ≡ i * w + w = suc-mul i w in omega (arith, m, e)

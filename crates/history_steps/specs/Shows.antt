@@ -111,11 +111,11 @@ module _ (m : Image) where
     unfolding WordAt
     word-count j p h = h .0
 
-    one-place : (j p q : ℕ) → WordAt m (external j) p → WordAt m (external j) q → p ≡ q
+    pub one-place : (j p q : ℕ) → WordAt m (external j) p → WordAt m (external j) q → p ≡ q
     unfolding WordAt
     one-place j p q h g = let e : _≡_ {A = Address} (At p) (At q) = sym (h .2) ∙ g .2 in ap addressOr0 e
 
-    words-apart : (i j p q x : ℕ) → i ≢ j → WordAt m (external i) p → WordAt m (external j) q → In p 4 x → In q 4 x → ⊥
+    pub words-apart : (i j p q x : ℕ) → i ≢ j → WordAt m (external i) p → WordAt m (external j) q → In p 4 x → In q 4 x → ⊥
     words-apart i j p q x n h g a b =
         laid .in-place .words-apart (external i) (external j) (λ e. n (ap numberOf e)) p q h g x a b
       where
@@ -123,25 +123,25 @@ module _ (m : Image) where
         numberOf (external k) = k
         numberOf (internal k) = k
 
-    word-no-mark : (j p i : ℕ) → WordAt m (external j) p → i < count F externals → In p 4 (markAt i) → ⊥
+    pub word-no-mark : (j p i : ℕ) → WordAt m (external j) p → i < count F externals → In p 4 (markAt i) → ⊥
     unfolding markAt Touched
     word-no-mark j p i h l a =
         laid .in-place .words-off (external j) p h (table 5) (entry F externals i + 6) (external-part m laid i 6 l (lit< tt))
         ((λ e. absurd (omega (arith, e))), (λ e. absurd (omega (arith, e))), (λ e. absurd (omega (arith, e)))) a
 
-    word-no-list : (j p x : ℕ) → WordAt m (external j) p → In nextAt 8 x → In p 4 x → ⊥
+    pub word-no-list : (j p x : ℕ) → WordAt m (external j) p → In nextAt 8 x → In p 4 x → ⊥
     unfolding InPart Touched
     word-no-list j p x h l a =
         let e : base + (x - base) ≡ x = omega arith in
         laid .in-place .words-off (external j) p h header (x - base) (omega arith) tt (rw e a)
 
-    mark-past : (j : ℕ) → j < count F externals → base + 0x90 ≤ markAt j
+    pub mark-past : (j : ℕ) → j < count F externals → base + 0x90 ≤ markAt j
     unfolding markAt
     mark-past j l =
         let h = past-header m laid (entry F externals j + 6) (table 5) (λ z. absurd (omega (arith, ap sort z))) (external-part m laid j 6 l (lit< tt)) in
         omega (arith, h)
 
-    marks-apart : (i j : ℕ) → markAt i ≡ markAt j → i ≡ j
+    pub marks-apart : (i j : ℕ) → markAt i ≡ markAt j → i ≡ j
     unfolding markAt entry
     marks-apart i j e = omega (arith, e)
 
@@ -238,7 +238,7 @@ module _ (m : Image) where
         }
 
     -- what is seen does not move
-    mark-offset : (o j : ℕ) → markAt j ≡ base + o → o ≡ entry F externals j + 6
+    pub mark-offset : (o j : ℕ) → markAt j ≡ base + o → o ≡ entry F externals j + 6
     unfolding markAt
     mark-offset o j e = omega (arith, e)
 

@@ -75,7 +75,7 @@ module _ (m : Image) where
     pub kind : (i : ℕ) → i < count F segments → segmentType (word M (base + (entry F segments i + 8))) ≡ fileSegment F i .kind
 
   -- it is a matter of the bytes seen
-  four : (M N : Memory) (o : ℕ) → ((k : ℕ) → k < 4 → M (base + (o + k)) ≡ N (base + (o + k))) → word M (base + o) ≡ word N (base + o)
+  pub four : (M N : Memory) (o : ℕ) → ((k : ℕ) → k < 4 → M (base + (o + k)) ≡ N (base + (o + k))) → word M (base + o) ≡ word N (base + o)
   four M N o h = word-same M N (base + o) (λ k l. let e : base + o + k ≡ base + (o + k) = omega arith in rw e (h k l))
 
   pub view-agree : (M N : Memory) → ((o : ℕ) → Seen F o → M (base + o) ≡ N (base + o)) → View M → View N
