@@ -1,9 +1,10 @@
 -- How `load` and `initialize` begin: a refusal, or a module that stands without links when its record is read.
-use Prim.Native.Nat.{ℕ, _^_, _<_}
+use Prim.Native.Nat.{ℕ, _+_, _^_, _<_}
 use mathlib.Core.Path.{_≡_, refl, _∙_}
 use mathlib.Core.Logic.{_⊎_, inl, inr}
 use mathlib.Core.Option.{none}
 use mathlib.Core.Bool.{Bool, true}
+use borrow.Author.Tests.{lt-ltb}
 use Rattle.window.specs.Memory.{if_then_else_}
 use Rattle.window.specs.Access.{Prog, ret, _>>=_}
 use Rattle.window.specs.Within.{Low}
@@ -16,7 +17,7 @@ use Rattle.linker.specs.Relocation.{resetExternalRelocations}
 use Rattle.linker.specs.Exports.{readModule}
 use Rattle.linker.specs.Calls as calls
 use Rattle.linker.specs.Calls.{Answer, NotACro, BadSegment, NoRoom, rebase, rebaseStatic, enter, fits, linked}
-use Rattle.history.specs.Arrival.{initialized, loaded, Image, baseOf, sizeOf, Area}
+use Rattle.history.specs.Arrival.{initialized, loaded, Image, Arrival, cut, imageOf, baseOf, sizeOf, Area}
 use Rattle.history.specs.WellLaid.{WellLaid}
 use Rattle.history_steps.specs.Wp.{Memory, Does, Kept, does-ret, does-then, does-wider}
 use Rattle.history_steps.specs.View.{View}
@@ -25,6 +26,14 @@ use Rattle.history_rebase.specs.Stage.{Headed}
 use Rattle.history_rebase.specs.Header.{Fresh}
 use Rattle.history_rebase.specs.Rebased.{Outcome, rebased, rebased-static}
 use Rattle.history_rebase.specs.Standing.{reset-stands}
+
+-- an image as its call found it stands so in that call's bytes
+pub fresh-image : (a : Arrival) → Fresh (imageOf a) (a .bytes)
+unfolding cut
+fresh-image a o l = rw (lt-ltb o (sizeOf (a .coming)) l) refl
+
+pub image-bytes : (a : Arrival) → ((q : ℕ) → a .bytes q < 256) → (o : ℕ) → o < sizeOf (a .coming) → imageOf a .file o < 256
+image-bytes a b o l = rw (← fresh-image a o l) (b (baseOf (a .coming) + o))
 
 -- B is the memory before the call: the new module stands in N, which is B but for its areas
 pub record Arrived (m : Image) (B N : Memory) : Type 0 where

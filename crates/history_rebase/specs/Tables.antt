@@ -162,7 +162,8 @@ module _ (m : Image) (laid : WellLaid m) (low : Low (Area m)) where
               elim (decLt i j) [
                 | yes l ↦ rows-apart i j k (entry F (tableNumber t) i + k - entry F (tableNumber t) j) l h (omega (arith, c .2))
                 | no l ↦
-                    rows-apart j i (entry F (tableNumber t) i + k - entry F (tableNumber t) j) k (omega (arith, n)) (omega (arith, w, c .2)) (omega (arith, c .2))
+                    rows-apart j i (entry F (tableNumber t) i + k - entry F (tableNumber t) j) k (omega (arith, n)) (omega (arith, w, c .2))
+                    (omega (arith, c .2))
               ]
 
       rows-stay : {N : Memory} → Turned Cell (CellMoved M) M (count F (tableNumber t)) N → Rows m N

@@ -129,13 +129,13 @@ module _ (m : Image) where
         laid .in-place .words-off (external j) p h (table 5) (entry F externals i + 6) (external-part m laid i 6 l (lit< tt))
         ((λ e. absurd (omega (arith, e))), (λ e. absurd (omega (arith, e))), (λ e. absurd (omega (arith, e)))) a
 
-    pub word-no-list : (j p x : ℕ) → WordAt m (external j) p → In nextAt 8 x → In p 4 x → ⊥
+    word-no-list : (j p x : ℕ) → WordAt m (external j) p → In nextAt 8 x → In p 4 x → ⊥
     unfolding InPart Touched
     word-no-list j p x h l a =
         let e : base + (x - base) ≡ x = omega arith in
         laid .in-place .words-off (external j) p h header (x - base) (omega arith) tt (rw e a)
 
-    pub mark-past : (j : ℕ) → j < count F externals → base + 0x90 ≤ markAt j
+    mark-past : (j : ℕ) → j < count F externals → base + 0x90 ≤ markAt j
     unfolding markAt
     mark-past j l =
         let h = past-header m laid (entry F externals j + 6) (table 5) (λ z. absurd (omega (arith, ap sort z))) (external-part m laid j 6 l (lit< tt)) in
