@@ -58,6 +58,6 @@ given-length c at b = let g = given-ran c at b in rw (g .1) (length-run at (g .0
 
 pub given-valid : (c : Call) (at : ℕ) (b : Bytes) → Words c → Valid b → AreBytes b → Valid (given c at b .left) × AreBytes (given c at b .left)
 unfolding given Words
-given-valid (initialize base size) at b w v t = initialize-valid b v t base size at (w .0) (w .1)
-given-valid (load l auto level) at b w v t = load-valid b v t l auto level at (w .0) (w .1)
-given-valid (unload base) at b w v t = unload-valid b v t base at
+given-valid (initialize base size) at b w v t = let g = initialize-valid b v t base size at (w .0) (w .1) in (g .0, g .1)
+given-valid (load l auto level) at b w v t = let g = load-valid b v t l auto level at (w .0) (w .1) in (g .0, g .1)
+given-valid (unload base) at b w v t = let g = unload-valid b v t base at in (g .0, g .1)
