@@ -45,7 +45,8 @@ chained at b false r m = unchanged at (b .window)
 outcome-ran : (call : ℕ → ℕ → Register → Prog Answer) (at : ℕ) (b : Bytes) → Ran at (b .window) (outcome call at b .left .window)
 unfolding outcome
 outcome-ran call at b =
-    chained at b (goodWindow at (b .window)) (isRegister (b .records) (b .names) (b .missing)) (call (length (b .records)) (length (b .names)) (lentRegister b))
+    chained at b (goodWindow at (b .window)) (isRegister (b .records) (b .names) (b .missing))
+    (call (length (b .records)) (length (b .names)) (lentRegister b))
 
 pub given-ran : (c : Call) (at : ℕ) (b : Bytes) → Ran at (b .window) (given c at b .left .window)
 unfolding given initializeOutcome loadOutcome unloadOutcome

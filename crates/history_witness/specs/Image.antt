@@ -105,9 +105,21 @@ module _ (x own exported imported : ℕ) where
               (
                 none (table 7) o 0,
                 (
-                  (λ h. (rw (le-ltb o 0x138 (omega arith), le-ltb o 0x144 (omega arith), le-ltb o 0x14c (h .0), lt-ltb o 0x154 (h .1)) refl, omega arith)),
+                  (λ h. (
+                    rw (le-ltb o 0x138 (omega arith), le-ltb o 0x144 (omega arith), le-ltb o 0x14c (h .0), lt-ltb o 0x154 (h .1)) refl,
+                    omega arith,
+                  )),
                   (
-                    (λ h. (rw (le-ltb o 0x138 (omega arith), le-ltb o 0x144 (omega arith), le-ltb o 0x14c (omega arith), le-ltb o 0x154 (h .0), lt-ltb o 0x160 (h .1)) refl, omega arith)),
+                    (λ h. (
+                      rw (
+                        le-ltb o 0x138 (omega arith),
+                        le-ltb o 0x144 (omega arith),
+                        le-ltb o 0x14c (omega arith),
+                        le-ltb o 0x154 (h .0),
+                        lt-ltb o 0x160 (h .1),
+                      ) refl,
+                      omega arith,
+                    )),
                     (
                       none (table 4) o 0,
                       (
@@ -186,7 +198,14 @@ module _ (x own exported imported : ℕ) where
       record {
         nonzero = λ e. absurd (omega arith);
         first = refl;
-        run = record { begins = inl refl; ordered = omega arith; inside = omega arith; goes-on = λ j l m. absurd (omega arith); ends = λ e. absurd (omega arith) };
+        run = record {
+          begins = inl refl;
+          ordered = omega arith;
+          inside = omega arith;
+          goes-on = λ j l m. absurd (omega arith);
+          ends = λ e. absurd
+              (omega arith);
+        };
         short = omega arith;
       }
 
@@ -199,7 +218,8 @@ module _ (x own exported imported : ℕ) where
       ⊎ ((start F (tableNumber n) ≢ 0) × (entry F (tableNumber n) (count F (tableNumber n)) ≤ 0x200))
   unfolding bytes file start count entry word tables AllBelow
   tables-inside n l =
-      below (λ k. (count F (tableNumber k) ≡ 0) ⊎ ((start F (tableNumber k) ≢ 0) × (entry F (tableNumber k) (count F (tableNumber k)) ≤ 0x200))) 12 n l (
+      below (λ k. (count F (tableNumber k) ≡ 0) ⊎ ((start F (tableNumber k) ≢ 0) × (entry F (tableNumber k) (count F (tableNumber k)) ≤ 0x200)))
+      12 n l (
         inl refl,
         (
           inl refl,

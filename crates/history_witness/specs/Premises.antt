@@ -62,13 +62,15 @@ first-is r s =
     as-image (initialized 0x100000 0x200)
     (image-is (initialized 0x100000 0x200) 0 page (bytes 0x10 0x63 0x73 0x66) refl refl (omega arith) refl (size-is 0x10 0x63 0x73 0x66))
 
-second-is : (b : Bytes) → imageAt 0x200 b ≡ bytes 0 0x6d 0x66 0x73 → imageOf (record { coming = loaded (lent 0x100200) 1 0; bytes = byteAt at (b .window) }) ≡ M
+second-is : (b : Bytes) → imageAt 0x200 b ≡ bytes 0 0x6d 0x66 0x73
+    → imageOf (record { coming = loaded (lent 0x100200) 1 0; bytes = byteAt at (b .window) }) ≡ M
 unfolding file
 second-is b e =
     as-image (loaded (lent 0x100200) 1 0)
     (image-is (loaded (lent 0x100200) 1 0) 0x200 (b .window) (bytes 0 0x6d 0x66 0x73) refl refl (omega arith) e (size-is 0 0x6d 0x66 0x73))
 
-third-is : (b : Bytes) → imageAt 0x400 b ≡ bytes 0 0x6e 0x67 0x66 → imageOf (record { coming = loaded (lent 0x100400) 1 1; bytes = byteAt at (b .window) }) ≡ N
+third-is : (b : Bytes) → imageAt 0x400 b ≡ bytes 0 0x6e 0x67 0x66
+    → imageOf (record { coming = loaded (lent 0x100400) 1 1; bytes = byteAt at (b .window) }) ≡ N
 unfolding file
 third-is b e =
     as-image (loaded (lent 0x100400) 1 1)
@@ -77,7 +79,12 @@ third-is b e =
 images-a : images at A ≡ C ∷ M ∷ N ∷ []
 images-a =
     ap (map imageOf) came
-    ∙ rw (first-is 512 64, second-is (after t₂) (ap (imageAt 0x200) (computed .kept) ∙ computed .image-m), third-is (after t₃) (computed .image-n)) refl
+    ∙ rw (
+      first-is 512 64,
+      second-is (after t₂) (ap (imageAt 0x200) (computed .kept) ∙ computed .image-m),
+      third-is (after t₃)
+          (computed .image-n),
+    ) refl
 
 images-b : images at B ≡ C ∷ M ∷ []
 images-b =
