@@ -59,7 +59,7 @@ nowhere-no p e = absurd (omega (arith, ap number e))
     number (At q) = 0
     number Nowhere = 1
 
-word-nothing : (v : ℕ) → _≡_ {A = Patch} (Word v) Patch.Nothing → ⊥
+pub word-nothing : (v : ℕ) → _≡_ {A = Patch} (Word v) Patch.Nothing → ⊥
 word-nothing v e = absurd (omega (arith, ap number e))
   where
     number : Patch → ℕ

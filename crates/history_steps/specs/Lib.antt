@@ -23,3 +23,4 @@ pub mod Gathered
 pub mod Recording
 pub mod Fixing
 pub mod Final
+pub mod Conclusions
