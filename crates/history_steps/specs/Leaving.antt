@@ -314,9 +314,12 @@ module _ (C : Cast) (sound : Sound C) (nonzero : (k : ℕ) → k < C .number →
         does-then S (setField (b d) 0x88 0) _ (sets-next C sound d 0 (inside d below) (g .2))
         (λ _ L u.
         does-mono S (sets-previous C sound d 0 (inside d below) u)
-        (λ _ K t.
-        (put (g .0) d 0, put (g .1) d 0, t,
-        record {
-          nexts = λ i l. put-other (g .0) d 0 (skip d i) (skip-not d i) ∙ g .3 .nexts i l;
-          previouses = λ i l. put-other (g .1) d 0 (skip d i) (skip-not d i) ∙ g .3 .previouses i l;
-        })))))))
+        (λ _ K t. (
+          put (g .0) d 0,
+          put (g .1) d 0,
+          t,
+          record {
+            nexts = λ i l. put-other (g .0) d 0 (skip d i) (skip-not d i) ∙ g .3 .nexts i l;
+            previouses = λ i l. put-other (g .1) d 0 (skip d i) (skip-not d i) ∙ g .3 .previouses i l;
+          },
+        )))))))
