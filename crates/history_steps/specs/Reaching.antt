@@ -1,15 +1,14 @@
 -- What is done to standing modules one after another: a new one's exports reach them, or one that leaves is taken from their links.
 use Prim.Native.Nat.{ℕ, zero, suc, pred, _≤_, _<_}
-use mathlib.Core.Path.{_≡_, refl, sym, ap, _∙_}
+use mathlib.Core.Path.{_≡_, refl, sym, _∙_}
 use mathlib.Core.Logic.{_≢_}
 use mathlib.Core.List.{List, [], _∷_}
 use mathlib.Core.Option.{none}
-use mathlib.Core.Bool.{true, false}
 use native.Mathlib.Omega.{arith}
 use native.Mathlib.Decide.{decLt}
 use lib.ListN.{length}
 use Rattle.window.specs.Memory.{if_then_else_}
-use Rattle.window.specs.Access.{Prog, ret, _>>=_, _>>_}
+use Rattle.window.specs.Access.{Prog, ret, _>>=_}
 use Rattle.register.specs.Module.{Module}
 use Rattle.linker.specs.Imports.{serve, applyExportsToLoaded}
 use Rattle.linker.specs.Resets.{resetImports, resetImporters}
@@ -22,7 +21,7 @@ use Rattle.history_steps.specs.Runs.{Linking}
 use Rattle.history_steps.specs.Serving.{Served, serves}
 use Rattle.history_steps.specs.Resetting.{Dropped, resets-all}
 use Rattle.history_steps.specs.World.{Cast, Sound, World, All, focus, again, put, put-same, put-other, world-same}
-use Rattle.history_steps.specs.Leaving.{skip, skip-low, skip-high, skip-not}
+use Rattle.history_steps.specs.Leaving.{skip, skip-low, skip-high, skip-not, skip-below, skip-back}
 use Rattle.history_steps.specs.Own.{RecordedAll}
 
 module _ (C : Cast) (sound : Sound C) where
@@ -134,7 +133,8 @@ module _ (C : Cast) (sound : Sound C) where
   resets-world x r rec d rs below few h {φ} w =
       does-mono S
       (in-turn (resetImporters r) (λ t. if t .auto then resetImports r (t .base) else ret tt)
-      (λ j. Change (Dropped x (C .image j)) (λ e y z. z ≡ none)) nil cons each (skip d) rs skip-below skip-other h w)
+      (λ j. Change (Dropped x (C .image j)) (λ e y z. z ≡ none)) nil cons each (skip d) rs
+      (λ k l. skip-below (C .number) d k below (omega arith)) skip-other h w)
       (λ _ N t. (t .0, t .1, (λ j l o. at (t .0) (t .2) j l o (decLt j d)), t .3 d (λ k l. skip-not d k)))
     where
       nil : resetImporters r [] ≡ ret tt
@@ -154,9 +154,6 @@ module _ (C : Cast) (sound : Sound C) where
       each k l t h φ n v M s =
           rw (h .auto, h .base) (resets-all (C .image k) (sound .laid k l) (sound .low k l) (sound .view k l) n v x r rec s)
 
-      skip-below : (k : ℕ) → k < length rs → skip d k < C .number
-      skip-below k l = elim (decLt k d) [ yes g ↦ rw (skip-low d k g) (omega arith) | no g ↦ rw (skip-high d k (omega arith)) (omega arith) ]
-
       skip-other : (j k : ℕ) → j < length rs → k < length rs → skip d j ≡ skip d k → j ≡ k
       skip-other j k l g e = go (decLt j d) (decLt k d)
         where
@@ -171,6 +168,4 @@ module _ (C : Cast) (sound : Sound C) where
           → ((k : ℕ) → k < length rs → Change (Dropped x (C .image (skip d k))) (λ e y z. z ≡ none) (φ (skip d k)) (ψ (skip d k))) → (j : ℕ)
           → j < C .number → j ≢ d → Dec (j < d) → Change (Dropped x (C .image j)) (λ e y z. z ≡ none) (φ j) (ψ j)
       at ψ f j l o (yes g) = rw (skip-low d j g) at (f j (omega arith))
-      at ψ f j l o (no g) =
-          let z : skip d (pred j) ≡ j = skip-high d (pred j) (omega arith) ∙ (let u : suc (pred j) ≡ j = omega arith in u) in
-          rw z at (f (pred j) (omega arith))
+      at ψ f j l o (no g) = rw (skip-back d j (omega arith)) at (f (pred j) (omega arith))
