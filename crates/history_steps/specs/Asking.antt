@@ -91,7 +91,8 @@ module _ (m : Image) (laid : WellLaid m) (low : Low (Area m)) {T : Memory} (view
     kinds-apart e (i, l, b) (j, g, (a, (p, h, c, d))) =
         let z : p ≡ named i = laid .alone .own-batch p (named i) h l (d ∙ sym b) in no-run m laid low view n v j g i (rw z at c)
 
-    pub asks-entry : (j : ℕ) (i : Import) → j < count F moduleEntries → nameOf F (word F (entry F moduleEntries j)) ≡ moduleName (x .file) → InRun F j i → Asks x m i
+    pub asks-entry : (j : ℕ) (i : Import) → j < count F moduleEntries → nameOf F (word F (entry F moduleEntries j)) ≡ moduleName (x .file)
+        → InRun F j i → Asks x m i
     unfolding Asks From
     asks-entry j (named i) l e h = tt
     asks-entry j (indexed i) l e h = (j, l, h, sym e)

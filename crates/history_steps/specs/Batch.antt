@@ -164,7 +164,8 @@ module _ (m : Image) (laid : WellLaid m) (low : Low (Area m)) {T : Memory} (view
     pub reads-tag : Reads S (get32 (base + entry F externals j)) (tag F externals j) M
     unfolding tag
     reads-tag =
-        reads-get32 S _ (four-at m laid low (entry F externals j) (omega (arith, entry-inside j l))) (w .kept (entry F externals j) (relocation-tag j l))
+        reads-get32 S _ (four-at m laid low (entry F externals j) (omega (arith, entry-inside j l)))
+        (w .kept (entry F externals j) (relocation-tag j l))
 
     pub reads-kind : Reads S (get8 (base + entry F externals j ⊕ 4)) (kind F externals j) M
     unfolding kind
@@ -246,7 +247,8 @@ module _ (m : Image) (laid : WellLaid m) (low : Low (Area m)) {T : Memory} (view
   unfolding applyRelocationBatch
   batch-does {σ} {ρ} {μ} {M} i e f a b h g s =
       does-then S (walk batchLimit base a (base + entry F externals e) 0) _
-      (walks batchLimit e f a 0 (record { ordered = h .run .ordered; inside = h .run .inside; goes-on = h .run .goes-on; ends = h .run .ends }) (h .short) g s)
+      (walks batchLimit e f a 0 (record { ordered = h .run .ordered; inside = h .run .inside; goes-on = h .run .goes-on; ends = h .run .ends })
+          (h .short) g s)
       (λ k N t.
       does-then S (put8 (base + entry F externals e ⊕ 6) (mark b)) _
       (rw (mark-sum e (omega (arith, h .run .ordered, h .run .inside)))

@@ -97,7 +97,8 @@ module _ (m : Image) (laid : WellLaid m) (low : Low (Area m)) {T : Memory} (view
     unfolding runCount
     counts-indexed w = reads-at 8 (lit≤ tt) (w .kept (entry F moduleEntries j + 8) (indexed-count j l))
 
-    starts-anonymous : {M : Memory} → View m M → Reads S (get32 (base + entry F moduleEntries j ⊕ 12)) (movedOffset base (runStart F j (anonymous 0))) M
+    starts-anonymous : {M : Memory} → View m M
+        → Reads S (get32 (base + entry F moduleEntries j ⊕ 12)) (movedOffset base (runStart F j (anonymous 0))) M
     unfolding runStart
     starts-anonymous w = reads-at 12 (lit≤ tt) (w .moved (entry F moduleEntries j + 12) (entry-anonymous j l))
 

@@ -65,7 +65,8 @@ module _ (m : Image) (laid : WellLaid m) (low : Low (Area m)) {T : Memory} (view
   -- one named import; whether its name is noted as missing is no matter here
   imports-one
       : {φ : Links} {M : Memory} (i : ℕ) (missing : List (List ℕ)) → i < count F namedImports → Stands m T φ n v M
-      → Does S (importNamed ms base (base + importEntry F (named i)) missing) (λ _ N. Changed m T n v S (Linking F LookedUp) (Begins F (named i)) φ N) M
+      → Does S (importNamed ms base (base + importEntry F (named i)) missing)
+      (λ _ N. Changed m T n v S (Linking F LookedUp) (Begins F (named i)) φ N) M
   unfolding importNamed
   imports-one {φ} {M} i missing l s =
       let w = shows-view m laid view (s .shows) in
@@ -81,7 +82,8 @@ module _ (m : Image) (laid : WellLaid m) (low : Low (Area m)) {T : Memory} (view
       (reads-name m laid low w (wanted F (named i)) (import-pointer m laid low view n v i l))
       (if-then S c (resolve base (base + entry F externals (b .0)) (lookupIn ms name)) (noted (lookupIn ms name) name missing) missing
       (does-mono S (resolves m laid low view n v (named i) (b .0) (b .1) (lookupIn ms name) (b .2) s)
-      (λ _ N t. (relink φ (b .0) (linkTo (φ (b .0)) (LookedUp (named i))), t, relinked m laid low view n v LookedUp (named i) l (b .0) (b .1) (b .2))))))))
+      (λ _ N t. (relink φ (b .0) (linkTo (φ (b .0)) (LookedUp (named i))), t, relinked m laid low view n v LookedUp (named i) l (b .0) (b .1)
+      (b .2))))))))
 
   pub imports-named
       : {φ : Links} {M : Memory} (missing : List (List ℕ)) → Stands m T φ n v M
@@ -101,7 +103,8 @@ module _ (m : Image) (laid : WellLaid m) (low : Low (Area m)) {T : Memory} (view
 
   -- an import in the run of entry j gets what that module has
   abbrev pub BySource : ℕ → Option ℕ → Option ℕ → Type 0
-  BySource e x y = (i : Import) → IsImport F i → Begins F i e → (j : ℕ) → j < count F moduleEntries → InRun F j i → y ≡ linkTo x (offerFrom F (Source j) i)
+  BySource e x y = (i : Import) → IsImport F i → Begins F i e → (j : ℕ) → j < count F moduleEntries → InRun F j i
+      → y ≡ linkTo x (offerFrom F (Source j) i)
 
   abbrev pub Run : ℕ → Type 0
   Run e = (j : ℕ) × (j < count F moduleEntries) × EntryBegins F j e
@@ -161,4 +164,5 @@ module _ (m : Image) (laid : WellLaid m) (low : Low (Area m)) {T : Memory} (view
       does-read S (field base 0xf0) _ (movedOffset base (start F moduleEntries)) (reads-start m laid low w 4 (lit< tt))
       (does-read S (field base 0xf4) _ (count F moduleEntries) (reads-count m laid low w 4 (lit< tt))
       (changes-loop m T n v S BySource (λ j _. importModule ms base (entryAt (movedOffset base (start F moduleEntries)) j 20)) (EntryBegins F)
-      (count F moduleEntries) (tt {0}) (runs-other m laid low view n v) (λ j b ψ N l t. rw (entry-start m laid low view n v j l) (imports-entry j l t)) s))
+      (count F moduleEntries) (tt {0}) (runs-other m laid low view n v)
+      (λ j b ψ N l t. rw (entry-start m laid low view n v j l) (imports-entry j l t)) s))

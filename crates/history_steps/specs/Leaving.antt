@@ -30,6 +30,13 @@ pub skip-high : (d i : ℕ) → d ≤ i → skip d i ≡ suc i
 unfolding skip
 skip-high d i l = rw (le-ltb i d l) refl
 
+pub skip-below : (n d i : ℕ) → d < n → i < pred n → skip d i < n
+skip-below n d i g l =
+    elim (decLt i d) [ yes q ↦ rw (skip-low d i q) (omega arith) | no q ↦ rw (skip-high d i (omega arith)) (omega arith) ]
+
+pub skip-back : (d i : ℕ) → d < i → skip d (pred i) ≡ i
+skip-back d i l = let e : suc (pred i) ≡ i = omega arith in skip-high d (pred i) (omega arith) ∙ e
+
 previous-2 : (b : ℕ → ℕ) (n k : ℕ) → 2 ≤ k → previousIn b n k ≡ b (pred k)
 unfolding previousIn
 previous-2 b n zero l = absurd (omega arith)
@@ -220,7 +227,8 @@ module _ (C : Cast) (sound : Sound C) (nonzero : (k : ℕ) → k < C .number →
         go (yes l) =
             let m = next-more b n d l in
             does-then S (if eqb (nextIn b n d) 0 then ret tt else setField (nextIn b n d) 0x8c (previousIn b n d)) _
-            (rw (m, ne-eqb (b (suc d)) 0 (nonzero (suc d) (inside (suc d) l))) (sets-previous C sound (suc d) (previousIn b n d) (inside (suc d) l) w))
+            (rw (m, ne-eqb (b (suc d)) 0 (nonzero (suc d) (inside (suc d) l)))
+            (sets-previous C sound (suc d) (previousIn b n d) (inside (suc d) l) w))
             (λ _ N u.
             does-mono S (sets-next C sound 0 (nextIn b n d) (inside 0 (omega arith)) u)
             (λ _ L t. gone (put y (suc d) (previousIn b n d)) (rw (← z) t) (previous-middle b n d above below h l)))
@@ -242,7 +250,8 @@ module _ (C : Cast) (sound : Sound C) (nonzero : (k : ℕ) → k < C .number →
         does-then S (setField (previousIn b n d) 0x88 (nextIn b n d)) _ {R = λ _ N. World C φ (put x (pred d) (nextIn b n d)) y N}
         (rw p (sets-next C sound (pred d) (nextIn b n d) (inside (pred d) (omega arith)) w))
         (λ _ N u.
-        does-mono S (subst (λ a. Does S (setField a 0x8c (previousIn b n d)) (λ _ L. World C φ (put x (pred d) (nextIn b n d)) (put y (suc d) (previousIn b n d)) L) N) (sym m)
+        does-mono S (subst (λ a. Does S (setField a 0x8c (previousIn b n d))
+        (λ _ L. World C φ (put x (pred d) (nextIn b n d)) (put y (suc d) (previousIn b n d)) L) N) (sym m)
         (sets-previous C sound (suc d) (previousIn b n d) (inside (suc d) l) u))
         (λ _ L t. gone (put y (suc d) (previousIn b n d)) t (previous-middle b n d above below h l)))
 

@@ -24,3 +24,5 @@ pub mod Recording
 pub mod Fixing
 pub mod Final
 pub mod Conclusions
+pub mod Own
+pub mod Reaching

@@ -69,7 +69,8 @@ module _ (b : ℕ → ℕ) (n : ℕ) (some : 0 < n) {x y : ℕ → ℕ} (h : Lis
       ∙ put-other y n (b (pred n)) 0 (λ z. absurd (omega arith))
       ∙ h .previouses 0 some
   previous-after g (suc zero) l = put-same (put y n (b (pred n))) 1 (b n)
-  previous-after g (suc (suc k)) l = put-other (put y n (b (pred n))) 1 (b n) (suc (suc k)) (λ z. absurd (omega arith)) ∙ go (ℕ-discrete (suc (suc k)) n)
+  previous-after g (suc (suc k)) l = put-other (put y n (b (pred n))) 1 (b n) (suc (suc k)) (λ z. absurd (omega arith))
+      ∙ go (ℕ-discrete (suc (suc k)) n)
     where
       go : Dec (suc (suc k) ≡ n) → put y n (b (pred n)) (suc (suc k)) ≡ b (suc k)
       go (yes e) = let z : pred n ≡ suc k = omega arith in rw e (put-same y n (b (pred n)) ∙ ap b z)
@@ -99,7 +100,8 @@ module _ (C : Cast) (sound : Sound C) (nonzero : (k : ℕ) → k < C .number →
     first-enters {φ} {x} {y} e w h =
         let z : 0 ≡ pred n = omega arith in
         does-then S (becomesHead (b 0) 0x88 (b n)) _
-        (does-then S (setField (b 0) 0x88 (b n)) _ (sets-next C sound 0 (b n) (omega arith) w) (λ _ N u. sets-previous C sound n (b n) (omega arith) u))
+        (does-then S (setField (b 0) 0x88 (b n)) _ (sets-next C sound 0 (b n) (omega arith) w)
+        (λ _ N u. sets-previous C sound n (b n) (omega arith) u))
         (λ _ N u.
         does-mono S (sets-next C sound n 0 (omega arith) u)
         (λ _ L t. (
@@ -116,7 +118,8 @@ module _ (C : Cast) (sound : Sound C) (nonzero : (k : ℕ) → k < C .number →
     unfolding becomesTail previousIn
     later-enters {φ} {x} {y} {M} g w h =
         does-then S (becomesTail (b 1) (b n)) _
-        (does-read S (field (b 1) 0x8c) _ (b (pred n)) (rw (h .previouses 1 g) at (reads-previous C sound 1 (omega arith) (rw (h .previouses 1 g) (base-low (pred n) (omega arith))) w))
+        (does-read S (field (b 1) 0x8c) _ (b (pred n))
+        (rw (h .previouses 1 g) at (reads-previous C sound 1 (omega arith) (rw (h .previouses 1 g) (base-low (pred n) (omega arith))) w))
         (does-then S (setField (b (pred n)) 0x88 (b n)) _ (sets-next C sound (pred n) (b n) (omega arith) w)
         (λ _ N u.
         does-then S (setField (b n) 0x8c (b (pred n))) _ (sets-previous C sound n (b (pred n)) (omega arith) u)
@@ -131,7 +134,8 @@ module _ (C : Cast) (sound : Sound C) (nonzero : (k : ℕ) → k < C .number →
         )))
 
     -- the new module goes to the end
-    pub enters : {φ : ℕ → Links} {x y : ℕ → ℕ} {M : Memory} → World C φ x y M → Listed b n x y → Does S (register (b 0) (b n) true) (λ _ N. Entered φ N) M
+    pub enters : {φ : ℕ → Links} {x y : ℕ → ℕ} {M : Memory} → World C φ x y M → Listed b n x y
+        → Does S (register (b 0) (b n) true) (λ _ N. Entered φ N) M
     unfolding register
     enters {φ} {x} {y} {M} w h = go (ℕ-discrete n 1)
       where

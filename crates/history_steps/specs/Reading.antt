@@ -147,7 +147,8 @@ module _ (m : Image) (laid : WellLaid m) (low : Low (Area m)) where
         go
             : Dec (i < count F segments)
             → Reads S
-            (if ltb i (count F segments) then (field base segmentTableOffset >>= λ t. segmentEntry (entryAt t i segmentEntrySize) >>= λ s. ret (Found s))
+            (if ltb i (count F segments) then (field base segmentTableOffset >>= λ t. segmentEntry (entryAt t i segmentEntrySize) >>= λ s. ret
+            (Found s))
             else ret Missing) (placedSegment m i) M
         go (yes l) =
             rw (lt-ltb i (count F segments) l)

@@ -222,7 +222,8 @@ module _ (m : Image) (laid : WellLaid m) (low : Low (Area m)) {T : Memory} (view
         (λ e h. let r = of-run (h .0) (h .1) (h .2) in (r .0, r .1, (h .0, r .2, h .3))) c
 
     -- at one import of the run
-    at-one : {φ ψ : Links} {R : ℕ → Option ℕ → Option ℕ → Type 0} (k i : ℕ) → At-run k i → Change (Begins F (make i)) R φ ψ → Change (AtBegins k) R φ ψ
+    at-one : {φ ψ : Links} {R : ℕ → Option ℕ → Option ℕ → Type 0} (k i : ℕ) → At-run k i → Change (Begins F (make i)) R φ ψ
+        → Change (AtBegins k) R φ ψ
     at-one k i g c =
         change-iff (λ e h. (i, g, h)) (λ e h. rw (one-import k (h .0) i (h .1) g) at (h .2)) c
 

@@ -71,12 +71,14 @@ module _ (m : Image) (laid : WellLaid m) (low : Low (Area m)) {T : Memory} (view
         does-read S (get32 (base + importEntry F (named i) ⊕ 4)) _ (base + entry F externals (b .0))
         (reads-batch m laid low view n v w (named i) l (b .0) (b .1) (b .2))
         (does-read S (isUnresolved (base + entry F externals (b .0))) _ c (reads-unresolved m laid low view n v (named i) (b .0) (b .1) (b .2) s)
-        (if-reads S c (get32 (base + importEntry F (named i))) _ (movedOffset base (wanted F (named i))) (ret tt) (reads-import-name m laid low view n v w i l)
+        (if-reads S c (get32 (base + importEntry F (named i))) _ (movedOffset base (wanted F (named i))) (ret tt)
+        (reads-import-name m laid low view n v w i l)
         (if-reads S c (nameAt (movedOffset base (wanted F (named i)))) _ name (ret tt)
         (reads-name m laid low w (wanted F (named i)) (import-pointer m laid low view n v i l))
         (does-mono S (resolves m laid low view n v (named i) (b .0) (b .1) (read.exportOf r name) (b .2) s)
         (λ _ N t.
-        (relink φ (b .0) (linkTo (φ (b .0)) (offer x m (named i))), rw (rec .exports name) at t, relinked m laid low view n v (offer x m) (named i) l (b .0) (b .1) (b .2)))))))
+        (relink φ (b .0) (linkTo (φ (b .0)) (offer x m (named i))), rw (rec .exports name) at t, relinked m laid low view n v (offer x m)
+        (named i) l (b .0) (b .1) (b .2)))))))
 
     -- one module entry: if it names x, both its runs
     serves-entry
@@ -132,6 +134,8 @@ module _ (m : Image) (laid : WellLaid m) (low : Low (Area m)) {T : Memory} (view
         does-read S (field base 0xf0) _ (movedOffset base (start F moduleEntries)) (reads-start m laid low u 4 (lit< tt))
         (does-read S (field base 0xf4) _ (count F moduleEntries) (reads-count m laid low u 4 (lit< tt))
         (does-mono S
-        (changes-loop m T n v S (Linking F (offer x m)) (λ j _. serveModule r base (entryAt (movedOffset base (start F moduleEntries)) j 20)) (EntryAsks m laid low view n v x)
-        (count F moduleEntries) (tt {0}) (entries-apart m laid low view n v x) (λ j b ψ L l t. rw (entry-start m laid low view n v j l) (serves-entry j l t)) (c .1))
+        (changes-loop m T n v S (Linking F (offer x m)) (λ j _. serveModule r base (entryAt (movedOffset base (start F moduleEntries)) j 20))
+        (EntryAsks m laid low view n v x)
+        (count F moduleEntries) (tt {0}) (entries-apart m laid low view n v x)
+        (λ j b ψ L l t. rw (entry-start m laid low view n v j l) (serves-entry j l t)) (c .1))
         (λ _ L d. (d .0, d .1, change-iff serves-all serves-only (change-then (kinds-apart m laid low view n v x) (c .2) (d .2)))))))))

@@ -138,7 +138,8 @@ module _ (m : Image) where
     mark-past : (j : ℕ) → j < count F externals → base + 0x90 ≤ markAt j
     unfolding markAt
     mark-past j l =
-        let h = past-header m laid (entry F externals j + 6) (table 5) (λ z. absurd (omega (arith, ap sort z))) (external-part m laid j 6 l (lit< tt)) in
+        let h = past-header m laid (entry F externals j + 6) (table 5) (λ z. absurd (omega (arith, ap sort z)))
+            (external-part m laid j 6 l (lit< tt)) in
         omega (arith, h)
 
     pub marks-apart : (i j : ℕ) → markAt i ≡ markAt j → i ≡ j
@@ -195,7 +196,8 @@ module _ (m : Image) where
         : {T : Memory} {σ μ : ℕ → ℕ} {n v : ℕ} {M : Memory} (a : ℕ) → Shows T σ μ n v M → Shows T σ μ a v (put4 M nextAt a)
     put-next {T} {σ} {μ} {n} {v} {M} a s =
         record {
-          words = λ i q k l g. put4-off M nextAt a (q + k) (λ x. word-no-list i q (q + k) g (omega arith, omega arith) (omega arith, omega arith)) ∙ s .words i q k l g;
+          words = λ i q k l g. put4-off M nextAt a (q + k) (λ x. word-no-list i q (q + k) g (omega arith, omega arith) (omega arith, omega arith))
+              ∙ s .words i q k l g;
           marks = λ i l. put4-off M nextAt a (markAt i) (λ x. absurd (omega (arith, x, mark-past i l))) ∙ s .marks i l;
           nexts = λ k l. put4-on M nextAt a k l;
           previouses = λ k l. put4-off M nextAt a (previousAt + k) (λ x. absurd (omega (arith, x))) ∙ s .previouses k l;
@@ -206,7 +208,8 @@ module _ (m : Image) where
         : {T : Memory} {σ μ : ℕ → ℕ} {n v : ℕ} {M : Memory} (a : ℕ) → Shows T σ μ n v M → Shows T σ μ n a (put4 M previousAt a)
     put-previous {T} {σ} {μ} {n} {v} {M} a s =
         record {
-          words = λ i q k l g. put4-off M previousAt a (q + k) (λ x. word-no-list i q (q + k) g (omega arith, omega arith) (omega arith, omega arith)) ∙ s .words i q k l g;
+          words = λ i q k l g. put4-off M previousAt a (q + k)
+              (λ x. word-no-list i q (q + k) g (omega arith, omega arith) (omega arith, omega arith)) ∙ s .words i q k l g;
           marks = λ i l. put4-off M previousAt a (markAt i) (λ x. absurd (omega (arith, x, mark-past i l))) ∙ s .marks i l;
           nexts = λ k l. put4-off M previousAt a (nextAt + k) (λ x. absurd (omega (arith, x))) ∙ s .nexts k l;
           previouses = λ k l. put4-on M previousAt a k l;
@@ -260,7 +263,8 @@ module _ (m : Image) where
     dec-word : (j q : ℕ) → Dec ((p : ℕ) × WordAt m (external j) p × In p 4 q)
     unfolding WordAt
     dec-word j q =
-        go (decLt j (count F externals)) (dec-patch (relocatedWord (relocationType (kind F externals j)) 0 0 0)) (dec-at (address m (tag F externals j)))
+        go (decLt j (count F externals)) (dec-patch (relocatedWord (relocationType (kind F externals j)) 0 0 0))
+        (dec-at (address m (tag F externals j)))
       where
         go
             : Dec (j < count F externals) → Dec ((v : ℕ) × (relocatedWord (relocationType (kind F externals j)) 0 0 0 ≡ Word v))

@@ -99,7 +99,8 @@ module _ (m : Image) (laid : WellLaid m) (low : Low (Area m)) where
     stands-same : {φ ψ : Links} {M : Memory} → ((j : ℕ) → φ j ≡ ψ j) → Stands m T φ n v M → Stands m T ψ n v M
     unfolding symbols marks
     stands-same e s =
-        record { shows = shows-same m laid low view n v (λ j. ap (λ x. symbolFor (handler m) x) (e (firstOf F j))) (λ j. ap markFor (e j)) (s .shows) }
+        record { shows = shows-same m laid low view n v (λ j. ap (λ x. symbolFor (handler m) x) (e (firstOf F j))) (λ j. ap markFor (e j))
+            (s .shows) }
 
     again : (φ : Links) (e j : ℕ) → φ j ≡ relink φ e (φ e) j
     again φ e j =
@@ -119,7 +120,8 @@ module _ (m : Image) (laid : WellLaid m) (low : Low (Area m)) where
             (λ _ N. Stands m T (relink φ e (linkTo y x)) n v N) M
         go (some a) z x = does-ret S (stands-same (λ j. again φ e j ∙ ap (λ y. relink φ e y j) z) s)
         go none z (At a) =
-            does-then S (applyRelocationBatch base (base + entry F externals e) a true) _ (links m laid low view n v i e f a b s) (λ _ N t. does-ret S t)
+            does-then S (applyRelocationBatch base (base + entry F externals e) a true) _ (links m laid low view n v i e f a b s)
+            (λ _ N t. does-ret S t)
         go none z Nothing = does-ret S (stands-same (λ j. again φ e j ∙ ap (λ y. relink φ e y j) z) s)
 
     -- unlinking: a linked import goes back to its handler

@@ -68,7 +68,8 @@ module _ (C : Cast) (sound : Sound C) where
       (λ x N g. (g .0 .0, record { stands = λ j i. each x N (g .0 .1) (g .1) j i (ℕ-discrete j k) }))
     where
       each
-          : (x : A) (N : Memory) → Stands (C .image k) (C .rest k) (f x N) a b N → Kept (Area (C .image k)) M N → (j : ℕ) → j < C .number → Dec (j ≡ k)
+          : (x : A) (N : Memory) → Stands (C .image k) (C .rest k) (f x N) a b N → Kept (Area (C .image k)) M N → (j : ℕ) → j < C .number
+              → Dec (j ≡ k)
           → Stands (C .image j) (C .rest j) (put φ k (f x N) j) (put n k a j) (put v k b j) N
       each x N s t j i (yes e) = rw (e, put-same φ k (f x N), put-same n k a, put-same v k b) s
       each x N s t j i (no d) =
@@ -78,7 +79,7 @@ module _ (C : Cast) (sound : Sound C) where
           })
 
   -- written again, links are as they were
-  again : {A : Type 0} (f : ℕ → A) (k j : ℕ) → put f k (f k) j ≡ f j
+  pub again : {A : Type 0} (f : ℕ → A) (k j : ℕ) → put f k (f k) j ≡ f j
   again f k j = elim (ℕ-discrete j k) [ yes e ↦ rw e (put-same f k (f k)) | no d ↦ put-other f k (f k) j d ]
 
   pub world-same

@@ -83,6 +83,7 @@ module _ (at : ℕ) (w : List ℕ) (crs base : ℕ) (auto : Bool) where
       let tc : Apart t crs = turned crs t (last-apart crs m ms (h .1 .0 .1)) in
       rw (later-listed at w crs base auto m t (h .1 .1 .1 .1 .0 .0) (l .0) (l .1 .0))
       (same-list at w (afterTail at w crs base auto m t) crs (not auto) ns
-      (unwritten at w crs base auto m t (crs ⊕ headField (not auto)) (tc true (not auto)) (bc false (not auto)) (mc false (not auto)) (bc true (not auto)))
+      (unwritten at w crs base auto m t (crs ⊕ headField (not auto)) (tc true (not auto)) (bc false (not auto)) (mc false (not auto))
+      (bc true (not auto)))
       (tail-same m ms ns a)
       k)
