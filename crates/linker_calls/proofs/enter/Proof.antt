@@ -47,7 +47,7 @@ returns-3 : tie.Need-returns-3
 returns-3 c =
     let a = c .before .before .before .before .before .before .before .before .before .before .before .before .before .before .before .before .before .before .before .args in
     λ missing h. enter-5 (a .at) (a .w .now) (a .records .now) (a .names .now) _ (a .base) (a .size) (a .auto-link) (c .before .before .before .before .before .before .before .before .before .before .before .before .before .before .enum-told3 .given .1)
-    (c .before .before .before .before .before .before .before .before .before .before .before .before .reset-external-relocations .ensures) (c .before .before .before .before .before .before .index-exports .ensures missing h) (c .enum-told4 .given .1)
+    (c .before .before .before .before .before .before .before .before .before .before .before .before .reset-external-relocations .ensures) (c .before .before .before .before .before .before .index-exports .ensures missing h .0) (c .enum-told4 .given .1)
 
 same-length-4 : tie.Need-same-length-4
 same-length-4 c = search needs
@@ -62,7 +62,7 @@ returns-4 : tie.Need-returns-4
 returns-4 c =
     let a = c .before .before .before .before .before .before .before .before .before .before .before .before .before .before .before .before .before .before .before .args in
     λ missing h. enter-0 (a .at) (a .w .now) (a .records .now) (a .names .now) _ (a .base) (a .size) (a .auto-link) (c .before .before .before .before .before .before .before .before .before .before .before .before .before .before .enum-told3 .given .1)
-    (c .before .before .before .before .before .before .before .before .before .before .before .before .reset-external-relocations .ensures) (c .before .before .before .before .before .before .index-exports .ensures missing h) (c .enum-told5 .given .1)
+    (c .before .before .before .before .before .before .before .before .before .before .before .before .reset-external-relocations .ensures) (c .before .before .before .before .before .before .index-exports .ensures missing h .0) (c .enum-told5 .given .1)
 
 pub enter-spec : {M : Type 1} → statement M
 enter-spec =
