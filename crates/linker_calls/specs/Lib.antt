@@ -2,3 +2,5 @@
 pub mod Steps
 pub mod Laws
 pub mod Stored
+pub mod Linked
+pub mod Left

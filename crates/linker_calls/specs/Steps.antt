@@ -7,6 +7,7 @@ use Rattle.window.specs.Access.{Prog, _>>=_, _>>_, run}
 use Rattle.layout.specs.Header.{nextCro, previousCro}
 use Rattle.layout.specs.Segments.{setField}
 use Rattle.register.specs.Module.{Register}
+use Rattle.linker.specs.declared.rebase.Lent.{Lent}
 use Rattle.linker.specs.declared.rebase.Rebased.{Rebased}
 use Rattle.linker.specs.Relocation.{resetExternalRelocations}
 use Rattle.linker.specs.Exports.{readModule}
@@ -20,6 +21,11 @@ lent window records names missing = record { window = window; records = records;
 
 abbrev pub left : ℕ → ℕ → Bytes → Outcome
 left number value b = record { number = number; value = value; left = b }
+
+-- what a load is lent beside the bytes
+abbrev pub toLoad : ℕ → ℕ → ℕ → ℕ → ℕ → ℕ → Lent
+toLoad base size dataAt dataSize bssAt bssSize =
+    record { base = base; size = size; «data_at» = dataAt; «data_size» = dataSize; «bss_at» = bssAt; «bss_size» = bssSize }
 
 -- the first two tests: 3 for the window, then 4 for the register, 0 where both pass
 unfoldable pub tested : Bool → Bool → ℕ
