@@ -1,0 +1,100 @@
+use Rattle.linker_calls.proofs.Calls.{initialize-refused, initialize-hindered, initialize-done}
+use Rattle.linker_calls.specs.Steps.{lent}
+use borrow.Author.Needs.{needs}
+use Rattle.linker_calls.proofs.initialize.Statement.{statement}
+use Rattle.linker_calls.proofs.initialize.Tie as tie
+
+tested-requires : tie.Need-tested-requires
+tested-requires c κs = search needs
+
+same-length : tie.Need-same-length
+same-length c = search needs
+
+same-length-2 : tie.Need-same-length-2
+same-length-2 c = search needs
+
+same-length-3 : tie.Need-same-length-3
+same-length-3 c = search needs
+
+same-length-4 : tie.Need-same-length-4
+same-length-4 c = search needs
+
+returns : tie.Need-returns
+returns c =
+    let a = c .before .before .before .before .before .before .before .before .before .before .args in
+    let b = lent (a .window .now) (a .records .now) (a .names .now) (a .missing .now) in
+    initialize-refused (a .at) (a .base) (a .size) b (c .before .tested .ensures) (c .if1 .taken)
+
+rebase-static-requires : tie.Need-rebase-static-requires
+rebase-static-requires c κs = search needs
+
+enter-requires : tie.Need-enter-requires
+enter-requires c κs = search needs
+
+same-length-5 : tie.Need-same-length-5
+same-length-5 c = search needs
+
+same-length-6 : tie.Need-same-length-6
+same-length-6 c = search needs
+
+same-length-7 : tie.Need-same-length-7
+same-length-7 c = search needs
+
+same-length-8 : tie.Need-same-length-8
+same-length-8 c = search needs
+
+returns-2 : tie.Need-returns-2
+returns-2 c =
+    let a = c .before .before .before .before .before .before .before .before .before .before .before .before .before .before .before .before .before .before .before .before .before .before .before .before .before .args in
+    let b = lent (a .window .now) (a .records .now) (a .names .now) (a .missing .now) in
+    initialize-hindered (a .at) (a .base) (a .size) b (c .before .before .before .before .before .before .before .before .before .before .before .before .before .before .before .before .tested .ensures) (c .before .before .before .before .before .before .before .before .before .before .before .before .before .before .before .if1 .left) (c .before .before .before .before .before .before .before .before .before .before .before .before .before .rebase-static .ensures) (c .before .before .before .before .before .before .before .enter .ensures) (c .if2 .taken)
+
+unhang-requires : tie.Need-unhang-requires
+unhang-requires c κs = search needs
+
+set-crs-requires : tie.Need-set-crs-requires
+set-crs-requires c κs = search needs
+
+same-length-9 : tie.Need-same-length-9
+same-length-9 c = search needs
+
+same-length-10 : tie.Need-same-length-10
+same-length-10 c = search needs
+
+same-length-11 : tie.Need-same-length-11
+same-length-11 c = search needs
+
+same-length-12 : tie.Need-same-length-12
+same-length-12 c = search needs
+
+returns-3 : tie.Need-returns-3
+returns-3 c =
+    let a = c .before .before .before .before .before .before .before .before .before .before .before .before .before .before .before .before .before .before .before .before .before .before .before .before .before .before .before .before .before .before .before .before .before .args in
+    let b = lent (a .window .now) (a .records .now) (a .names .now) (a .missing .now) in
+    initialize-done (a .at) (a .base) (a .size) b (c .before .before .before .before .before .before .before .before .before .before .before .before .before .before .before .before .before .before .before .before .before .before .before .before .tested .ensures) (c .before .before .before .before .before .before .before .before .before .before .before .before .before .before .before .before .before .before .before .before .before .before .before .if1 .left) (c .before .before .before .before .before .before .before .before .before .before .before .before .before .before .before .before .before .before .before .before .before .rebase-static .ensures) (c .before .before .before .before .before .before .before .before .before .before .before .before .before .before .before .enter .ensures) (c .before .before .before .before .before .before .before .before .if2 .left)
+    (c .before .before .before .before .before .before .unhang .ensures) (c .before .before .set-crs .ensures)
+
+pub initialize-spec : {M : Type 1} → statement M
+initialize-spec =
+    tie.close
+    (tie.spec
+    tested-requires
+    same-length
+    same-length-2
+    same-length-3
+    same-length-4
+    returns
+    rebase-static-requires
+    enter-requires
+    same-length-5
+    same-length-6
+    same-length-7
+    same-length-8
+    returns-2
+    unhang-requires
+    set-crs-requires
+    same-length-9
+    same-length-10
+    same-length-11
+    same-length-12
+    returns-3)

@@ -1,0 +1,103 @@
+-- A module that has its record: what linking it leaves.
+use Prim.Native.Nat.{ℕ, _<_}
+use mathlib.Core.Path.{_≡_, refl, sym, ap, _∙_, subst}
+use mathlib.Core.List.{List, [], _∷_, _++_}
+use mathlib.Core.Bool.{Bool, true}
+use native.Mathlib.Omega.{arith}
+use lib.ListN.{length, getD, length-append}
+use Rattle.window.specs.Access.{Prog, ret, _>>=_, _>>_, run}
+use Rattle.register.specs.declared.words.Crs.{Crs}
+use Rattle.register.specs.declared.words.Crs.the-variants.{Unknown, Known}
+use Rattle.register.specs.Words.{wordsIn}
+use Rattle.register.specs.Module.{Module, Register}
+use Rattle.register.specs.Decode.{readCrs, registerOf, isRegister}
+use Rattle.register.specs.Change.{appended}
+use Rattle.register_read.specs.Read.{Encoded, modulesOf, moduleAt, placeAfter}
+use Rattle.linker.specs.declared.rebase.Lent.{Lent}
+use Rattle.linker.specs.Imports.{applyImportNamedSymbols, applyModuleImports, applyExportsToLoaded}
+use Rattle.linker.specs.Lists.{register}
+use Rattle.linker.specs.Fix.{fix}
+use Rattle.linker.specs.Calls.{Answer, Done, listed, missingNow, linked}
+use Rattle.linker_relocation.specs.Runs.{seq, gives}
+use Rattle.linker_imports.specs.Missing.{Noted}
+use Rattle.linker_imports.specs.Modules.{butLast, new-is-last, modules-are}
+use Rattle.linker_calls.specs.Stored.{crs-is}
+
+-- the register's CRS, from its header words
+abbrev pub headerCrs : List ℕ → Crs
+headerCrs records = readCrs (getD (wordsIn records) 1 0) (getD (wordsIn records) 2 0)
+
+pub listed-none : (at base : ℕ) (auto : Bool) (w : List ℕ) {c : Crs} → c ≡ Unknown → w ≡ run at (listed c base auto) w .1
+unfolding listed run
+listed-none at base auto w e = rw e
+
+pub listed-known
+    : (at base : ℕ) (auto : Bool) (w : List ℕ) {c : Crs} (crs : ℕ) {u : List ℕ} → c ≡ Known crs → u ≡ run at (register crs base auto) w .1
+    → u ≡ run at (listed c base auto) w .1
+unfolding listed
+listed-known at base auto w crs e h = rw e h
+
+-- a number and the bytes that linking leaves, m having been appended to r
+pub record Links (at : ℕ) (r : Register) (l : Lent) (auto : Bool) (level : ℕ) (m : Module) (w : List ℕ)
+    (n : ℕ) (window records names missing : List ℕ) : Type 0 where
+  pub kept : List (List ℕ)
+  pub same : _≡_ {A = Answer × List ℕ} (run at (linked r l auto level m) w) (Done n (missingNow (appended r m) kept), window)
+  pub noted : Noted (appended r m) records names missing kept
+
+module _ (at : ℕ) (records names missing : List ℕ) (l : Lent) (auto : Bool) (level : ℕ) (w : List ℕ) {w₁ : List ℕ}
+    (e₁ : w₁ ≡ run at (listed (headerCrs records) (l .base) auto) w .1) {w₂ : List ℕ} (rs ms : List ℕ)
+    (e₂ : let r = registerOf records names missing in
+    let x = run at (applyImportNamedSymbols (r .modules) (l .base) (r .missing)) w₁ in
+    (w₂ ≡ x .1) × Noted r rs names ms (x .0)) where
+  pub still-encoded : Encoded rs names
+  still-encoded = (ms, e₂ .1 .0)
+
+  module _ {w₃ : List ℕ} (e₃ : w₃ ≡ run at (applyModuleImports (modulesOf rs names) (l .base)) w₂ .1) (place : ℕ) {w₄ : List ℕ}
+      (e₄ : w₄ ≡ run at (applyExportsToLoaded (moduleAt rs names place) (butLast (modulesOf rs names))) w₃ .1) {n : ℕ} {w₅ : List ℕ}
+      (e₅ : _≡_ {A = ℕ × List ℕ} (n, w₅) (run at (fix (l .base) (l .size) level) w₄))
+      (r : Register) (m : Module) (er : registerOf records names missing ≡ appended r m) (ep : place ≡ placeAfter 32 (r .modules)) where
+    abbrev found : List (List ℕ) × List ℕ
+    found = run at (applyImportNamedSymbols (appended r m .modules) (l .base) (appended r m .missing)) w₁
+
+    named : (w₂ ≡ found .1) × Noted (appended r m) rs names ms (found .0)
+    named =
+        subst (λ (q : Register). (w₂ ≡ run at (applyImportNamedSymbols (q .modules) (l .base) (q .missing)) w₁ .1)
+        × Noted q rs names ms (run at (applyImportNamedSymbols (q .modules) (l .base) (q .missing)) w₁ .0)) er e₂
+
+    modules : modulesOf rs names ≡ r .modules ++ (m ∷ [])
+    unfolding missingNow appended
+    modules = sym (modules-are rs names ms) ∙ ap (λ (q : Register). q .modules) (named .1 .1)
+
+    last : (butLast (modulesOf rs names) ≡ r .modules) × (moduleAt rs names (placeAfter 32 (r .modules)) ≡ m)
+    last = new-is-last rs names still-encoded (r .modules) m modules
+
+    crs : headerCrs records ≡ r .crs
+    unfolding appended
+    crs = sym (crs-is records names missing) ∙ ap (λ (q : Register). q .crs) er
+
+    pub links : Links at r l auto level m w n w₅ rs names ms
+    unfolding linked appended run
+    links =
+        let h₁ : w₁ ≡ run at (listed (r .crs) (l .base) auto) w .1 = e₁ ∙ ap (λ c. run at (listed c (l .base) auto) w .1) crs in
+        let h₂ : _≡_ {A = List (List ℕ) × List ℕ} (found .0, w₂) found = ap (λ u. (found .0, u)) (named .0) in
+        let h₃ : w₃ ≡ run at (applyModuleImports (r .modules ++ (m ∷ [])) (l .base)) w₂ .1 =
+        e₃ ∙ ap (λ t. run at (applyModuleImports t (l .base)) w₂ .1) modules in
+        let h₄ : w₄ ≡ run at (applyExportsToLoaded m (r .modules)) w₃ .1 =
+        e₄
+        ∙ ap (λ p. run at (applyExportsToLoaded (moduleAt rs names p) (butLast (modulesOf rs names))) w₃ .1) ep
+        ∙ ap (λ t. run at (applyExportsToLoaded t (butLast (modulesOf rs names))) w₃ .1) (last .1)
+        ∙ ap (λ t. run at (applyExportsToLoaded m t) w₃ .1) (last .0) in
+        record {
+          kept = found .0;
+          same =
+              sym (gives at (fix (l .base) (l .size) level) w₄ (λ k. ret (Done k (missingNow (appended r m) (found .0)))) e₅
+              ∙ seq at (applyExportsToLoaded m (r .modules)) w₃ _ h₄
+              ∙ seq at (applyModuleImports (r .modules ++ (m ∷ [])) (l .base)) w₂ _ h₃
+              ∙ gives at (applyImportNamedSymbols (r .modules ++ (m ∷ [])) (l .base) (r .missing)) w₁ _ h₂
+              ∙ seq at (listed (r .crs) (l .base) auto) w _ h₁);
+          noted = named .1;
+        }
+
+pub one-more : (r : Register) (m : Module) (kept : List (List ℕ)) → 0 < length (missingNow (appended r m) kept .modules)
+unfolding missingNow appended
+one-more r m kept = omega (arith, length-append (r .modules) (m ∷ []))
