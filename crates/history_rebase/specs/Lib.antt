@@ -12,3 +12,4 @@ pub mod Rebased
 pub mod Reset
 pub mod Standing
 pub mod Arrives
+pub mod Unrebased
