@@ -23,7 +23,7 @@ use Rattle.history_steps.specs.Records.{asSymbol, offer, Asks}
 use Rattle.history_steps.specs.Runs.{Begins, Linking}
 use Rattle.history_steps.specs.Asking.{true-false}
 use Rattle.history_steps.specs.Serving.{Served}
-use Rattle.history_steps.specs.Leaving.{skip, skip-low, skip-high, skip-not}
+use Rattle.history_steps.specs.Leaving.{skip, skip-low, skip-not, skip-below, skip-back}
 use Rattle.history_steps.specs.Resetting.{Drops, Dropped}
 
 -- n modules stand, x k being number k
@@ -86,10 +86,10 @@ module _ (n : ℕ) (x : ℕ → Image) (m : Image) (laid : WellLaid m)
       record {
         found = λ i l e b k g p h. now i l e b k p h (ℕ-discrete k n) g;
         missing =
-          λ i l e b o.
-          let z : φ e ≡ none = f .missing i l e b (λ k g. o k (omega arith)) in
-          either (Served (x n) m e) (ψ e) none (λ s. c .changed e s i l b ∙ ap (λ y. linkTo y (offer (x n) m i)) z ∙ no-offer i l e b s o)
-          (λ s. c .same e s ∙ z);
+            λ i l e b o.
+            let z : φ e ≡ none = f .missing i l e b (λ k g. o k (omega arith)) in
+            either (Served (x n) m e) (ψ e) none (λ s. c .changed e s i l b ∙ ap (λ y. linkTo y (offer (x n) m i)) z ∙ no-offer i l e b s o)
+            (λ s. c .same e s ∙ z);
         others = λ e o. c .same e (λ s. o (s .0) (s .1) (s .3)) ∙ f .others e o;
       }
     where
@@ -155,25 +155,22 @@ module _ (n d : ℕ) (below : d < n) (x : ℕ → Image) (m : Image) (laid : Wel
   dropped {φ} {ψ} f c =
       record {
         found =
-          λ i l e b k g p h.
-          c .same e (λ r. skip-not d k (kept i l (skip d k) p (skip-below k g) (h .0) (rw (laid .alone .own-batch (r .0) i (r .1) l (r .3 ∙ sym b)) at (r .2))))
-          ∙ f .found i l e b (skip d k) (skip-below k g) p h;
+            λ i l e b k g p h.
+            c .same e (λ r. skip-not d k (kept i l (skip d k) p (skip-below n d k below g) (h .0) (rw (laid .alone .own-batch (r .0) i (r .1) l (r .3 ∙ sym b)) at (r .2))))
+            ∙ f .found i l e b (skip d k) (skip-below n d k below g) p h;
         missing =
-          λ i l e b o.
-          either (Dropped (x d) m e) (ψ e) none (λ r. c .changed e r)
-          (λ r. c .same e r ∙ f .missing i l e b (λ k g p h. other i l e b r o k g p h (ℕ-discrete k d)));
+            λ i l e b o.
+            either (Dropped (x d) m e) (ψ e) none (λ r. c .changed e r)
+            (λ r. c .same e r ∙ f .missing i l e b (λ k g p h. other i l e b r o k g p h (ℕ-discrete k d)));
         others = λ e o. c .same e (λ r. o (r .0) (r .1) (r .3)) ∙ f .others e o;
       }
     where
-      skip-below : (k : ℕ) → k < pred n → skip d k < n
-      skip-below k l =
-          elim (decLt k d) [ yes g ↦ rw (skip-low d k g) (omega arith) | no g ↦ rw (skip-high d k (omega arith)) (omega arith) ]
-
       other
           : (i : Import) → IsImport (m .file) i → (e : ℕ) → Begins (m .file) i e → (Dropped (x d) m e → ⊥)
           → ((k : ℕ) → k < pred n → (p : ℕ) → Exporter (x (skip d k)) m i p → ⊥) → (k : ℕ) → k < n → (p : ℕ) → Exporter (x k) m i p → Dec (k ≡ d) → ⊥
       other i l e b r o k g p h (yes z) = r (i, l, drops i p (rw z at (h .0)), b)
       other i l e b r o k g p h (no z) =
-          elim (decLt k d)
-          [ yes q ↦ o k (omega arith) p (rw (skip-low d k q) h)
-          | no q ↦ let y : skip d (pred k) ≡ k = skip-high d (pred k) (omega arith) ∙ (let u : suc (pred k) ≡ k = omega arith in u) in o (pred k) (omega arith) p (rw y h) ]
+          elim (decLt k d) [
+            | yes q ↦ o k (omega arith) p (rw (skip-low d k q) h)
+            | no q ↦ o (pred k) (omega arith) p (rw (skip-back d k (omega arith)) h)
+          ]

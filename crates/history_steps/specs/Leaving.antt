@@ -30,6 +30,13 @@ pub skip-high : (d i : ℕ) → d ≤ i → skip d i ≡ suc i
 unfolding skip
 skip-high d i l = rw (le-ltb i d l) refl
 
+pub skip-below : (n d i : ℕ) → d < n → i < pred n → skip d i < n
+skip-below n d i g l =
+    elim (decLt i d) [ yes q ↦ rw (skip-low d i q) (omega arith) | no q ↦ rw (skip-high d i (omega arith)) (omega arith) ]
+
+pub skip-back : (d i : ℕ) → d < i → skip d (pred i) ≡ i
+skip-back d i l = let e : suc (pred i) ≡ i = omega arith in skip-high d (pred i) (omega arith) ∙ e
+
 previous-2 : (b : ℕ → ℕ) (n k : ℕ) → 2 ≤ k → previousIn b n k ≡ b (pred k)
 unfolding previousIn
 previous-2 b n zero l = absurd (omega arith)
@@ -314,9 +321,12 @@ module _ (C : Cast) (sound : Sound C) (nonzero : (k : ℕ) → k < C .number →
         does-then S (setField (b d) 0x88 0) _ (sets-next C sound d 0 (inside d below) (g .2))
         (λ _ L u.
         does-mono S (sets-previous C sound d 0 (inside d below) u)
-        (λ _ K t.
-        (put (g .0) d 0, put (g .1) d 0, t,
-        record {
-          nexts = λ i l. put-other (g .0) d 0 (skip d i) (skip-not d i) ∙ g .3 .nexts i l;
-          previouses = λ i l. put-other (g .1) d 0 (skip d i) (skip-not d i) ∙ g .3 .previouses i l;
-        })))))))
+        (λ _ K t. (
+          put (g .0) d 0,
+          put (g .1) d 0,
+          t,
+          record {
+            nexts = λ i l. put-other (g .0) d 0 (skip d i) (skip-not d i) ∙ g .3 .nexts i l;
+            previouses = λ i l. put-other (g .1) d 0 (skip d i) (skip-not d i) ∙ g .3 .previouses i l;
+          },
+        )))))))

@@ -23,3 +23,5 @@ pub mod Gathered
 pub mod Recording
 pub mod Fixing
 pub mod Final
+pub mod Own
+pub mod Reaching

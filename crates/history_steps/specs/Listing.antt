@@ -102,9 +102,12 @@ module _ (C : Cast) (sound : Sound C) (nonzero : (k : ℕ) → k < C .number →
         (does-then S (setField (b 0) 0x88 (b n)) _ (sets-next C sound 0 (b n) (omega arith) w) (λ _ N u. sets-previous C sound n (b n) (omega arith) u))
         (λ _ N u.
         does-mono S (sets-next C sound n 0 (omega arith) u)
-        (λ _ L t.
-        (put (put x 0 (b n)) n 0, put y n (b n), t,
-        record { nexts = rw (← z) at (next-after b n some h); previouses = previous-first b n some h e })))
+        (λ _ L t. (
+          put (put x 0 (b n)) n 0,
+          put y n (b n),
+          t,
+          record { nexts = rw (← z) at (next-after b n some h); previouses = previous-first b n some h e },
+        )))
 
     -- after the last one
     later-enters
@@ -120,9 +123,12 @@ module _ (C : Cast) (sound : Sound C) (nonzero : (k : ℕ) → k < C .number →
         (λ _ L t. sets-previous C sound 1 (b n) (omega arith) t))))
         (λ _ N u.
         does-mono S (sets-next C sound n 0 (omega arith) u)
-        (λ _ L t.
-        (put (put x (pred n) (b n)) n 0, put (put y n (b (pred n))) 1 (b n), t,
-        record { nexts = next-after b n some h; previouses = previous-after b n some h g })))
+        (λ _ L t. (
+          put (put x (pred n) (b n)) n 0,
+          put (put y n (b (pred n))) 1 (b n),
+          t,
+          record { nexts = next-after b n some h; previouses = previous-after b n some h g },
+        )))
 
     -- the new module goes to the end
     pub enters : {φ : ℕ → Links} {x y : ℕ → ℕ} {M : Memory} → World C φ x y M → Listed b n x y → Does S (register (b 0) (b n) true) (λ _ N. Entered φ N) M

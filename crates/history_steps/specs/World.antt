@@ -78,7 +78,7 @@ module _ (C : Cast) (sound : Sound C) where
           })
 
   -- written again, links are as they were
-  again : {A : Type 0} (f : ℕ → A) (k j : ℕ) → put f k (f k) j ≡ f j
+  pub again : {A : Type 0} (f : ℕ → A) (k j : ℕ) → put f k (f k) j ≡ f j
   again f k j = elim (ℕ-discrete j k) [ yes e ↦ rw e (put-same f k (f k)) | no d ↦ put-other f k (f k) j d ]
 
   pub world-same
