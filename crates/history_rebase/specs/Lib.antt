@@ -13,3 +13,4 @@ pub mod Reset
 pub mod Standing
 pub mod Arrives
 pub mod Unrebased
+pub mod Gone
