@@ -14,3 +14,4 @@ pub mod Standing
 pub mod Arrives
 pub mod Unrebased
 pub mod Gone
+pub mod Unloads

@@ -172,7 +172,7 @@ module _ (C : Cast) (sound : Sound C) (nonzero : (k : ℕ) → k < C .number →
   b = base C sound
 
   -- different modules have different bases
-  distinct : (j k : ℕ) → j < C .number → k < C .number → j ≢ k → b j ≢ b k
+  pub distinct : (j k : ℕ) → j < C .number → k < C .number → j ≢ k → b j ≢ b k
   distinct j k l g o e =
       sound .apart j k (b j + 0) l g o (image-area (C .image j) (sound .laid j l) 0 (omega (arith, sound .laid j l .alone .header-inside)))
       (rw e (image-area (C .image k) (sound .laid k g) 0 (omega (arith, sound .laid k g .alone .header-inside))))
