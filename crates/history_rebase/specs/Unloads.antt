@@ -14,7 +14,6 @@ use Rattle.linker.specs.Resets.{resetImporters}
 use Rattle.linker.specs.Unrebase.{unrebase}
 use Rattle.linker.specs.Calls as calls
 use Rattle.linker.specs.Calls.{Answer, Done, unknown, firstWithBase, unlisted, leave, unload}
-use Rattle.history.specs.Image.{moduleName}
 use Rattle.history.specs.Arrival.{Image, baseOf, Area}
 use Rattle.history.specs.Imports.{Import, Exports}
 use Rattle.history_steps.specs.Wp.{Memory, Does, Kept, does-mono, does-ret, does-then, does-wider}
@@ -28,6 +27,7 @@ use Rattle.history_steps.specs.Final.{Final, dropped}
 use Rattle.history_steps.specs.Own.{RecordedAll}
 use Rattle.history_steps.specs.Reaching.{resets-world}
 use Rattle.history_rebase.specs.Unrebased.{unrebases}
+use Rattle.history_rebase.specs.Once.{Unlike, once}
 use Rattle.history_rebase.specs.Gone.{fewer, fewer-sound, fewer-world, recorded-without, length-without, finds, finds-none}
 
 -- the modules as they are between calls: each import linked to its exporter or to none, all listed in load order, all recorded
@@ -42,7 +42,7 @@ pub record AtRest (C : Cast) (sound : Sound C) (r : Register) (M : Memory) : Typ
   pub many : length (r .modules) ≡ C .number
   pub crs : r .crs ≡ Known (base C sound 0)
 
-module _ (C : Cast) (sound : Sound C) (nonzero : (k : ℕ) → k < C .number → base C sound k ≢ 0) where
+module _ (C : Cast) (sound : Sound C) (unlike : Unlike C) where
   abbrev S : ℕ → Type 0
   S = All C sound
 
@@ -61,7 +61,7 @@ module _ (C : Cast) (sound : Sound C) (nonzero : (k : ℕ) → k < C .number →
     unfolding unlisted
     goes a crs e {φ} {x} {y} w h =
         rw e
-        (does-then S (unregister (b 0) (b d)) _ (unregisters C sound nonzero (C .number) d refl above below φ x y h w)
+        (does-then S (unregister (b 0) (b d)) _ (unregisters C sound (unlike .nonzero) (C .number) d refl above below φ x y h w)
         (λ _ N g.
         does-then S (unrebase (b d)) _
         (does-wider (Area (C .image d)) S (λ q s. (d, below, s))
@@ -70,48 +70,47 @@ module _ (C : Cast) (sound : Sound C) (nonzero : (k : ℕ) → k < C .number →
         (λ _ L t.
         does-ret S (refl, ((λ k. g .0 (skip d k)), (λ k. g .1 (skip d k)), fewer-world C sound d below (g .2) (t .1), g .3)))))
 
-    -- only one of the modules exports to an import, and no two have one name
-    module _
-        (once
-        : (m : Image) (i : Import) (j k p q : ℕ) → j < C .number → k < C .number → Exports (C .image j) m i p → Exports (C .image k) m i q
-        → j ≡ k)
-        (names : (j k : ℕ) → j < C .number → k < C .number → moduleName (C .image j .file) ≡ moduleName (C .image k .file) → j ≡ k) where
-      abbrev Gone : Register → Answer → Memory → Type 0
-      Gone r a N = (a ≡ Done 1 (removed r d)) × AtRest (fewer C d) (fewer-sound C sound d below) (removed r d) N
+    once-of
+        : (l : ℕ) → l < C .number → (i : Import) (j k p q : ℕ) → j < C .number → k < C .number → Exports (C .image j) (C .image l) i p
+        → Exports (C .image k) (C .image l) i q → j ≡ k
+    once-of l g = once (C .image l) (sound .laid l g) (C .number) (C .image) (unlike .names) (unlike .exports)
 
-      pub unload-does : (r : Register) {M : Memory} → AtRest C sound r M → Does S (unload (b d) r) (Gone r) M
-      unfolding unload leave removed
-      unload-does r {M} s =
-          let some : d < length (r .modules) = rw (s .many) below in
-          let fewer-many : length (without (r .modules) d) ≡ pred (C .number) = length-without (r .modules) d some ∙ ap pred (s .many) in
-          let recs = recorded-without (C .image) (r .modules) d (s .recorded) in
-          let f =
-          finds (C .image) (r .modules) d 0 (b d) some refl
-          (λ j l. distinct C sound nonzero j d (omega arith) below (λ e. absurd (omega (arith, e)))) (s .recorded) in
-          let z : 0 + d ≡ d = omega arith in
-          rw (f .2, z)
-          (does-then S (resetImporters (f .0) (without (r .modules) d)) _
-          (resets-world C sound (C .image d) (f .0) (f .1) d (without (r .modules) d) below fewer-many recs (s .world))
-          (λ _ N g.
-          does-mono S (goes (Done 1 (removed r d)) (r .crs) (s .crs) (g .1) (s .listed))
-          (λ a L t. (
-            t .0,
-            record {
-              links = λ k. g .0 (skip d k);
-              next = t .1 .0;
-              previous = t .1 .1;
-              world = t .1 .2;
-              listed = t .1 .3;
-              final =
-                  λ k l.
-                  let i = skip-below (C .number) d k below l in
-                  dropped (C .number) d below (C .image) (C .image (skip d k)) (sound .laid (skip d k) i) (once (C .image (skip d k))) names
-                  (s .final (skip d k) i) (g .2 (skip d k) i (skip-not d k));
-              recorded = recs;
-              many = fewer-many;
-              crs = s .crs ∙ ap (λ k. Known (b k)) (sym (skip-low d 0 above));
-            },
-          ))))
+    abbrev Gone : Register → Answer → Memory → Type 0
+    Gone r a N = (a ≡ Done 1 (removed r d)) × AtRest (fewer C d) (fewer-sound C sound d below) (removed r d) N
+
+    pub unload-does : (r : Register) {M : Memory} → AtRest C sound r M → Does S (unload (b d) r) (Gone r) M
+    unfolding unload leave removed
+    unload-does r {M} s =
+        let some : d < length (r .modules) = rw (s .many) below in
+        let fewer-many : length (without (r .modules) d) ≡ pred (C .number) = length-without (r .modules) d some ∙ ap pred (s .many) in
+        let recs = recorded-without (C .image) (r .modules) d (s .recorded) in
+        let f =
+        finds (C .image) (r .modules) d 0 (b d) some refl
+        (λ j l. distinct C sound (unlike .nonzero) j d (omega arith) below (λ e. absurd (omega (arith, e)))) (s .recorded) in
+        let z : 0 + d ≡ d = omega arith in
+        rw (f .2, z)
+        (does-then S (resetImporters (f .0) (without (r .modules) d)) _
+        (resets-world C sound (C .image d) (f .0) (f .1) d (without (r .modules) d) below fewer-many recs (s .world))
+        (λ _ N g.
+        does-mono S (goes (Done 1 (removed r d)) (r .crs) (s .crs) (g .1) (s .listed))
+        (λ a L t. (
+          t .0,
+          record {
+            links = λ k. g .0 (skip d k);
+            next = t .1 .0;
+            previous = t .1 .1;
+            world = t .1 .2;
+            listed = t .1 .3;
+            final =
+                λ k l.
+                let i = skip-below (C .number) d k below l in
+                dropped (C .number) d below (C .image) (C .image (skip d k)) (sound .laid (skip d k) i) (once-of (skip d k) i) (unlike .names)
+                (s .final (skip d k) i) (g .2 (skip d k) i (skip-not d k));
+            recorded = recs;
+            many = fewer-many;
+            crs = s .crs ∙ ap (λ k. Known (b k)) (sym (skip-low d 0 above));
+          },
+        ))))
 
   -- "Unload of an unknown base changes nothing."
   pub unload-unknown
