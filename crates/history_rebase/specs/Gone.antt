@@ -9,7 +9,7 @@ use lib.ListN.{length}
 use borrow.Author.Tests.{eq-eqb, ne-eqb}
 use Rattle.register.specs.Module.{Module}
 use Rattle.register.specs.Change.{without}
-use Rattle.linker.specs.Calls.{Standing, unknown, stands, firstWithBase}
+use Rattle.linker.specs.Calls.{unknown, stands, firstWithBase}
 use Rattle.history.specs.Arrival.{Image, baseOf, Area}
 use Rattle.history_steps.specs.Wp.{Memory, Kept}
 use Rattle.history_steps.specs.Shows.{shows-agree}
@@ -51,7 +51,7 @@ module _ (C : Cast) (sound : Sound C) (d : ℕ) (below : d < C .number) where
             };
       }
 
-skip-suc : (d k : ℕ) → skip (suc d) (suc k) ≡ suc (skip d k)
+pub skip-suc : (d k : ℕ) → skip (suc d) (suc k) ≡ suc (skip d k)
 skip-suc d k = go (decLt k d)
   where
     go : Dec (k < d) → skip (suc d) (suc k) ≡ suc (skip d k)

@@ -16,3 +16,4 @@ pub mod Unrebased
 pub mod Once
 pub mod Gone
 pub mod Unloads
+pub mod Rests

@@ -1,15 +1,15 @@
 -- "No module or export name comes twice": only one of the modules that stand exports to an import.
-use Prim.Native.Nat.{ℕ, _+_, _*_, _≤_, _<_}
+use Prim.Native.Nat.{ℕ, _+_, _≤_, _<_}
 use mathlib.Core.Path.{_≡_}
 use mathlib.Core.Logic.{_≢_, _⊎_, inl, inr}
 use native.Mathlib.Omega.{arith}
 use native.Mathlib.Decide.{ℕ-discrete}
-use Rattle.history.specs.Image.{indexedImports, anonymousImports, moduleEntries, start, count, entry, moduleName}
+use Rattle.history.specs.Image.{indexedImports, anonymousImports, moduleEntries, count, entry, moduleName}
 use Rattle.history.specs.Arrival.{Image, baseOf}
-use Rattle.history.specs.Imports.{Import, named, indexed, anonymous, importTable, importEntry, IsImport, runStart, runCount, InRun, From, Exports}
+use Rattle.history.specs.Imports.{Import, named, indexed, anonymous, importEntry, IsImport, runStart, runCount, InRun, From, Exports}
 use Rattle.history.specs.WellLaid.{WellLaid}
 use Rattle.history.specs.Demand3.{OtherExports}
-use Rattle.history_steps.specs.World.{Cast, Sound}
+use Rattle.history_steps.specs.World.{Cast}
 use Rattle.history_steps.specs.Final.{same-name}
 
 -- no base is 0, no module's name comes twice, nor an export's in two modules

@@ -1,23 +1,22 @@
 -- An unload: the others' links to the module go, it leaves its list and gets its offsets back; the others are at rest without it.
 use Prim.Native.Nat.{ℕ, pred, _+_, _<_}
 use mathlib.Core.Path.{_≡_, refl, sym, ap, _∙_}
-use mathlib.Core.Logic.{_≢_, _⊎_, inl, inr}
+use mathlib.Core.Logic.{_≢_}
 use native.Mathlib.Omega.{arith}
 use lib.ListN.{length}
-use Rattle.window.specs.Access.{Prog, ret, _>>=_, _>>_}
+use Rattle.window.specs.Access.{ret, _>>_}
 use Rattle.register.specs.declared.words.Crs.{Crs}
 use Rattle.register.specs.declared.words.Crs.the-variants.{Known}
-use Rattle.register.specs.Module.{Module, Register}
+use Rattle.register.specs.Module.{Register}
 use Rattle.register.specs.Change.{without, removed}
 use Rattle.linker.specs.Lists.{unregister}
 use Rattle.linker.specs.Resets.{resetImporters}
 use Rattle.linker.specs.Unrebase.{unrebase}
 use Rattle.linker.specs.Calls as calls
-use Rattle.linker.specs.Calls.{Answer, Done, unknown, firstWithBase, unlisted, leave, unload}
-use Rattle.history.specs.Arrival.{Image, baseOf, Area}
+use Rattle.linker.specs.Calls.{Answer, Done, unlisted, leave, unload}
+use Rattle.history.specs.Arrival.{Area}
 use Rattle.history.specs.Imports.{Import, Exports}
-use Rattle.history_steps.specs.Wp.{Memory, Does, Kept, does-mono, does-ret, does-then, does-wider}
-use Rattle.history_steps.specs.Parts.{image-area}
+use Rattle.history_steps.specs.Wp.{Memory, Does, does-mono, does-ret, does-then, does-wider}
 use Rattle.history_steps.specs.Shows.{shows-view}
 use Rattle.history_steps.specs.Links.{Links}
 use Rattle.history_steps.specs.World.{Cast, Sound, World, All, base}

@@ -148,7 +148,8 @@ module _ (m : Image) (laid : WellLaid m) (low : Low (Area m)) where
       → Does S (mover t xs) (λ _ N. Led m N) M
   table-any t xs l w f {M} h =
       does-read S (field at (tableNumber t .field)) _ a (reads-led (tableNumber t .field) a (omega (arith, b)) (h .starts t l))
-      (does-read S (field at (tableNumber t .field + 4)) _ c (reads-led (tableNumber t .field + 4) c (omega (arith, b)) (h .counts t l)) (go (eqb a 0)))
+      (does-read S (field at (tableNumber t .field + 4)) _ c (reads-led (tableNumber t .field + 4) c (omega (arith, b)) (h .counts t l))
+      (go (eqb a 0)))
     where
       b : (0xc8 ≤ tableNumber t .field) × (tableNumber t .field + 8 ≤ 0x118)
       b = field-bounds t l
