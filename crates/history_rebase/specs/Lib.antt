@@ -17,3 +17,5 @@ pub mod Once
 pub mod Gone
 pub mod Unloads
 pub mod Rests
+pub mod Holding
+pub mod Alike

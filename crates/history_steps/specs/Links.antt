@@ -100,7 +100,7 @@ module _ (m : Image) where
   unfolding firstOf
   first-more j z = rw (eq-eqb (endMark F j) 0 z) refl
 
-  first-in : (e f j : ℕ) → Batch F e f → e ≤ j → j ≤ f → firstOf F j ≡ e
+  pub first-in : (e f j : ℕ) → Batch F e f → e ≤ j → j ≤ f → firstOf F j ≡ e
   first-in e f zero b l g = let z : e ≡ 0 = omega arith in rw (← z) (first-begin e f b)
   first-in e f (suc j) b l g =
       elim (ℕ-discrete (suc j) e) [
