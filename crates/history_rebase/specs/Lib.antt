@@ -12,3 +12,10 @@ pub mod Rebased
 pub mod Reset
 pub mod Standing
 pub mod Arrives
+pub mod Unrebased
+pub mod Once
+pub mod Gone
+pub mod Unloads
+pub mod Rests
+pub mod Holding
+pub mod Alike

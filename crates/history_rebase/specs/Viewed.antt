@@ -24,11 +24,11 @@ use Rattle.history_rebase.specs.Fields.{start-is, count-is}
 use Rattle.history_rebase.specs.Tables.{with-columns, table-moves}
 
 -- every number of the list is in an entry of w bytes; is apart from the word at x
-unfoldable Fits : ℕ → List ℕ → Type 0
+unfoldable pub Fits : ℕ → List ℕ → Type 0
 Fits w [] = Unit {0}
 Fits w (y ∷ ys) = (y + 4 ≤ w) × Fits w ys
 
-fits : (w : ℕ) (ys : List ℕ) → Fits w ys → (x : ℕ) → Among x ys → x + 4 ≤ w
+pub fits : (w : ℕ) (ys : List ℕ) → Fits w ys → (x : ℕ) → Among x ys → x + 4 ≤ w
 unfolding Fits Among
 fits w [] f x a = absurd a
 fits w (y ∷ ys) f x (inl e) = rw e (f .0)

@@ -118,19 +118,20 @@ module _ (n : ℕ) (x : ℕ → Image) (m : Image) (laid : WellLaid m)
           go (at p z) = absurd (o n (omega arith) p (offers-exports (x n) m i p asks z, crs))
           go (nothing z) = ap (linkTo none) z
 
+-- an import comes from one name
+pub same-name
+    : (m : Image) → WellLaid m → (i : Import) → IsImport (m .file) i → (a c : List ℕ) → From (m .file) i a → From (m .file) i c → a ≡ c
+unfolding From
+same-name m laid i l a c h r =
+    h .3
+    ∙ ap (λ j. nameOf (m .file) (word (m .file) (entry (m .file) moduleEntries j)))
+    (laid .alone .one-run i l (h .0) (r .0) (h .1) (r .1) (h .2) (r .2))
+    ∙ sym (r .3)
+
 -- number d leaves: what it served is missing now, the rest stays. No two modules have one name.
 module _ (n d : ℕ) (below : d < n) (x : ℕ → Image) (m : Image) (laid : WellLaid m)
     (once : (i : Import) (j k p q : ℕ) → j < n → k < n → Exports (x j) m i p → Exports (x k) m i q → j ≡ k)
     (names : (j k : ℕ) → j < n → k < n → moduleName (x j .file) ≡ moduleName (x k .file) → j ≡ k) where
-  -- an import comes from one name
-  same-name : (i : Import) → IsImport (m .file) i → (a c : List ℕ) → From (m .file) i a → From (m .file) i c → a ≡ c
-  unfolding From
-  same-name i l a c h r =
-      h .3
-      ∙ ap (λ j. nameOf (m .file) (word (m .file) (entry (m .file) moduleEntries j)))
-      (laid .alone .one-run i l (h .0) (r .0) (h .1) (r .1) (h .2) (r .2))
-      ∙ sym (r .3)
-
   -- an import that another module serves is not dropped
   kept : (i : Import) → IsImport (m .file) i → (k p : ℕ) → k < n → Exports (x k) m i p → Drops (x d) m i → k ≡ d
   unfolding Exports Drops Asks
@@ -139,8 +140,8 @@ module _ (n d : ℕ) (below : d < n) (x : ℕ → Image) (m : Image) (laid : Wel
       go : Offered (x d) m (named i) → k ≡ d
       go (at q z) = once (named i) k d p q g below h (offers-exports (x d) m (named i) q tt z)
       go (nothing z) = absurd (true-false (sym r ∙ ap exists z))
-  kept (indexed i) l k p g h r = names k d g below (same-name (indexed i) l _ _ (h .0) r)
-  kept (anonymous i) l k p g h r = names k d g below (same-name (anonymous i) l _ _ (h .0) r)
+  kept (indexed i) l k p g h r = names k d g below (same-name m laid (indexed i) l _ _ (h .0) r)
+  kept (anonymous i) l k p g h r = names k d g below (same-name m laid (anonymous i) l _ _ (h .0) r)
 
   -- and one that d serves is
   drops : (i : Import) (p : ℕ) → Exports (x d) m i p → Drops (x d) m i

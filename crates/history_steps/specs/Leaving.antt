@@ -37,6 +37,15 @@ skip-below n d i g l =
 pub skip-back : (d i : ℕ) → d < i → skip d (pred i) ≡ i
 skip-back d i l = let e : suc (pred i) ≡ i = omega arith in skip-high d (pred i) (omega arith) ∙ e
 
+pub skip-other : (d j k : ℕ) → skip d j ≡ skip d k → j ≡ k
+skip-other d j k e = go (decLt j d) (decLt k d)
+  where
+    go : Dec (j < d) → Dec (k < d) → j ≡ k
+    go (yes p) (yes q) = omega (arith, e, skip-low d j p, skip-low d k q)
+    go (yes p) (no q) = omega (arith, e, skip-low d j p, skip-high d k (omega arith))
+    go (no p) (yes q) = omega (arith, e, skip-high d j (omega arith), skip-low d k q)
+    go (no p) (no q) = omega (arith, e, skip-high d j (omega arith), skip-high d k (omega arith))
+
 previous-2 : (b : ℕ → ℕ) (n k : ℕ) → 2 ≤ k → previousIn b n k ≡ b (pred k)
 unfolding previousIn
 previous-2 b n zero l = absurd (omega arith)
@@ -163,7 +172,7 @@ module _ (C : Cast) (sound : Sound C) (nonzero : (k : ℕ) → k < C .number →
   b = base C sound
 
   -- different modules have different bases
-  distinct : (j k : ℕ) → j < C .number → k < C .number → j ≢ k → b j ≢ b k
+  pub distinct : (j k : ℕ) → j < C .number → k < C .number → j ≢ k → b j ≢ b k
   distinct j k l g o e =
       sound .apart j k (b j + 0) l g o (image-area (C .image j) (sound .laid j l) 0 (omega (arith, sound .laid j l .alone .header-inside)))
       (rw e (image-area (C .image k) (sound .laid k g) 0 (omega (arith, sound .laid k g .alone .header-inside))))

@@ -21,7 +21,7 @@ use Rattle.history_steps.specs.Runs.{Linking}
 use Rattle.history_steps.specs.Serving.{Served, serves}
 use Rattle.history_steps.specs.Resetting.{Dropped, resets-all}
 use Rattle.history_steps.specs.World.{Cast, Sound, World, All, focus, again, put, put-same, put-other, world-same}
-use Rattle.history_steps.specs.Leaving.{skip, skip-low, skip-high, skip-not, skip-below, skip-back}
+use Rattle.history_steps.specs.Leaving.{skip, skip-low, skip-not, skip-below, skip-back, skip-other}
 use Rattle.history_steps.specs.Own.{RecordedAll}
 
 module _ (C : Cast) (sound : Sound C) where
@@ -134,7 +134,7 @@ module _ (C : Cast) (sound : Sound C) where
       does-mono S
       (in-turn (resetImporters r) (λ t. if t .auto then resetImports r (t .base) else ret tt)
       (λ j. Change (Dropped x (C .image j)) (λ e y z. z ≡ none)) nil cons each (skip d) rs
-      (λ k l. skip-below (C .number) d k below (omega arith)) skip-other h w)
+      (λ k l. skip-below (C .number) d k below (omega arith)) (λ j k l g e. skip-other d j k e) h w)
       (λ _ N t. (t .0, t .1, (λ j l o. at (t .0) (t .2) j l o (decLt j d)), t .3 d (λ k l. skip-not d k)))
     where
       nil : resetImporters r [] ≡ ret tt
@@ -153,15 +153,6 @@ module _ (C : Cast) (sound : Sound C) where
           M
       each k l t h φ n v M s =
           rw (h .auto, h .base) (resets-all (C .image k) (sound .laid k l) (sound .low k l) (sound .view k l) n v x r rec s)
-
-      skip-other : (j k : ℕ) → j < length rs → k < length rs → skip d j ≡ skip d k → j ≡ k
-      skip-other j k l g e = go (decLt j d) (decLt k d)
-        where
-          go : Dec (j < d) → Dec (k < d) → j ≡ k
-          go (yes p) (yes q) = omega (arith, e, skip-low d j p, skip-low d k q)
-          go (yes p) (no q) = omega (arith, e, skip-low d j p, skip-high d k (omega arith))
-          go (no p) (yes q) = omega (arith, e, skip-high d j (omega arith), skip-low d k q)
-          go (no p) (no q) = omega (arith, e, skip-high d j (omega arith), skip-high d k (omega arith))
 
       at
           : (ψ : ℕ → Links)

@@ -126,7 +126,7 @@ module _ (C : Cast) (sound : Sound C) where
   in-all k x l h i g =
       (k, l, four-at (C .image k) (sound .laid k l) (sound .low k l) x (omega (arith, header-inside k l)) i g)
 
-  word-of : (M : Memory) (p a : ℕ) → a < 2 ^ 32 → ((i : ℕ) → i < 4 → M (p + i) ≡ byteOf i a) → word M p ≡ a
+  pub word-of : (M : Memory) (p a : ℕ) → a < 2 ^ 32 → ((i : ℕ) → i < 4 → M (p + i) ≡ byteOf i a) → word M p ≡ a
   unfolding word
   word-of M p a h f = join-at M (λ i. byteOf i a) p f ∙ join-bytes a ∙ omega arith
 

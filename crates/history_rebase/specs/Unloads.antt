@@ -1,0 +1,120 @@
+-- An unload: the others' links to the module go, it leaves its list and gets its offsets back; the others are at rest without it.
+use Prim.Native.Nat.{ℕ, pred, _+_, _<_}
+use mathlib.Core.Path.{_≡_, refl, sym, ap, _∙_}
+use mathlib.Core.Logic.{_≢_}
+use native.Mathlib.Omega.{arith}
+use lib.ListN.{length}
+use Rattle.window.specs.Access.{ret, _>>_}
+use Rattle.register.specs.declared.words.Crs.{Crs}
+use Rattle.register.specs.declared.words.Crs.the-variants.{Known}
+use Rattle.register.specs.Module.{Register}
+use Rattle.register.specs.Change.{without, removed}
+use Rattle.linker.specs.Lists.{unregister}
+use Rattle.linker.specs.Resets.{resetImporters}
+use Rattle.linker.specs.Unrebase.{unrebase}
+use Rattle.linker.specs.Calls as calls
+use Rattle.linker.specs.Calls.{Answer, Done, unlisted, leave, unload}
+use Rattle.history.specs.Arrival.{Area}
+use Rattle.history.specs.Imports.{Import, Exports}
+use Rattle.history_steps.specs.Wp.{Memory, Does, does-mono, does-ret, does-then, does-wider}
+use Rattle.history_steps.specs.Shows.{shows-view}
+use Rattle.history_steps.specs.Links.{Links}
+use Rattle.history_steps.specs.World.{Cast, Sound, World, All, base}
+use Rattle.history_steps.specs.Listing.{Listed}
+use Rattle.history_steps.specs.Leaving.{skip, skip-low, skip-not, skip-below, distinct, unregisters}
+use Rattle.history_steps.specs.Final.{Final, dropped}
+use Rattle.history_steps.specs.Own.{RecordedAll}
+use Rattle.history_steps.specs.Reaching.{resets-world}
+use Rattle.history_rebase.specs.Unrebased.{unrebases}
+use Rattle.history_rebase.specs.Once.{Unlike, once}
+use Rattle.history_rebase.specs.Gone.{fewer, fewer-sound, fewer-world, recorded-without, length-without, finds, finds-none}
+
+-- the modules as they are between calls: each import linked to its exporter or to none, all listed in load order, all recorded
+pub record AtRest (C : Cast) (sound : Sound C) (r : Register) (M : Memory) : Type 0 where
+  pub links : ℕ → Links
+  pub next : ℕ → ℕ
+  pub previous : ℕ → ℕ
+  pub world : World C links next previous M
+  pub listed : Listed (base C sound) (C .number) next previous
+  pub final : (k : ℕ) → k < C .number → Final (C .number) (C .image) (C .image k) (links k)
+  pub recorded : RecordedAll (C .image) (r .modules)
+  pub many : length (r .modules) ≡ C .number
+  pub crs : r .crs ≡ Known (base C sound 0)
+
+module _ (C : Cast) (sound : Sound C) (unlike : Unlike C) where
+  abbrev S : ℕ → Type 0
+  S = All C sound
+
+  abbrev b : ℕ → ℕ
+  b = base C sound
+
+  module _ (d : ℕ) (above : 0 < d) (below : d < C .number) where
+    abbrev Left : (ℕ → Links) → Memory → Type 0
+    Left φ N =
+        (u : ℕ → ℕ) × (t : ℕ → ℕ) × World (fewer C d) (λ k. φ (skip d k)) u t N × Listed (λ k. b (skip d k)) (pred (C .number)) u t
+
+    -- number d leaves its list and gets its offsets back
+    pub goes
+        : {A : Type 0} (a : A) (crs : Crs) → crs ≡ Known (b 0) → {φ : ℕ → Links} {x y : ℕ → ℕ} {M : Memory} → World C φ x y M
+        → Listed b (C .number) x y → Does S (unlisted crs (b d) >> (unrebase (b d) >> ret a)) (λ c N. (c ≡ a) × Left φ N) M
+    unfolding unlisted
+    goes a crs e {φ} {x} {y} w h =
+        rw e
+        (does-then S (unregister (b 0) (b d)) _ (unregisters C sound (unlike .nonzero) (C .number) d refl above below φ x y h w)
+        (λ _ N g.
+        does-then S (unrebase (b d)) _
+        (does-wider (Area (C .image d)) S (λ q s. (d, below, s))
+        (unrebases (C .image d) (sound .laid d below) (sound .low d below)
+        (shows-view (C .image d) (sound .laid d below) (sound .view d below) (g .2 .stands d below .shows))))
+        (λ _ L t.
+        does-ret S (refl, ((λ k. g .0 (skip d k)), (λ k. g .1 (skip d k)), fewer-world C sound d below (g .2) (t .1), g .3)))))
+
+    once-of
+        : (l : ℕ) → l < C .number → (i : Import) (j k p q : ℕ) → j < C .number → k < C .number → Exports (C .image j) (C .image l) i p
+        → Exports (C .image k) (C .image l) i q → j ≡ k
+    once-of l g = once (C .image l) (sound .laid l g) (C .number) (C .image) (unlike .names) (unlike .exports)
+
+    abbrev Gone : Register → Answer → Memory → Type 0
+    Gone r a N = (a ≡ Done 1 (removed r d)) × AtRest (fewer C d) (fewer-sound C sound d below) (removed r d) N
+
+    pub unload-does : (r : Register) {M : Memory} → AtRest C sound r M → Does S (unload (b d) r) (Gone r) M
+    unfolding unload leave removed
+    unload-does r {M} s =
+        let some : d < length (r .modules) = rw (s .many) below in
+        let fewer-many : length (without (r .modules) d) ≡ pred (C .number) = length-without (r .modules) d some ∙ ap pred (s .many) in
+        let recs = recorded-without (C .image) (r .modules) d (s .recorded) in
+        let f =
+        finds (C .image) (r .modules) d 0 (b d) some refl
+        (λ j l. distinct C sound (unlike .nonzero) j d (omega arith) below (λ e. absurd (omega (arith, e)))) (s .recorded) in
+        let z : 0 + d ≡ d = omega arith in
+        rw (f .2, z)
+        (does-then S (resetImporters (f .0) (without (r .modules) d)) _
+        (resets-world C sound (C .image d) (f .0) (f .1) d (without (r .modules) d) below fewer-many recs (s .world))
+        (λ _ N g.
+        does-mono S (goes (Done 1 (removed r d)) (r .crs) (s .crs) (g .1) (s .listed))
+        (λ a L t. (
+          t .0,
+          record {
+            links = λ k. g .0 (skip d k);
+            next = t .1 .0;
+            previous = t .1 .1;
+            world = t .1 .2;
+            listed = t .1 .3;
+            final =
+                λ k l.
+                let i = skip-below (C .number) d k below l in
+                dropped (C .number) d below (C .image) (C .image (skip d k)) (sound .laid (skip d k) i) (once-of (skip d k) i) (unlike .names)
+                (s .final (skip d k) i) (g .2 (skip d k) i (skip-not d k));
+            recorded = recs;
+            many = fewer-many;
+            crs = s .crs ∙ ap (λ k. Known (b k)) (sym (skip-low d 0 above));
+          },
+        ))))
+
+  -- "Unload of an unknown base changes nothing."
+  pub unload-unknown
+      : (r : Register) {M : Memory} → AtRest C sound r M → (at : ℕ) → ((k : ℕ) → k < C .number → b k ≢ at)
+      → Does S (unload at r) (λ a N. (a ≡ calls.Kept) × (N ≡ M)) M
+  unfolding unload leave
+  unload-unknown r s at o =
+      rw (finds-none (C .image) (r .modules) 0 at (λ k l. o k (rw (← s .many) l)) (s .recorded)) (does-ret S (refl, refl))
