@@ -1,0 +1,2 @@
+-- What each call does to the modules that stand and to the register.
+pub mod Scene
