@@ -1,2 +1,3 @@
 -- What each call does to the modules that stand and to the register.
 pub mod Scene
+pub mod Linked

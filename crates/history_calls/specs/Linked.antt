@@ -1,0 +1,92 @@
+-- What `load` does after the record is read: the new module, number n, enters the list, is linked, serves the others and is fixed.
+use Prim.Native.Nat.{ℕ, zero, suc, _≤_, _<_}
+use mathlib.Core.Path.{_≡_, refl, sym, ap, _∙_}
+use mathlib.Core.Logic.{_≢_}
+use mathlib.Core.List.{List, [], _∷_, _++_}
+use mathlib.Core.Option.{none}
+use mathlib.Core.Bool.{Bool, true, false}
+use native.Mathlib.Omega.{arith}
+use native.Mathlib.Decide.{ℕ-discrete}
+use lib.ListN.{length}
+use Rattle.window.specs.Access.{Prog, ret, _>>=_}
+use Rattle.register.specs.declared.words.Crs.the-variants.{Known}
+use Rattle.register.specs.Module.{Module, Register}
+use Rattle.register.specs.Change.{appended}
+use Rattle.linker.specs.declared.rebase.Lent.{Lent}
+use Rattle.linker.specs.Imports.{applyImportNamedSymbols, applyModuleImports, applyExportsToLoaded}
+use Rattle.linker.specs.Fix.{fix}
+use Rattle.linker.specs.Calls.{Answer, Done, listed, missingNow, linked}
+use Rattle.history.specs.Image.{moduleName}
+use Rattle.history.specs.Arrival.{Image, baseOf, sizeOf, isCrs, Area}
+use Rattle.history.specs.Imports.{Import, Exports}
+use Rattle.history_steps.specs.Wp.{Memory, Does, Kept, does-mono, does-ret, does-then, does-wider}
+use Rattle.history_steps.specs.Shows.{shows-agree}
+use Rattle.history_steps.specs.Links.{Links, Stands}
+use Rattle.history_steps.specs.Changes.{Change}
+use Rattle.history_steps.specs.Asking.{true-false}
+use Rattle.history_steps.specs.Records.{Recorded, offer}
+use Rattle.history_steps.specs.Runs.{Linking}
+use Rattle.history_steps.specs.Importing.{imports-named, imports-entries}
+use Rattle.history_steps.specs.Serving.{Served}
+use Rattle.history_steps.specs.World.{Cast, Sound, World, All, base, focus, again, put, put-same, put-other, world-same}
+use Rattle.history_steps.specs.Listing.{Listed, enters}
+use Rattle.history_steps.specs.Final.{Final, served}
+use Rattle.history_steps.specs.Own.{RecordedAll, own-final}
+use Rattle.history_steps.specs.Reaching.{serves-world}
+use Rattle.history_steps.specs.Fixing.{fixedAt, fixes}
+
+-- one record more
+pub recorded-more : (x : ℕ → Image) (ms : List Module) (k : Module) → RecordedAll x ms → Recorded (x (length ms)) k → RecordedAll x (ms ++ (k ∷ []))
+unfolding RecordedAll
+recorded-more x [] k h g = (g, tt)
+recorded-more x (m ∷ ms) k h g = (h .0, recorded-more (λ j. x (suc j)) ms k (h .1) g)
+
+pub length-more : (ms : List Module) (k : Module) → length (ms ++ (k ∷ [])) ≡ suc (length ms)
+length-more [] k = refl
+length-more (m ∷ ms) k = ap suc (length-more ms k)
+
+-- the same cast with number n fixed at that level
+abbrev pub fixedCast : Cast → ℕ → ℕ → Cast
+fixedCast E n level =
+    record { number = E .number; image = E .image; rest = put (E .rest) n (fixedAt (E .image n) level (E .rest n)) }
+
+module _ (E : Cast) (sound : Sound E) where
+  abbrev S : ℕ → Type 0
+  S = All E sound
+
+  abbrev b : ℕ → ℕ
+  b = base E sound
+
+  -- links of module k that change, whatever the program gives
+  changes-links
+      : {A : Type 0} {φ : ℕ → Links} {n v : ℕ → ℕ} {M : Memory} (k : ℕ) → k < E .number → (p : Prog A) {P : Links → Type 0} → World E φ n v M
+      → Does (Area (E .image k)) p (λ _ N. (ψ : Links) × Stands (E .image k) (E .rest k) ψ (n k) (v k) N × P ψ) M
+      → Does S p (λ _ N. (ψ : Links) × World E (put φ k ψ) n v N × P ψ) M
+  changes-links {A} {φ} {n} {v} {M} k l p {P} w h =
+      let ψ = h .gives .0 in
+      does-mono S
+      (focus E sound k l p {Q = λ _ _. P ψ} (λ _ _. ψ) (n k) (v k) w (record { lies = h .lies; gives = (h .gives .2, h .gives .1) }))
+      (λ _ N g. (ψ, world-same E sound (λ j. refl) (again E sound n k) (again E sound v k) (g .1), g .0))
+
+  -- module n is fixed
+  fixes-world
+      : {φ : ℕ → Links} {x y : ℕ → ℕ} {M : Memory} (n : ℕ) → n < E .number → (level : ℕ) → level ≢ 2 → level ≢ 3 → World E φ x y M
+      → Does S (fix (b n) (sizeOf (E .image n .coming)) level) (λ _ N. World (fixedCast E n level) φ x y N) M
+  fixes-world {φ} {x} {y} {M} n l level c d w =
+      does-mono S
+      (does-wider (Area (E .image n)) S (λ q s. (n, l, s))
+      (fixes (E .image n) (sound .laid n l) (sound .low n l) level c d (φ n) (x n) (y n) (w .stands n l)))
+      (λ _ N g. record { stands = λ j i. at N (g .0) (g .1) j i (ℕ-discrete j n) })
+    where
+      T : Memory
+      T = fixedAt (E .image n) level (E .rest n)
+
+      at
+          : (N : Memory) → Stands (E .image n) T (φ n) (x n) (y n) N → Kept (Area (E .image n)) M N → (j : ℕ) → j < E .number → Dec (j ≡ n)
+          → Stands (E .image j) (put (E .rest) n T j) (φ j) (x j) (y j) N
+      at N s t j i (yes e) = rw (e, put-same (E .rest) n T) s
+      at N s t j i (no o) =
+          rw (put-other (E .rest) n T j o)
+          (record {
+            shows = shows-agree (E .image j) (sound .laid j i) (λ q r. sym (t q (λ u. sound .apart j n q i l o r u))) (w .stands j i .shows);
+          })
