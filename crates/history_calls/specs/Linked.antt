@@ -90,3 +90,64 @@ module _ (E : Cast) (sound : Sound E) where
           (record {
             shows = shows-agree (E .image j) (sound .laid j i) (λ q r. sym (t q (λ u. sound .apart j n q i l o r u))) (w .stands j i .shows);
           })
+
+  -- the new module is number n and no CRS; only one of all exports to an import, and no two have one name
+  module _ (nonzero : (k : ℕ) → k < E .number → b k ≢ 0) (n : ℕ) (few : E .number ≡ suc n) (some : 0 < n)
+      (no-crs : isCrs (E .image n .coming) ≡ false)
+      (once : (t : ℕ) → t < suc n → (i : Import) (j k p q : ℕ) → j < suc n → k < suc n → Exports (E .image j) (E .image t) i p
+      → Exports (E .image k) (E .image t) i q → j ≡ k)
+      (names : (j k : ℕ) → j < suc n → k < suc n → moduleName (E .image j .file) ≡ moduleName (E .image k .file) → j ≡ k)
+      (r : Register) (recs : RecordedAll (E .image) (r .modules)) (many : length (r .modules) ≡ n) (crs : r .crs ≡ Known (b 0))
+      (k : Module) (rec : Recorded (E .image n) k) where
+    abbrev ms : List Module
+    ms = r .modules ++ (k ∷ [])
+
+    below : n < E .number
+    below = omega arith
+
+    all-recorded : RecordedAll (E .image) ms
+    all-recorded = recorded-more (E .image) (r .modules) k recs (rw many rec)
+
+    all-many : length ms ≡ suc n
+    all-many = length-more (r .modules) k ∙ ap suc many
+
+    -- all links are at rest
+    abbrev AtRest : (ℕ → Links) → Type 0
+    AtRest ψ = (j : ℕ) → j < suc n → Final (suc n) (E .image) (E .image j) (ψ j)
+
+    enters-list
+        : {φ : ℕ → Links} {x y : ℕ → ℕ} {M : Memory} → World E φ x y M → Listed b n x y
+        → Does S (listed (r .crs) (b n) true) (λ _ N. (u : ℕ → ℕ) × (v : ℕ → ℕ) × World E φ u v N × Listed b (suc n) u v) M
+    unfolding listed
+    enters-list w h = rw crs (enters E sound nonzero n few some w h)
+
+    -- its own imports
+    module _ {φ : ℕ → Links} {x y : ℕ → ℕ} {M : Memory} (fresh : φ n ≡ λ _. none) (w : World E φ x y M) where
+      imports-world
+          : {A : Type 0} (missing : List (List ℕ)) (f : List (List ℕ) → Prog A) {Q : A → Memory → Type 0}
+          → ((ψ : Links) (xs : List (List ℕ)) (N : Memory) → Final (suc n) (E .image) (E .image n) ψ → World E (put φ n ψ) x y N → Does S (f xs) Q N)
+          → Does S (applyImportNamedSymbols ms (b n) missing >>= λ xs. applyModuleImports ms (b n) >>= λ _. f xs) Q M
+      imports-world missing f next =
+          let m = E .image n in
+          let laid = sound .laid n below in
+          let low = sound .low n below in
+          let view = sound .view n below in
+          does-then S (applyImportNamedSymbols ms (b n) missing) _
+          (changes-links n below (applyImportNamedSymbols ms (b n) missing) w
+          (imports-named m laid low view (x n) (y n) ms missing (w .stands n below)))
+          (λ xs N g.
+          does-then S (applyModuleImports ms (b n)) _
+          (changes-links n below (applyModuleImports ms (b n)) (g .1)
+          (imports-entries m laid low view (x n) (y n) ms (g .1 .stands n below)))
+          (λ _ L t.
+          next (t .0) xs L
+          (own-final m laid low view (x n) (y n) (suc n) (E .image) ms all-recorded all-many no-crs (once n (omega arith)) names
+          (rw fresh at (g .2)) (rw (put-same φ n (g .0)) at (t .2)))
+          (world-same E sound (twice (g .0) (t .0)) (λ j. refl) (λ j. refl) (t .1))))
+        where
+          twice : (ψ χ : Links) (j : ℕ) → put (put φ n ψ) n χ j ≡ put φ n χ j
+          twice ψ χ j =
+              elim (ℕ-discrete j n) [
+                | yes e ↦ rw e (put-same (put φ n ψ) n χ ∙ sym (put-same φ n χ))
+                | no o ↦ put-other (put φ n ψ) n χ j o ∙ put-other φ n ψ j o ∙ sym (put-other φ n χ j o)
+              ]
