@@ -151,3 +151,40 @@ module _ (E : Cast) (sound : Sound E) where
                 | yes e ↦ rw e (put-same (put φ n ψ) n χ ∙ sym (put-same φ n χ))
                 | no o ↦ put-other (put φ n ψ) n χ j o ∙ put-other φ n ψ j o ∙ sym (put-other φ n χ j o)
               ]
+
+    -- the others get its exports
+    serves-others
+        : {φ : ℕ → Links} {x y : ℕ → ℕ} {M : Memory} (ψ : Links) → Final (suc n) (E .image) (E .image n) ψ
+        → ((j : ℕ) → j < n → Final n (E .image) (E .image j) (φ j)) → World E (put φ n ψ) x y M
+        → Does S (applyExportsToLoaded k (r .modules)) (λ _ N. (χ : ℕ → Links) × World E χ x y N × AtRest χ) M
+    serves-others {φ} ψ own rest w =
+        does-mono S (serves-world E sound (E .image n) k rec n (r .modules) many (omega arith) recs w)
+        (λ _ N t. (t .0, t .1, (λ j l. final (t .0) (t .2) (t .3) j l (ℕ-discrete j n))))
+      where
+        final
+            : (χ : ℕ → Links)
+            → ((j : ℕ) → j < n → Change (Served (E .image n) (E .image j)) (Linking (E .image j .file) (offer (E .image n) (E .image j))) (put φ n ψ j) (χ j))
+            → ((j : ℕ) → n ≤ j → χ j ≡ put φ n ψ j) → (j : ℕ) → j < suc n → Dec (j ≡ n) → Final (suc n) (E .image) (E .image j) (χ j)
+        final χ f g j l (yes e) = rw (e, g n (omega arith), put-same φ n ψ) own
+        final χ f g j l (no o) =
+            served n (E .image) (E .image j) (sound .laid j (omega arith)) (once j l) (λ c d. true-false (sym d ∙ no-crs)) (rest j (omega arith))
+            (rw (put-other φ n ψ j o) at (f j (omega arith)))
+
+    -- all that follows the record; Q is asked of the call
+    pub links-in
+        : (l : Lent) → l .base ≡ b n → l .size ≡ sizeOf (E .image n .coming) → (level : ℕ) → level ≢ 2 → level ≢ 3 → {Q : Answer → Memory → Type 0}
+        → ((fixed : ℕ) (missing : List (List ℕ)) (N : Memory) (φ : ℕ → Links) (x y : ℕ → ℕ) → World (fixedCast E n level) φ x y N
+        → Listed b (suc n) x y → AtRest φ → Q (Done fixed (missingNow (appended r k) missing)) N)
+        → {φ : ℕ → Links} {x y : ℕ → ℕ} {M : Memory} → φ n ≡ (λ _. none) → ((j : ℕ) → j < n → Final n (E .image) (E .image j) (φ j))
+        → World E φ x y M → Listed b n x y → Does S (linked r l true level k) Q M
+    unfolding linked appended
+    links-in l at size level c d {Q} end {φ} {x} {y} {M} fresh rest w h =
+        rw (at, size)
+        (does-then S (listed (r .crs) (b n) true) _ (enters-list w h)
+        (λ _ N e.
+        imports-world fresh (e .2) (r .missing) _
+        (λ ψ xs L own u.
+        does-then S (applyExportsToLoaded k (r .modules)) _ (serves-others ψ own rest u)
+        (λ _ K t.
+        does-then S (fix (b n) (sizeOf (E .image n .coming)) level) _ (fixes-world n below level c d (t .1))
+        (λ v J g. does-ret S (end v xs J (t .0) (e .0) (e .1) g (e .3) (t .2)))))))
