@@ -1,3 +1,4 @@
 -- What each call does to the modules that stand and to the register.
 pub mod Scene
 pub mod Linked
+pub mod Bringing
