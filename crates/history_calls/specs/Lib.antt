@@ -2,3 +2,4 @@
 pub mod Scene
 pub mod Linked
 pub mod Bringing
+pub mod Loads

@@ -1,20 +1,21 @@
 -- Between calls: the modules stand and are listed, their links are at rest, and the register has their records.
-use Prim.Native.Nat.{ℕ, suc, _<_}
-use mathlib.Core.Path.{_≡_, sym, _∙_}
+use Prim.Native.Nat.{ℕ, zero, suc, pred, _<_}
+use mathlib.Core.Path.{_≡_, refl, sym, _∙_}
 use mathlib.Core.Logic.{_≢_}
+use mathlib.Core.List.{List, [], _∷_}
 use native.Mathlib.Omega.{arith}
-use native.Mathlib.Decide.{ℕ-discrete}
+use native.Mathlib.Decide.{decLt, ℕ-discrete}
 use lib.ListN.{length}
 use Rattle.window.specs.Within.{Low}
 use Rattle.register.specs.declared.words.Crs.the-variants.{Known}
-use Rattle.register.specs.Module.{Register}
+use Rattle.register.specs.Module.{Module, Register}
 use Rattle.history.specs.Arrival.{Image, baseOf, Area}
 use Rattle.history.specs.WellLaid.{WellLaid}
 use Rattle.history_steps.specs.Wp.{Memory}
 use Rattle.history_steps.specs.View.{View}
 use Rattle.history_steps.specs.Links.{Links}
 use Rattle.history_steps.specs.World.{Cast, Sound, World, put, put-same, put-other}
-use Rattle.history_steps.specs.Listing.{Listed}
+use Rattle.history_steps.specs.Listing.{nextIn, previousIn, Listed, next-more, next-last}
 use Rattle.history_steps.specs.Final.{Final}
 use Rattle.history_steps.specs.Own.{RecordedAll}
 
@@ -84,3 +85,38 @@ module _ (C : Cast) (m : Image) (T : Memory) where
           off j q (omega arith) (rw (image-old j (omega arith)) at a) (rw (e, image-new) at b)
       apart j k q l g o (no d) (no e) a b =
           s .apart j k q (omega arith) (omega arith) o (rw (image-old j (omega arith)) at a) (rw (image-old k (omega arith)) at b)
+
+-- what is said of n modules is said of any that are the same up to n
+pub listed-same
+    : {b c x y u v : ℕ → ℕ} (n : ℕ) → ((k : ℕ) → k < n → b k ≡ c k) → ((k : ℕ) → k < n → x k ≡ u k) → ((k : ℕ) → k < n → y k ≡ v k)
+    → Listed b n x y → Listed c n u v
+unfolding previousIn
+listed-same {b} {c} n e f g h =
+    record {
+      nexts = λ k l. sym (f k l) ∙ h .nexts k l ∙ next k (decLt (suc k) n);
+      previouses = λ k l. sym (g k l) ∙ h .previouses k l ∙ previous k l;
+    }
+  where
+    next : (k : ℕ) → Dec (suc k < n) → nextIn b n k ≡ nextIn c n k
+    next k (yes l) = next-more b n k l ∙ e (suc k) l ∙ sym (next-more c n k l)
+    next k (no l) = next-last b n k (omega arith) ∙ sym (next-last c n k (omega arith))
+
+    previous : (k : ℕ) → k < n → previousIn b n k ≡ previousIn c n k
+    previous zero l = refl
+    previous (suc zero) l = e (pred n) (omega arith)
+    previous (suc (suc k)) l = e (suc k) (omega arith)
+
+pub final-same
+    : {x z : ℕ → Image} {m : Image} {φ : Links} (n : ℕ) → ((k : ℕ) → k < n → x k ≡ z k) → Final n x m φ → Final n z m φ
+final-same n e f =
+    record {
+      found = λ i l b s k g p h. f .found i l b s k g p (rw (e k g) h);
+      missing = λ i l b s o. f .missing i l b s (λ k g p h. o k g p (rw (e k g) at h));
+      others = f .others;
+    }
+
+pub recorded-same : (x z : ℕ → Image) (ms : List Module) → ((k : ℕ) → k < length ms → x k ≡ z k) → RecordedAll x ms → RecordedAll z ms
+unfolding RecordedAll
+recorded-same x z [] e h = tt
+recorded-same x z (r ∷ rs) e h =
+    (rw (← e 0 (omega arith)) (h .0), recorded-same (λ k. x (suc k)) (λ k. z (suc k)) rs (λ k l. e (suc k) (omega arith)) (h .1))

@@ -1,0 +1,145 @@
+-- `load` of a well-laid module: a refusal, or one module more, all listed again and all links at rest.
+use Prim.Native.Nat.{ℕ, suc, _^_, _<_}
+use mathlib.Core.Path.{_≡_, refl, sym, ap, _∙_}
+use mathlib.Core.Logic.{_≢_, _⊎_, inl, inr}
+use mathlib.Core.List.{List, [], _∷_, _++_}
+use mathlib.Core.Option.{none}
+use mathlib.Core.Bool.{Bool, true, false}
+use native.Mathlib.Omega.{arith}
+use native.Mathlib.Decide.{ℕ-discrete}
+use lib.ListN.{length}
+use Rattle.window.specs.Memory.{if_then_else_}
+use Rattle.window.specs.Access.{Prog, ret, _>>=_}
+use Rattle.window.specs.Within.{Low, Agree}
+use Rattle.window.specs.Mirror.{word}
+use Rattle.layout.specs.Header.{nextCro, previousCro}
+use Rattle.register.specs.declared.words.Crs.the-variants.{Known}
+use Rattle.register.specs.Module.{Module, Register}
+use Rattle.register.specs.Change.{appended}
+use Rattle.linker.specs.declared.rebase.Lent.{Lent}
+use Rattle.linker.specs.Exports.{readModule}
+use Rattle.linker.specs.Calls as calls
+use Rattle.linker.specs.Calls.{Answer, NotACro, BadSegment, NoRoom, Done, fits, rebase, missingNow, linked}
+use Rattle.history.specs.Image.{moduleName}
+use Rattle.history.specs.Arrival.{loaded, Image, baseOf, sizeOf, Area}
+use Rattle.history.specs.Imports.{Import, Exports}
+use Rattle.history.specs.WellLaid.{WellLaid}
+use Rattle.history_steps.specs.Wp.{Memory, Does, Kept, does-mono, does-ret, does-then, does-wider}
+use Rattle.history_steps.specs.Shows.{shows-agree}
+use Rattle.history_steps.specs.Links.{Links, Stands}
+use Rattle.history_steps.specs.World.{Cast, Sound, World, put, put-same, put-other}
+use Rattle.history_steps.specs.Listing.{Listed}
+use Rattle.history_steps.specs.Records.{Recorded}
+use Rattle.history_steps.specs.Recording.{records}
+use Rattle.history_steps.specs.Final.{Final}
+use Rattle.history_steps.specs.Own.{RecordedAll}
+use Rattle.history_steps.specs.Fixing.{fixedAt, fixed-view, fixed-agree}
+use Rattle.history_rebase.specs.Header.{Fresh}
+use Rattle.history_rebase.specs.Rebased.{rebased}
+use Rattle.history_rebase.specs.Arrives.{Arrived, Refuses, recorded}
+use Rattle.history_calls.specs.Scene.{baseIn, Scene, Book, extended, image-new, image-old, rest-new, rest-old, each, more-sound, listed-same, final-same, recorded-same}
+use Rattle.history_calls.specs.Linked.{recorded-more, length-more, fixedCast, links-in}
+use Rattle.history_calls.specs.Bringing.{brought, Brought, brings}
+
+-- the bytes at rest of a module that is loaded over the memory B
+unfoldable pub restOf : Lent → Image → ℕ → Memory → Memory
+restOf l m level B = fixedAt m level (brought (rebase l) (l .base) B)
+
+-- m stands beside those of C, with T at rest
+pub record Joined (C : Cast) (m : Image) (T : Memory) (s : Register) (N : Memory) : Type 0 where
+  pub links : ℕ → Links
+  pub next : ℕ → ℕ
+  pub previous : ℕ → ℕ
+  pub scene : Scene (extended C m T) links next previous N
+  pub book : Book (extended C m T) s
+
+-- T is what the bytes before the call say, those of its areas alone
+pub record Came (C : Cast) (l : Lent) (m : Image) (level : ℕ) (B : Memory) (s : Register) (N : Memory) : Type 0 where
+  pub rest : Memory
+  pub joined : Joined C m rest s N
+  pub bytes : rest ≡ restOf l m level B
+  pub alike : (D : Memory) → Agree (Area m) B D → Agree (Area m) rest (restOf l m level D)
+
+-- what is said of the answer
+unfoldable pub Answered : Cast → Lent → Image → ℕ → Memory → Answer → Memory → Type 0
+Answered C l m level B (Done v s) N = Came C l m level B s N
+Answered C l m level B NotACro N = Unit {0}
+Answered C l m level B BadSegment N = Unit {0}
+Answered C l m level B NoRoom N = Unit {0}
+Answered C l m level B Answer.Kept N = Unit {0}
+
+-- the areas of all and of the new one
+abbrev pub Reach : Cast → Image → ℕ → Type 0
+Reach C m q = (k : ℕ) × (k < suc (C .number)) × Area (put (C .image) (C .number) m k) q
+
+-- of all with the new one, only one exports to an import
+abbrev pub Once : ℕ → (ℕ → Image) → Type 0
+Once n x = (t : ℕ) → t < n → (i : Import) (j k p q : ℕ) → j < n → k < n → Exports (x j) (x t) i p → Exports (x k) (x t) i q → j ≡ k
+
+-- and no two have one name
+abbrev pub Names : ℕ → (ℕ → Image) → Type 0
+Names n x = (j k : ℕ) → j < n → k < n → moduleName (x j .file) ≡ moduleName (x k .file) → j ≡ k
+
+module _ (C : Cast) (m : Image) (laid : WellLaid m) (low : Low (Area m))
+    (off : (k q : ℕ) → k < C .number → Area (C .image k) q → Area m q → ⊥) {φ : ℕ → Links} {x y : ℕ → ℕ} {B : Memory} (scene : Scene C φ x y B) where
+  abbrev n : ℕ
+  n = C .number
+
+  -- the new one stands beside the others, without links
+  world-new
+      : (N : Memory) → Arrived m B N
+      → World (extended C m N) (put φ n (λ _. none)) (put x n (word (m .file) nextCro)) (put y n (word (m .file) previousCro)) N
+  world-new N h =
+      record {
+        stands =
+            each C m N
+            (λ k z U. Stands z U (put φ n (λ _. none) k) (put x n (word (m .file) nextCro) k) (put y n (word (m .file) previousCro) k) N) old
+            (rw (put-same φ n (λ _. none), put-same x n (word (m .file) nextCro), put-same y n (word (m .file) previousCro)) (h .stands));
+      }
+    where
+      old : (k : ℕ) → k < n
+          → Stands (C .image k) (C .rest k) (put φ n (λ _. none) k) (put x n (word (m .file) nextCro) k) (put y n (word (m .file) previousCro) k) N
+      old k l =
+          let o : k ≢ n = λ e. absurd (omega (arith, e)) in
+          rw (put-other φ n (λ _. none) k o, put-other x n (word (m .file) nextCro) k o, put-other y n (word (m .file) previousCro) k o)
+          (record {
+            shows =
+                shows-agree (C .image k) (scene .sound .laid k l) (λ q s. sym (h .outside q (λ u. off k q l s u))) (scene .world .stands k l .shows);
+          })
+
+  module _ (T : Memory) where
+    abbrev E : Cast
+    E = extended C m T
+
+    old-base : (k : ℕ) → k < n → baseIn C k ≡ baseIn E k
+    old-base k l = ap (λ z. baseOf (z .coming)) (sym (image-old C m T k l))
+
+    listed-old : (a b : ℕ) → Listed (baseIn E) n (put x n a) (put y n b)
+    listed-old a b =
+        listed-same n old-base (λ k l. sym (put-other x n a k (λ e. absurd (omega (arith, e)))))
+        (λ k l. sym (put-other y n b k (λ e. absurd (omega (arith, e))))) (scene .listed)
+
+    final-old : (ψ : Links) (j : ℕ) → j < n → Final n (E .image) (E .image j) (put φ n ψ j)
+    final-old ψ j l =
+        rw (put-other φ n ψ j (λ e. absurd (omega (arith, e))), image-old C m T j l)
+        (final-same n (λ k g. sym (image-old C m T k g)) (scene .links j l))
+
+    new-nonzero : baseOf (m .coming) ≢ 0 → (k : ℕ) → k < suc n → baseIn E k ≢ 0
+    new-nonzero z = each C m T (λ k x U. baseOf (x .coming) ≢ 0) (scene .nonzero) z
+
+    module _ (r : Register) (book : Book C r) where
+      old-recorded : RecordedAll (E .image) (r .modules)
+      old-recorded =
+          recorded-same (C .image) (E .image) (r .modules) (λ k l. sym (image-old C m T k (rw (book .many) at l))) (book .recorded)
+
+      old-crs : r .crs ≡ Known (baseIn E 0)
+      old-crs = book .crs ∙ ap Known (old-base 0 (scene .some))
+
+      book-new : (k : Module) → Recorded m k → (missing : List (List ℕ)) → Book E (missingNow (appended r k) missing)
+      unfolding missingNow appended
+      book-new k rec missing =
+          record {
+            recorded = recorded-more (E .image) (r .modules) k old-recorded (rw (book .many, image-new C m T) rec);
+            many = length-more (r .modules) k ∙ ap suc (book .many);
+            crs = old-crs;
+          }
