@@ -143,3 +143,101 @@ module _ (C : Cast) (m : Image) (laid : WellLaid m) (low : Low (Area m))
             many = length-more (r .modules) k ∙ ap suc (book .many);
             crs = old-crs;
           }
+
+  -- the new one fixed, said of the cast
+  recast
+      : (level : ℕ) (N : Memory) {ψ : ℕ → Links} {u v : ℕ → ℕ} {L : Memory} → World (fixedCast (extended C m N) n level) ψ u v L
+      → World (extended C m (fixedAt m level N)) ψ u v L
+  recast level N w = record { stands = λ k l. rw (← same k (ℕ-discrete k n)) (w .stands k l) }
+    where
+      E : Cast
+      E = extended C m N
+
+      same : (k : ℕ) → Dec (k ≡ n) → fixedCast E n level .rest k ≡ extended C m (fixedAt m level N) .rest k
+      same k (yes e) =
+          rw e
+          (put-same (E .rest) n (fixedAt (E .image n) level (E .rest n))
+          ∙ ap (λ z. fixedAt z level (E .rest n)) (image-new C m N)
+          ∙ ap (fixedAt m level) (rest-new C m N)
+          ∙ sym (rest-new C m (fixedAt m level N)))
+      same k (no o) =
+          put-other (E .rest) n (fixedAt (E .image n) level (E .rest n)) k o
+          ∙ put-other (C .rest) n N k o
+          ∙ sym (put-other (C .rest) n (fixedAt m level N) k o)
+
+module _ (C : Cast) (l : Lent) (given level : ℕ) (f : ℕ → ℕ) where
+  abbrev m : Image
+  m = record { coming = loaded l given level; file = f }
+
+  abbrev images : ℕ → Image
+  images = put (C .image) (C .number) m
+
+  -- a load leaves all at rest, if it is not refused
+  pub loads
+      : (laid : WellLaid m) (low : Low (Area m)) → ((o : ℕ) → o < l .size → f o < 256) → l .«data_at» < 2 ^ 32 → l .«bss_at» < 2 ^ 32
+      → ((k q : ℕ) → k < C .number → Area (C .image k) q → Area m q → ⊥) → l .base ≢ 0 → level ≢ 2 → level ≢ 3
+      → Once (suc (C .number)) images → Names (suc (C .number)) images → {φ : ℕ → Links} {x y : ℕ → ℕ} {B : Memory} → Scene C φ x y B → (r : Register)
+      → Book C r → Fresh m B → (recordRoom nameRoom : ℕ)
+      → Does (Reach C m) (calls.load l true level recordRoom nameRoom r) (Answered C l m level B) B
+  unfolding calls.load Answered restOf
+  loads laid low bytes data-low bss-low off nonzero c d once names {φ} {x} {y} {B} scene r book fresh recordRoom nameRoom =
+      brings S Q m laid low bytes inside recordRoom nameRoom r true (linked r l true level) (rebase l)
+      (rebased l given level f laid low bytes data-low bss-low fresh) refuses after
+    where
+      S : ℕ → Type 0
+      S = Reach C m
+
+      Q : Answer → Memory → Type 0
+      Q = Answered C l m level B
+
+      inside : (q : ℕ) → Area m q → S q
+      inside q s = (C .number, omega arith, rw (put-same (C .image) (C .number) m) s)
+
+      refuses : Refuses Q m B
+      refuses a N (inl e) k = rw e tt
+      refuses a N (inr e) k = rw e tt
+
+      came
+          : (N : Memory) → Brought m (rebase l) B N → (k : Module) → Recorded m k → (missing : List (List ℕ)) (L : Memory) (ψ : ℕ → Links) (u v : ℕ → ℕ)
+          → World (fixedCast (extended C m N) (C .number) level) ψ u v L → Listed (baseIn (extended C m N)) (suc (C .number)) u v
+          → ((j : ℕ) → j < suc (C .number) → Final (suc (C .number)) images (images j) (ψ j)) → Came C l m level B (missingNow (appended r k) missing) L
+      came N g k rec missing L ψ u v w h rest =
+          let T = fixedAt m level N in
+          record {
+            rest = T;
+            joined =
+                record {
+                  links = ψ;
+                  next = u;
+                  previous = v;
+                  scene =
+                      record {
+                        sound = more-sound C m T (scene .sound) laid low (fixed-view m laid low level c d (g .arrived .view)) off;
+                        some = omega arith;
+                        nonzero = new-nonzero C m laid low off scene T nonzero;
+                        world = recast C m laid low off scene level N w;
+                        listed = h;
+                        links = rest;
+                      };
+                  book = book-new C m laid low off scene T r book k rec missing;
+                };
+            bytes = ap (fixedAt m level) (g .bytes);
+            alike = λ D a. fixed-agree m laid low level c d N (brought (rebase l) (l .base) D) (g .alike D a);
+          }
+
+      joins : (N : Memory) → Brought m (rebase l) B N → (k : Module) → Recorded m k → (fit : Bool)
+          → Does S (if fit then linked r l true level k else ret NoRoom) Q N
+      joins N g k rec false = does-ret S tt
+      joins N g k rec true =
+          let new = image-new C m N in
+          links-in (extended C m N) (more-sound C m N (scene .sound) laid low (g .arrived .view) off)
+          (new-nonzero C m laid low off scene N nonzero) (C .number) refl (scene .some) (rw new refl) once names r
+          (old-recorded C m laid low off scene N r book) (book .many) (old-crs C m laid low off scene N r book) k (rw new rec) l (rw new refl)
+          (rw new refl) level c d {Q = Q} (λ fixed missing L ψ u v w h rest. came N g k rec missing L ψ u v w h rest)
+          (put-same φ (C .number) (λ _. none)) (final-old C m laid low off scene N (λ _. none)) (world-new C m laid low off scene N (g .arrived))
+          (listed-old C m laid low off scene N (word f nextCro) (word f previousCro))
+
+      after : (N : Memory) → Brought m (rebase l) B N → Does S (recorded recordRoom nameRoom r (l .base) (l .size) true (linked r l true level)) Q N
+      after N g =
+          does-then S (readModule (l .base) (l .size) true) _ (does-wider (Area m) S inside (records m laid low (g .arrived .view) (l .size)))
+          (λ k M h. rw (h .0 .2) (joins N g k (h .0 .0) (fits recordRoom nameRoom r k)))
