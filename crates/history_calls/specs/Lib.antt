@@ -3,3 +3,4 @@ pub mod Scene
 pub mod Linked
 pub mod Bringing
 pub mod Loads
+pub mod Starts
