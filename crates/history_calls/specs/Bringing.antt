@@ -63,7 +63,9 @@ module _ (S : ℕ → Type 0) (Q : Answer → Memory → Type 0) (m : Image) (la
           (does-then S (resetExternalRelocations at) _ (does-wider (Area m) S i (does-runs (Area m) reset))
           (λ _ N g.
           let z : N ≡ brought step at B =
-          g .0 .0 ∙ ap (λ L. runM (resetExternalRelocations at) L .1) e ∙ sym (ap (λ p. p .1) (runM-bind step (λ _. resetExternalRelocations at) B)) in
+          g .0 .0
+          ∙ ap (λ L. runM (resetExternalRelocations at) L .1) e
+          ∙ sym (ap (λ p. p .1) (runM-bind step (λ _. resetExternalRelocations at) B)) in
           after N
           (record {
             arrived =

@@ -4,3 +4,4 @@ pub mod Linked
 pub mod Bringing
 pub mod Loads
 pub mod Starts
+pub mod Between

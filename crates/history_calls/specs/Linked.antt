@@ -1,14 +1,14 @@
 -- What `load` does after the record is read: the new module, number n, enters the list, is linked, serves the others and is fixed.
-use Prim.Native.Nat.{ℕ, zero, suc, _≤_, _<_}
+use Prim.Native.Nat.{ℕ, suc, _≤_, _<_}
 use mathlib.Core.Path.{_≡_, refl, sym, ap, _∙_}
 use mathlib.Core.Logic.{_≢_}
 use mathlib.Core.List.{List, [], _∷_, _++_}
 use mathlib.Core.Option.{none}
-use mathlib.Core.Bool.{Bool, true, false}
+use mathlib.Core.Bool.{true, false}
 use native.Mathlib.Omega.{arith}
 use native.Mathlib.Decide.{ℕ-discrete}
 use lib.ListN.{length}
-use Rattle.window.specs.Access.{Prog, ret, _>>=_}
+use Rattle.window.specs.Access.{Prog, _>>=_}
 use Rattle.register.specs.declared.words.Crs.the-variants.{Known}
 use Rattle.register.specs.Module.{Module, Register}
 use Rattle.register.specs.Change.{appended}
@@ -17,7 +17,7 @@ use Rattle.linker.specs.Imports.{applyImportNamedSymbols, applyModuleImports, a
 use Rattle.linker.specs.Fix.{fix}
 use Rattle.linker.specs.Calls.{Answer, Done, listed, missingNow, linked}
 use Rattle.history.specs.Image.{moduleName}
-use Rattle.history.specs.Arrival.{Image, baseOf, sizeOf, isCrs, Area}
+use Rattle.history.specs.Arrival.{Image, sizeOf, isCrs, Area}
 use Rattle.history.specs.Imports.{Import, Exports}
 use Rattle.history_steps.specs.Wp.{Memory, Does, Kept, does-mono, does-ret, does-then, does-wider}
 use Rattle.history_steps.specs.Shows.{shows-agree}
@@ -163,7 +163,8 @@ module _ (E : Cast) (sound : Sound E) where
       where
         final
             : (χ : ℕ → Links)
-            → ((j : ℕ) → j < n → Change (Served (E .image n) (E .image j)) (Linking (E .image j .file) (offer (E .image n) (E .image j))) (put φ n ψ j) (χ j))
+            → ((j : ℕ) → j < n
+            → Change (Served (E .image n) (E .image j)) (Linking (E .image j .file) (offer (E .image n) (E .image j))) (put φ n ψ j) (χ j))
             → ((j : ℕ) → n ≤ j → χ j ≡ put φ n ψ j) → (j : ℕ) → j < suc n → Dec (j ≡ n) → Final (suc n) (E .image) (E .image j) (χ j)
         final χ f g j l (yes e) = rw (e, g n (omega arith), put-same φ n ψ) own
         final χ f g j l (no o) =

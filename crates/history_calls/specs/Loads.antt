@@ -1,15 +1,14 @@
 -- `load` of a well-laid module: a refusal, or one module more, all listed again and all links at rest.
 use Prim.Native.Nat.{ℕ, suc, _^_, _<_}
 use mathlib.Core.Path.{_≡_, refl, sym, ap, _∙_}
-use mathlib.Core.Logic.{_≢_, _⊎_, inl, inr}
-use mathlib.Core.List.{List, [], _∷_, _++_}
+use mathlib.Core.Logic.{_≢_, inl, inr}
+use mathlib.Core.List.{List}
 use mathlib.Core.Option.{none}
 use mathlib.Core.Bool.{Bool, true, false}
 use native.Mathlib.Omega.{arith}
 use native.Mathlib.Decide.{ℕ-discrete}
-use lib.ListN.{length}
 use Rattle.window.specs.Memory.{if_then_else_}
-use Rattle.window.specs.Access.{Prog, ret, _>>=_}
+use Rattle.window.specs.Access.{ret}
 use Rattle.window.specs.Within.{Low, Agree}
 use Rattle.window.specs.Mirror.{word}
 use Rattle.layout.specs.Header.{nextCro, previousCro}
@@ -21,13 +20,13 @@ use Rattle.linker.specs.Exports.{readModule}
 use Rattle.linker.specs.Calls as calls
 use Rattle.linker.specs.Calls.{Answer, NotACro, BadSegment, NoRoom, Done, fits, rebase, missingNow, linked}
 use Rattle.history.specs.Image.{moduleName}
-use Rattle.history.specs.Arrival.{loaded, Image, baseOf, sizeOf, Area}
+use Rattle.history.specs.Arrival.{loaded, Image, baseOf, Area}
 use Rattle.history.specs.Imports.{Import, Exports}
 use Rattle.history.specs.WellLaid.{WellLaid}
-use Rattle.history_steps.specs.Wp.{Memory, Does, Kept, does-mono, does-ret, does-then, does-wider}
+use Rattle.history_steps.specs.Wp.{Memory, Does, Kept, does-ret, does-then, does-wider}
 use Rattle.history_steps.specs.Shows.{shows-agree}
 use Rattle.history_steps.specs.Links.{Links, Stands}
-use Rattle.history_steps.specs.World.{Cast, Sound, World, put, put-same, put-other}
+use Rattle.history_steps.specs.World.{Cast, World, put, put-same, put-other}
 use Rattle.history_steps.specs.Listing.{Listed}
 use Rattle.history_steps.specs.Records.{Recorded}
 use Rattle.history_steps.specs.Recording.{records}
@@ -37,7 +36,7 @@ use Rattle.history_steps.specs.Fixing.{fixedAt, fixed-view, fixed-agree}
 use Rattle.history_rebase.specs.Header.{Fresh}
 use Rattle.history_rebase.specs.Rebased.{rebased}
 use Rattle.history_rebase.specs.Arrives.{Arrived, Refuses, recorded}
-use Rattle.history_calls.specs.Scene.{baseIn, Scene, Book, extended, image-new, image-old, rest-new, rest-old, each, more-sound, listed-same, final-same, recorded-same}
+use Rattle.history_calls.specs.Scene.{baseIn, Scene, Book, extended, image-new, image-old, rest-new, each, more-sound, listed-same, final-same, recorded-same}
 use Rattle.history_calls.specs.Linked.{recorded-more, length-more, fixedCast, links-in}
 use Rattle.history_calls.specs.Bringing.{brought, Brought, brings}
 
@@ -198,9 +197,10 @@ module _ (C : Cast) (l : Lent) (given level : ℕ) (f : ℕ → ℕ) where
       refuses a N (inr e) k = rw e tt
 
       came
-          : (N : Memory) → Brought m (rebase l) B N → (k : Module) → Recorded m k → (missing : List (List ℕ)) (L : Memory) (ψ : ℕ → Links) (u v : ℕ → ℕ)
-          → World (fixedCast (extended C m N) (C .number) level) ψ u v L → Listed (baseIn (extended C m N)) (suc (C .number)) u v
-          → ((j : ℕ) → j < suc (C .number) → Final (suc (C .number)) images (images j) (ψ j)) → Came C l m level B (missingNow (appended r k) missing) L
+          : (N : Memory) → Brought m (rebase l) B N → (k : Module) → Recorded m k → (missing : List (List ℕ)) (L : Memory)
+          (ψ : ℕ → Links) (u v : ℕ → ℕ) → World (fixedCast (extended C m N) (C .number) level) ψ u v L → Listed (baseIn (extended C m N)) (suc (C .number)) u v
+          → ((j : ℕ) → j < suc (C .number) → Final (suc (C .number)) images (images j) (ψ j))
+          → Came C l m level B (missingNow (appended r k) missing) L
       came N g k rec missing L ψ u v w h rest =
           let T = fixedAt m level N in
           record {

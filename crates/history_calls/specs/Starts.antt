@@ -1,12 +1,11 @@
 -- `initialize` of a well-laid CRS with no module before it: a refusal, or the CRS stands alone, without links and list words.
 use Prim.Native.Nat.{ℕ, zero, suc, _<_}
-use mathlib.Core.Path.{_≡_, refl, sym, _∙_}
+use mathlib.Core.Path.{_≡_, refl, sym}
 use mathlib.Core.Logic.{_≢_, inl, inr}
-use mathlib.Core.List.{[], _∷_, _++_}
+use mathlib.Core.List.{[]}
 use mathlib.Core.Option.{none}
 use mathlib.Core.Bool.{Bool, true, false}
 use native.Mathlib.Omega.{arith}
-use lib.ListN.{length}
 use lib.Dec.{lit<}
 use Rattle.window.specs.Memory.{if_then_else_}
 use Rattle.window.specs.Access.{Prog, ret, _>>=_}
@@ -19,10 +18,10 @@ use Rattle.register.specs.Change.{appended, withCrs}
 use Rattle.linker.specs.Exports.{readModule}
 use Rattle.linker.specs.Calls as calls
 use Rattle.linker.specs.Calls.{Answer, NotACro, BadSegment, NoRoom, Done, fits, rebaseStatic}
-use Rattle.history.specs.Arrival.{initialized, Image, baseOf, sizeOf, Area}
+use Rattle.history.specs.Arrival.{initialized, Image, baseOf, Area}
 use Rattle.history.specs.Imports.{Exporter}
 use Rattle.history.specs.WellLaid.{WellLaid}
-use Rattle.history_steps.specs.Wp.{Memory, Does, does-mono, does-ret, does-then, does-wider}
+use Rattle.history_steps.specs.Wp.{Memory, Does, does-ret, does-then, does-wider}
 use Rattle.history_steps.specs.View.{View}
 use Rattle.history_steps.specs.Links.{Stands}
 use Rattle.history_steps.specs.World.{Cast, Sound, World, All, put, put-same, sets-next, sets-previous}
@@ -33,7 +32,7 @@ use Rattle.history_steps.specs.Final.{Final}
 use Rattle.history_steps.specs.Own.{RecordedAll}
 use Rattle.history_rebase.specs.Header.{Fresh}
 use Rattle.history_rebase.specs.Rebased.{rebased-static}
-use Rattle.history_rebase.specs.Arrives.{Arrived, Refuses, recorded}
+use Rattle.history_rebase.specs.Arrives.{Refuses, recorded}
 use Rattle.history_calls.specs.Scene.{Scene, Book}
 use Rattle.history_calls.specs.Bringing.{brought, Brought, brings}
 
@@ -141,7 +140,8 @@ module _ (base size : ℕ) (f : ℕ → ℕ) where
             alike = g .alike;
           }))
 
-      after : (N : Memory) → Brought m (rebaseStatic base) B N → Does S (recorded recordRoom nameRoom r base size true (calls.initialized r base)) (Begun m B) N
+      after : (N : Memory) → Brought m (rebaseStatic base) B N
+          → Does S (recorded recordRoom nameRoom r base size true (calls.initialized r base)) (Begun m B) N
       after N g =
           does-then S (readModule base size true) _ (records m laid low (g .arrived .view) size)
           (λ k M h. rw (h .2) (joins N g k (h .0) (fits recordRoom nameRoom r k)))
