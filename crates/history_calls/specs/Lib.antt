@@ -5,3 +5,4 @@ pub mod Bringing
 pub mod Loads
 pub mod Starts
 pub mod Between
+pub mod Unique
