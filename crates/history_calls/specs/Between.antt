@@ -1,0 +1,56 @@
+-- From one call to the next: bytes outside the areas may change, and so may the order of a record's named exports.
+use Prim.Native.Nat.{ℕ, zero, suc, _*_, _+_, _≤_, _<_}
+use mathlib.Core.Path.{_≡_, refl, sym, ap, _∙_}
+use mathlib.Core.Logic.{_≢_, _⊎_, inl, inr}
+use mathlib.Core.List.{List, [], _∷_}
+use native.Mathlib.Omega.{arith}
+use lib.ListN.{length}
+use Rattle.window.specs.Within.{Agree}
+use Rattle.register.specs.Module.{Module, Register}
+use Rattle.history.specs.Arrival.{Image, Area}
+use Rattle.history.specs.Sessions.{SameModules, SameRegister}
+use Rattle.history_steps.specs.Wp.{Memory}
+use Rattle.history_steps.specs.Shows.{shows-agree}
+use Rattle.history_steps.specs.Links.{Links}
+use Rattle.history_steps.specs.World.{Cast}
+use Rattle.history_steps.specs.Records as records
+use Rattle.history_steps.specs.Own.{RecordedAll}
+use Rattle.history_calls.specs.Scene.{Scene, Book}
+
+-- only the bytes of the areas matter
+pub scene-agree
+    : {C : Cast} {φ : ℕ → Links} {x y : ℕ → ℕ} {M N : Memory} → ((k : ℕ) → k < C .number → Agree (Area (C .image k)) M N) → Scene C φ x y M
+    → Scene C φ x y N
+scene-agree {C} e s =
+    record {
+      sound = s .sound;
+      some = s .some;
+      nonzero = s .nonzero;
+      world =
+          record { stands = λ k l. record { shows = shows-agree (C .image k) (s .sound .laid k l) (e k l) (s .world .stands k l .shows) } };
+      listed = s .listed;
+      links = s .links;
+    }
+
+-- the same records but for that order
+recorded-order : (x : ℕ → Image) (rs ss : List Module) → SameModules rs ss → RecordedAll x rs → RecordedAll x ss
+unfolding SameModules RecordedAll
+recorded-order x [] [] e h = tt
+recorded-order x (r ∷ rs) (s ∷ ss) e h = (records.recorded-same (e .0) (h .0), recorded-order (λ k. x (suc k)) rs ss (e .1) (h .1))
+recorded-order x [] (s ∷ ss) e h = absurd e
+recorded-order x (r ∷ rs) [] e h = absurd e
+
+same-many : (rs ss : List Module) → SameModules rs ss → length rs ≡ length ss
+unfolding SameModules
+same-many [] [] e = refl
+same-many (r ∷ rs) (s ∷ ss) e = ap suc (same-many rs ss (e .1))
+same-many [] (s ∷ ss) e = absurd e
+same-many (r ∷ rs) [] e = absurd e
+
+pub book-same : {C : Cast} {r s : Register} → SameRegister r s → Book C r → Book C s
+book-same {C} {r} {s} e b =
+    record {
+      recorded = recorded-order (C .image) (r .modules) (s .modules) (e .modules) (b .recorded);
+      many = sym (same-many (r .modules) (s .modules) (e .modules)) ∙ b .many;
+      crs = sym (e .crs) ∙ b .crs;
+    }
