@@ -1,0 +1,2 @@
+-- What the theorem about sessions needs beside the steps of the calls.
+pub mod Lists

@@ -1,0 +1,120 @@
+-- Lists by index: what holds of each or of each pair, what stands among what came, and one that leaves.
+use Prim.Native.Nat.{ℕ, zero, suc, _+_, _<_}
+use mathlib.Core.Path.{_≡_, refl, sym, ap, _∙_}
+use mathlib.Core.Logic.{_≢_}
+use mathlib.Core.List.{List, [], _∷_, _++_, map}
+use mathlib.Core.Bool.{Bool, true, false, not, _||_}
+use native.Mathlib.Omega.{arith}
+use native.Mathlib.Decide.{decLt, ℕ-discrete}
+use lib.ListN.{length, getD}
+use lib.Dec.{eqb}
+use borrow.Author.Tests.{eq-eqb, ne-eqb}
+use Rattle.window.specs.Memory.{if_then_else_, byteAt}
+use Rattle.history.specs.Arrival.{Arrival, imageOf, baseOf, isCrs}
+use Rattle.history.specs.Sessions.{Call, initialize, load, unload, Turn, done, brought, arrived, others, stay, standing}
+use Rattle.history.specs.Demand3.{Each, Pairs}
+use Rattle.history_steps.specs.Leaving.{skip, skip-low, skip-high}
+
+-- of each, by index and back
+pub each-at : {A : Type 0} (P : A → Type 0) (xs : List A) (d : A) → Each P xs → (k : ℕ) → k < length xs → P (getD xs k d)
+unfolding Each
+each-at P [] d h k l = absurd (omega arith)
+each-at P (x ∷ xs) d h zero l = h .0
+each-at P (x ∷ xs) d h (suc k) l = each-at P xs d (h .1) k (omega arith)
+
+pub at-each : {A : Type 0} (P : A → Type 0) (xs : List A) (d : A) → ((k : ℕ) → k < length xs → P (getD xs k d)) → Each P xs
+unfolding Each
+at-each P [] d h = tt
+at-each P (x ∷ xs) d h = (h 0 (omega arith), at-each P xs d (λ k l. h (suc k) (omega arith)))
+
+-- of each pair, by two indexes
+pub pairs-at
+    : {A : Type 0} (R : A → A → Type 0) (xs : List A) (d : A) → ((a b : A) → R a b → R b a) → Pairs R xs → (j k : ℕ) → j < length xs
+    → k < length xs → j ≢ k → R (getD xs j d) (getD xs k d)
+unfolding Pairs
+pairs-at R [] d s h j k l g o = absurd (omega arith)
+pairs-at R (x ∷ xs) d s h zero zero l g o = absurd (o refl)
+pairs-at R (x ∷ xs) d s h zero (suc k) l g o = each-at (R x) xs d (h .0) k (omega arith)
+pairs-at R (x ∷ xs) d s h (suc j) zero l g o = s x _ (each-at (R x) xs d (h .0) j (omega arith))
+pairs-at R (x ∷ xs) d s h (suc j) (suc k) l g o = pairs-at R xs d s (h .1) j k (omega arith) (omega arith) (λ e. o (ap suc e))
+
+pub each-mono : {A : Type 0} (P Q : A → Type 0) (xs : List A) → ((a : A) → P a → Q a) → Each P xs → Each Q xs
+unfolding Each
+each-mono P Q [] f h = tt
+each-mono P Q (x ∷ xs) f h = (f x (h .0), each-mono P Q xs f (h .1))
+
+-- of two lists in a row
+pub each-append : {A : Type 0} (P : A → Type 0) (xs ys : List A) → Each P xs → Each P ys → Each P (xs ++ ys)
+unfolding Each
+each-append P [] ys h g = g
+each-append P (x ∷ xs) ys h g = (h .0, each-append P xs ys (h .1) g)
+
+pub each-left : {A : Type 0} (P : A → Type 0) (xs ys : List A) → Each P (xs ++ ys) → Each P xs
+unfolding Each
+each-left P [] ys h = tt
+each-left P (x ∷ xs) ys h = (h .0, each-left P xs ys (h .1))
+
+pub each-right : {A : Type 0} (P : A → Type 0) (xs ys : List A) → Each P (xs ++ ys) → Each P ys
+unfolding Each
+each-right P [] ys h = h
+each-right P (x ∷ xs) ys h = each-right P xs ys (h .1)
+
+pub pairs-append
+    : {A : Type 0} (R : A → A → Type 0) (xs ys : List A) → Pairs R xs → Pairs R ys → Each (λ x. Each (R x) ys) xs → Pairs R (xs ++ ys)
+unfolding Pairs Each
+pairs-append R [] ys h g c = g
+pairs-append R (x ∷ xs) ys h g c = (each-append (R x) xs ys (h .0) (c .0), pairs-append R xs ys (h .1) g (c .1))
+
+pub pairs-left : {A : Type 0} (R : A → A → Type 0) (xs ys : List A) → Pairs R (xs ++ ys) → Pairs R xs
+unfolding Pairs
+pairs-left R [] ys h = tt
+pairs-left R (x ∷ xs) ys h = (each-left (R x) xs ys (h .0), pairs-left R xs ys (h .1))
+
+-- of what a list's elements give
+pub each-map : {A B : Type 0} (f : A → B) (P : B → Type 0) (xs : List A) → Each P (map f xs) → Each (λ a. P (f a)) xs
+unfolding Each
+each-map f P [] h = tt
+each-map f P (x ∷ xs) h = (h .0, each-map f P xs (h .1))
+
+pub map-each : {A B : Type 0} (f : A → B) (P : B → Type 0) (xs : List A) → Each (λ a. P (f a)) xs → Each P (map f xs)
+unfolding Each
+map-each f P [] h = tt
+map-each f P (x ∷ xs) h = (h .0, map-each f P xs (h .1))
+
+pub pairs-map : {A B : Type 0} (f : A → B) (R : B → B → Type 0) (xs : List A) → Pairs R (map f xs) → Pairs (λ a b. R (f a) (f b)) xs
+unfolding Pairs
+pairs-map f R [] h = tt
+pairs-map f R (x ∷ xs) h = (each-map f (R (f x)) xs (h .0), pairs-map f R xs (h .1))
+
+-- a list without some of its elements
+pub data Among {A : Type 0} : List A → List A → Type 0 where
+  nothing : Among [] []
+  keeps : (a : A) (xs ys : List A) → Among xs ys → Among (a ∷ xs) (a ∷ ys)
+  drops : (a : A) (xs ys : List A) → Among xs ys → Among xs (a ∷ ys)
+
+pub among-same : {A : Type 0} (xs : List A) → Among xs xs
+among-same [] = nothing
+among-same (x ∷ xs) = keeps x xs xs (among-same xs)
+
+pub among-append : {A : Type 0} (xs ys zs : List A) → Among xs ys → Among (xs ++ zs) (ys ++ zs)
+among-append xs ys zs nothing = among-same zs
+among-append xs ys zs (keeps a us vs h) = keeps a (us ++ zs) (vs ++ zs) (among-append us vs zs h)
+among-append xs ys zs (drops a us vs h) = drops a (us ++ zs) (vs ++ zs) (among-append us vs zs h)
+
+pub among-each : {A : Type 0} (P : A → Type 0) (xs ys : List A) → Among xs ys → Each P ys → Each P xs
+unfolding Each
+among-each P xs ys nothing h = tt
+among-each P xs ys (keeps a us vs g) h = (h .0, among-each P us vs g (h .1))
+among-each P xs ys (drops a us vs g) h = among-each P us vs g (h .1)
+
+pub among-pairs : {A : Type 0} (R : A → A → Type 0) (xs ys : List A) → Among xs ys → Pairs R ys → Pairs R xs
+unfolding Pairs
+among-pairs R xs ys nothing h = tt
+among-pairs R xs ys (keeps a us vs g) h = (among-each (R a) us vs g (h .0), among-pairs R us vs g (h .1))
+among-pairs R xs ys (drops a us vs g) h = among-pairs R us vs g (h .1)
+
+pub among-trans : {A : Type 0} (xs ys zs : List A) → Among xs ys → Among ys zs → Among xs zs
+among-trans xs ys zs h nothing = h
+among-trans xs ys zs h (drops a us vs g) = drops a xs vs (among-trans xs us vs h g)
+among-trans xs ys zs (keeps b ss ts h) (keeps a us vs g) = keeps a ss vs (among-trans ss us vs h g)
+among-trans xs ys zs (drops b ss ts h) (keeps a us vs g) = drops a xs vs (among-trans xs us vs h g)
