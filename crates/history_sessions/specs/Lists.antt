@@ -118,3 +118,100 @@ among-trans xs ys zs h nothing = h
 among-trans xs ys zs h (drops a us vs g) = drops a xs vs (among-trans xs us vs h g)
 among-trans xs ys zs (keeps b ss ts h) (keeps a us vs g) = keeps a ss vs (among-trans ss us vs h g)
 among-trans xs ys zs (drops b ss ts h) (keeps a us vs g) = drops a xs vs (among-trans xs us vs h g)
+
+-- what stands is among what came
+others-among : (at base : ℕ) (S : List Arrival) → Among (others at base S) S
+unfolding others
+others-among at base [] = nothing
+others-among at base (a ∷ S) = go (isCrs (a .coming) || not (eqb (baseOf (a .coming)) base)) (others-among at base S)
+  where
+    go : (b : Bool) → Among (others at base S) S → Among (if b then a ∷ others at base S else others at base S) (a ∷ S)
+    go true h = keeps a (others at base S) S h
+    go false h = drops a (others at base S) S h
+
+stay-among : (at : ℕ) (c : Call) (S : List Arrival) → Among (stay at c S) S
+unfolding stay
+stay-among at (initialize base size) S = among-same S
+stay-among at (load l auto level) S = among-same S
+stay-among at (unload base) S = others-among at base S
+
+pub standing-among : (at : ℕ) (ts : List Turn) → Among (standing at ts) (arrived at ts)
+unfolding standing arrived
+standing-among at [] = nothing
+standing-among at (t ∷ ts) =
+    among-append (if done at t then stay at (t .call) (standing at ts) else standing at ts) (arrived at ts) (brought at t)
+    (go (done at t) (standing-among at ts))
+  where
+    go : (b : Bool) → Among (standing at ts) (arrived at ts) → Among (if b then stay at (t .call) (standing at ts) else standing at ts) (arrived at ts)
+    go true h = among-trans (stay at (t .call) (standing at ts)) (standing at ts) (arrived at ts) (stay-among at (t .call) (standing at ts)) h
+    go false h = h
+
+-- a list without its element number d
+unfoldable pub lacking : {A : Type 0} → List A → ℕ → List A
+lacking [] d = []
+lacking (x ∷ xs) zero = xs
+lacking (x ∷ xs) (suc d) = x ∷ lacking xs d
+
+pub skip-suc : (d i : ℕ) → skip (suc d) (suc i) ≡ suc (skip d i)
+skip-suc d i =
+    elim (decLt i d) [
+      | yes l ↦ skip-low (suc d) (suc i) (omega arith) ∙ ap suc (sym (skip-low d i l))
+      | no l ↦ skip-high (suc d) (suc i) (omega arith) ∙ ap suc (sym (skip-high d i (omega arith)))
+    ]
+
+pub lacking-at : {A : Type 0} (xs : List A) (d : ℕ) (e : A) (i : ℕ) → getD (lacking xs d) i e ≡ getD xs (skip d i) e
+unfolding lacking
+lacking-at [] d e i = refl
+lacking-at (x ∷ xs) zero e i = rw (skip-high zero i (omega arith)) refl
+lacking-at (x ∷ xs) (suc d) e zero = rw (skip-low (suc d) zero (omega arith)) refl
+lacking-at (x ∷ xs) (suc d) e (suc i) = rw (skip-suc d i) (lacking-at xs d e i)
+
+pub lacking-length : {A : Type 0} (xs : List A) (d : ℕ) → d < length xs → suc (length (lacking xs d)) ≡ length xs
+unfolding lacking
+lacking-length [] d l = absurd (omega arith)
+lacking-length (x ∷ xs) zero l = refl
+lacking-length (x ∷ xs) (suc d) l = ap suc (lacking-length xs d (omega arith))
+
+-- no two with one base
+abbrev pub OtherBase : Arrival → Arrival → Type 0
+OtherBase a b = baseOf (a .coming) ≢ baseOf (b .coming)
+
+-- a base's module leaves, number d, or none has it; the CRS has another one
+pub data Leaver (at base : ℕ) (S : List Arrival) : Type 0 where
+  leaves
+      : (d : ℕ) → d < length S → ((e : Arrival) → baseOf (getD S d e .coming) ≡ base) → ((e : Arrival) → isCrs (getD S d e .coming) ≡ false)
+      → others at base S ≡ lacking S d → Leaver at base S
+  stays : Each (λ a. baseOf (a .coming) ≢ base) S → others at base S ≡ S → Leaver at base S
+
+module _ (at base : ℕ) where
+  -- none has the base
+  whole : (S : List Arrival) → Each (λ a. baseOf (a .coming) ≢ base) S → others at base S ≡ S
+  unfolding others Each
+  whole [] h = refl
+  whole (a ∷ S) h = rw (ne-eqb (baseOf (a .coming)) base (h .0)) (go (isCrs (a .coming)) (whole S (h .1)))
+    where
+      go : (b : Bool) → others at base S ≡ S → (if b || true then a ∷ others at base S else others at base S) ≡ a ∷ S
+      go true q = ap (λ T. a ∷ T) q
+      go false q = ap (λ T. a ∷ T) q
+
+  pub leaver
+      : (S : List Arrival) → Pairs OtherBase S → Each (λ a. isCrs (a .coming) ≡ true → baseOf (a .coming) ≢ base) S → Leaver at base S
+  unfolding others Each Pairs lacking
+  leaver [] h c = stays tt refl
+  leaver (a ∷ S) h c = go (ℕ-discrete (baseOf (a .coming)) base) (isCrs (a .coming)) refl (leaver S (h .1) (c .1))
+    where
+      go : Dec (baseOf (a .coming) ≡ base) → (b : Bool) → isCrs (a .coming) ≡ b → Leaver at base S → Leaver at base (a ∷ S)
+      go (yes e) true i r = absurd (c .0 i e)
+      go (yes e) false i r =
+          leaves 0 (omega arith) (λ _. e) (λ _. i)
+          (rw (i, eq-eqb (baseOf (a .coming)) base e)
+          (whole S (each-mono (OtherBase a) (λ b. baseOf (b .coming) ≢ base) S (λ b n z. n (e ∙ sym z)) (h .0))))
+      go (no o) b i (stays n q) = stays (o, n) (whole (a ∷ S) (o, n))
+      go (no o) b i (leaves d l e f q) =
+          leaves (suc d) (omega arith) e f (rw (ne-eqb (baseOf (a .coming)) base o) (kept (isCrs (a .coming)) q))
+        where
+          kept
+              : (b : Bool) → others at base S ≡ lacking S d
+              → (if b || true then a ∷ others at base S else others at base S) ≡ a ∷ lacking S d
+          kept true q = ap (λ T. a ∷ T) q
+          kept false q = ap (λ T. a ∷ T) q
