@@ -1,2 +1,3 @@
 -- What the theorem about sessions needs beside the steps of the calls.
 pub mod Lists
+pub mod Unique

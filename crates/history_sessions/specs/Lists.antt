@@ -43,6 +43,17 @@ unfolding Each
 each-mono P Q [] f h = tt
 each-mono P Q (x ∷ xs) f h = (f x (h .0), each-mono P Q xs f (h .1))
 
+pub pairs-with
+    : {A : Type 0} (P : A → Type 0) (R Q : A → A → Type 0) (xs : List A) → ((a b : A) → P a → P b → R a b → Q a b) → Each P xs → Pairs R xs
+    → Pairs Q xs
+unfolding Each Pairs
+pairs-with P R Q [] f g h = tt
+pairs-with P R Q (x ∷ xs) f g h = (both xs (g .1) (h .0), pairs-with P R Q xs f (g .1) (h .1))
+  where
+    both : (ys : List _) → Each P ys → Each (R x) ys → Each (Q x) ys
+    both [] a b = tt
+    both (y ∷ ys) a b = (f x y (g .0) (a .0) (b .0), both ys (a .1) (b .1))
+
 -- of two lists in a row
 pub each-append : {A : Type 0} (P : A → Type 0) (xs ys : List A) → Each P xs → Each P ys → Each P (xs ++ ys)
 unfolding Each
