@@ -248,7 +248,7 @@ module _ (m : Image) (laid : WellLaid m) (low : Low (Area m)) {T : Memory} (view
   batch-does {σ} {ρ} {μ} {M} i e f a b h g s =
       does-then S (walk batchLimit base a (base + entry F externals e) 0) _
       (walks batchLimit e f a 0 (record { ordered = h .run .ordered; inside = h .run .inside; goes-on = h .run .goes-on; ends = h .run .ends })
-      (h .short) g s)
+          (h .short) g s)
       (λ k N t.
       does-then S (put8 (base + entry F externals e ⊕ 6) (mark b)) _
       (rw (mark-sum e (omega (arith, h .run .ordered, h .run .inside)))

@@ -82,12 +82,8 @@ module _ (m : Image) (laid : WellLaid m) (low : Low (Area m)) {T : Memory} (view
       (reads-name m laid low w (wanted F (named i)) (import-pointer m laid low view n v i l))
       (if-then S c (resolve base (base + entry F externals (b .0)) (lookupIn ms name)) (noted (lookupIn ms name) name missing) missing
       (does-mono S (resolves m laid low view n v (named i) (b .0) (b .1) (lookupIn ms name) (b .2) s)
-      (λ _ N t. (
-        relink φ (b .0) (linkTo (φ (b .0)) (LookedUp (named i))),
-        t,
-        relinked m laid low view n v LookedUp (named i) l (b .0) (b .1)
-            (b .2),
-      )))))))
+      (λ _ N t. (relink φ (b .0) (linkTo (φ (b .0)) (LookedUp (named i))), t, relinked m laid low view n v LookedUp (named i) l (b .0) (b .1)
+      (b .2))))))))
 
   pub imports-named
       : {φ : Links} {M : Memory} (missing : List (List ℕ)) → Stands m T φ n v M

@@ -76,12 +76,9 @@ module _ (m : Image) (laid : WellLaid m) (low : Low (Area m)) {T : Memory} (view
         (if-reads S c (nameAt (movedOffset base (wanted F (named i)))) _ name (ret tt)
         (reads-name m laid low w (wanted F (named i)) (import-pointer m laid low view n v i l))
         (does-mono S (resolves m laid low view n v (named i) (b .0) (b .1) (read.exportOf r name) (b .2) s)
-        (λ _ N t. (
-          relink φ (b .0) (linkTo (φ (b .0)) (offer x m (named i))),
-          rw (rec .exports name) at t,
-          relinked m laid low view n v (offer x m)
-              (named i) l (b .0) (b .1) (b .2),
-        ))))))
+        (λ _ N t.
+        (relink φ (b .0) (linkTo (φ (b .0)) (offer x m (named i))), rw (rec .exports name) at t, relinked m laid low view n v (offer x m)
+        (named i) l (b .0) (b .1) (b .2)))))))
 
     -- one module entry: if it names x, both its runs
     serves-entry

@@ -139,7 +139,7 @@ module _ (m : Image) where
     unfolding markAt
     mark-past j l =
         let h = past-header m laid (entry F externals j + 6) (table 5) (λ z. absurd (omega (arith, ap sort z)))
-        (external-part m laid j 6 l (lit< tt)) in
+            (external-part m laid j 6 l (lit< tt)) in
         omega (arith, h)
 
     pub marks-apart : (i j : ℕ) → markAt i ≡ markAt j → i ≡ j

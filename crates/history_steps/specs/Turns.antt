@@ -99,10 +99,8 @@ module _ (m : Image) (laid : WellLaid m) (low : Low (Area m)) where
     stands-same : {φ ψ : Links} {M : Memory} → ((j : ℕ) → φ j ≡ ψ j) → Stands m T φ n v M → Stands m T ψ n v M
     unfolding symbols marks
     stands-same e s =
-        record {
-          shows = shows-same m laid low view n v (λ j. ap (λ x. symbolFor (handler m) x) (e (firstOf F j))) (λ j. ap markFor (e j))
-              (s .shows);
-        }
+        record { shows = shows-same m laid low view n v (λ j. ap (λ x. symbolFor (handler m) x) (e (firstOf F j))) (λ j. ap markFor (e j))
+            (s .shows) }
 
     again : (φ : Links) (e j : ℕ) → φ j ≡ relink φ e (φ e) j
     again φ e j =

@@ -90,7 +90,7 @@ module _ (m : Image) where
             sym
             (four M N (entry F segments i + 4)
             (λ k j. let e : entry F segments i + 4 + k ≡ entry F segments i + (4 + k) = omega arith in rw e
-            (g (entry F segments i + (4 + k)) (segment i (4 + k) (omega arith) l))))
+                (g (entry F segments i + (4 + k)) (segment i (4 + k) (omega arith) l))))
             ∙ v .size i l;
         kind =
             λ i l.
@@ -98,6 +98,6 @@ module _ (m : Image) where
             (sym
             (four M N (entry F segments i + 8)
             (λ k j. let e : entry F segments i + 8 + k ≡ entry F segments i + (8 + k) = omega arith in rw e
-            (g (entry F segments i + (8 + k)) (segment i (8 + k) (omega arith) l)))))
+                (g (entry F segments i + (8 + k)) (segment i (8 + k) (omega arith) l)))))
             ∙ v .kind i l;
       }

@@ -69,7 +69,7 @@ module _ (C : Cast) (sound : Sound C) where
     where
       each
           : (x : A) (N : Memory) → Stands (C .image k) (C .rest k) (f x N) a b N → Kept (Area (C .image k)) M N → (j : ℕ) → j < C .number
-          → Dec (j ≡ k)
+              → Dec (j ≡ k)
           → Stands (C .image j) (C .rest j) (put φ k (f x N) j) (put n k a j) (put v k b j) N
       each x N s t j i (yes e) = rw (e, put-same φ k (f x N), put-same n k a, put-same v k b) s
       each x N s t j i (no d) =
