@@ -2,3 +2,4 @@
 pub mod Lists
 pub mod Unique
 pub mod Registers
+pub mod Answers
