@@ -3,3 +3,4 @@ pub mod Lists
 pub mod Unique
 pub mod Registers
 pub mod Answers
+pub mod Conclude

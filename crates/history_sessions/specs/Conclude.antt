@@ -1,0 +1,109 @@
+-- From modules that stand with their links at rest to the clauses of demand 3.
+use Prim.Native.Nat.{ℕ, zero, suc, pred, _+_, _<_}
+use mathlib.Core.Path.{_≡_, refl, sym, ap, _∙_, fun-ext, subst}
+use mathlib.Core.Logic.{_≢_, _⊎_, inl, inr}
+use mathlib.Core.List.{List, [], _∷_, map}
+use mathlib.Core.Bool.{Bool, true, false}
+use native.Mathlib.Omega.{arith}
+use native.Mathlib.Decide.{decLt}
+use lib.ListN.{length, getD}
+use lib.Dec.{eqb, ltb}
+use borrow.Author.Tests.{lt-ltb, le-ltb}
+use Rattle.window.specs.Memory.{if_then_else_, byteAt}
+use Rattle.window.specs.Access.{Prog, _>>=_}
+use Rattle.window.specs.Within.{In, Agree}
+use Rattle.window.specs.Mirror.{runM}
+use Rattle.linker.specs.Calls.{rebase, rebaseStatic}
+use Rattle.linker.specs.Relocation.{resetExternalRelocations}
+use Rattle.history.specs.Arrival.{Coming, initialized, loaded, Image, Arrival, cut, imageOf, baseOf, sizeOf, isCrs, handler, Area}
+use Rattle.history.specs.Imports.{Import, IsImport, Exports, Exporter, Holds}
+use Rattle.history.specs.WellLaid.{WellLaid}
+use Rattle.history.specs.Sessions.{Turn, standing}
+use Rattle.history.specs.Demand3.{Each, Pairs, ImportClause, CrsClause, SameStanding, AllHold, NoByteDiffers, ends}
+use Rattle.history_steps.specs.Wp.{Memory, WithinM}
+use Rattle.history_steps.specs.Windowed.{same-on}
+use Rattle.history_steps.specs.Links.{Links, Stands}
+use Rattle.history_steps.specs.Listing.{nextIn, previousIn, Listed}
+use Rattle.history_steps.specs.Final.{Final}
+use Rattle.history_steps.specs.Conclusions.{holds-exporter, holds-handler, final-unique, stands-unique}
+use Rattle.history_sessions.specs.Lists.{each-at, at-each, each-map, map-each}
+use Rattle.history_sessions.specs.Unique.{noArrival, imageAt}
+
+-- the modules of a list stand in M, with their links at rest and in one list; rest k are the bytes of number k without links
+pub record Resting (S : List Arrival) (rest : ℕ → Memory) (M : Memory) : Type 0 where
+  pub links : ℕ → Links
+  pub next : ℕ → ℕ
+  pub previous : ℕ → ℕ
+  pub stands : (k : ℕ) → k < length S → Stands (imageAt S k) (rest k) (links k) (next k) (previous k) M
+  pub final : (k : ℕ) → k < length S → Final (length S) (imageAt S) (imageAt S k) (links k)
+  pub listed : Listed (λ k. baseOf (imageAt S k .coming)) (length S) next previous
+
+-- the two clauses about imports
+module _ (S : List Arrival) (rest : ℕ → Memory) (M : Memory) (h : Resting S rest M)
+    (once
+    : (k : ℕ) → k < length S → (i : Import) (j l p q : ℕ) → j < length S → l < length S → Exports (imageAt S j) (imageAt S k) i p
+    → Exports (imageAt S l) (imageAt S k) i q → j ≡ l) where
+  import-clause : (k : ℕ) → k < length S → ImportClause (map imageOf S) M (imageAt S k)
+  unfolding ImportClause
+  import-clause k l i c = (
+    map-each imageOf (λ x. (p : ℕ) → Exporter x (imageAt S k) i p → Holds M (imageAt S k) i p) S
+        (at-each (λ a. (p : ℕ) → Exporter (imageOf a) (imageAt S k) i p → Holds M (imageAt S k) i p) S noArrival
+        (λ j g p e. holds-exporter (imageAt S k) (h .stands k l) (length S) (imageAt S) (h .final k l) i c j g p e)),
+    λ o.
+    holds-handler (imageAt S k) (h .stands k l) (length S) (imageAt S) (h .final k l) i c
+    (λ j g p e.
+    each-at (λ a. (p : ℕ) → Exporter (imageOf a) (imageAt S k) i p → ⊥) S noArrival
+    (each-map imageOf (λ x. (p : ℕ) → Exporter x (imageAt S k) i p → ⊥) S o) j g p e),
+  )
+
+  -- what the CRS exports to itself nobody else does
+  crs-clause : (k : ℕ) → k < length S → CrsClause M (imageAt S k)
+  unfolding CrsClause Exporter
+  crs-clause k l c i m p e =
+      holds-handler (imageAt S k) (h .stands k l) (length S) (imageAt S) (h .final k l) i m
+      (λ j g q x. x .1 c (ap (λ n. isCrs (imageAt S n .coming)) (once k l i j k q p g l (x .0) e) ∙ c))
+
+  pub all-hold : AllHold (map imageOf S) M
+  unfolding AllHold
+  all-hold =
+      map-each imageOf (λ m. ImportClause (map imageOf S) M m × CrsClause M m) S
+      (at-each (λ a. ImportClause (map imageOf S) M (imageOf a) × CrsClause M (imageOf a)) S noArrival
+      (λ k l. (import-clause k l, crs-clause k l)))
+
+-- images that came alike are the same
+pub same-image : (a b : Arrival) → a .coming ≡ b .coming → Agree (Area (imageOf a)) (a .bytes) (b .bytes) → imageOf a ≡ imageOf b
+unfolding Area cut
+same-image a b e g =
+    ap {B = Image} (λ f. record { coming = a .coming; file = f }) (fun-ext (λ o. go o (decLt o (sizeOf (a .coming)))))
+    ∙ ap {B = Image} (λ c. record { coming = c; file = cut c (b .bytes) }) e
+  where
+    go : (o : ℕ) → Dec (o < sizeOf (a .coming)) → cut (a .coming) (a .bytes) o ≡ cut (a .coming) (b .bytes) o
+    go o (yes l) = rw (lt-ltb o (sizeOf (a .coming)) l) (g (baseOf (a .coming) + o) (inl (omega arith, omega arith)))
+    go o (no l) = rw (le-ltb o (sizeOf (a .coming)) (omega arith)) refl
+
+pub same-count : (S T : List Arrival) → SameStanding S T → length S ≡ length T
+unfolding SameStanding
+same-count [] [] h = refl
+same-count (a ∷ S) (b ∷ T) h = ap suc (same-count S T (h .2))
+same-count [] (b ∷ T) h = absurd h
+same-count (a ∷ S) [] h = absurd h
+
+pub same-arrivals
+    : (S T : List Arrival) → SameStanding S T → (k : ℕ) → k < length S
+    → (getD S k noArrival .coming ≡ getD T k noArrival .coming)
+    × Agree (Area (imageAt S k)) (getD S k noArrival .bytes) (getD T k noArrival .bytes)
+unfolding SameStanding
+same-arrivals [] [] h k l = absurd (omega arith)
+same-arrivals (a ∷ S) (b ∷ T) h zero l = (h .0, h .1)
+same-arrivals (a ∷ S) (b ∷ T) h (suc k) l = same-arrivals S T (h .2) k (omega arith)
+same-arrivals [] (b ∷ T) h k l = absurd h
+same-arrivals (a ∷ S) [] h k l = absurd h
+
+-- at every number, past the end too
+pub same-images : (S T : List Arrival) → SameStanding S T → (k : ℕ) → imageAt S k ≡ imageAt T k
+unfolding SameStanding
+same-images [] [] h k = refl
+same-images (a ∷ S) (b ∷ T) h zero = same-image a b (h .0) (h .1)
+same-images (a ∷ S) (b ∷ T) h (suc k) = same-images S T (h .2) k
+same-images [] (b ∷ T) h k = absurd h
+same-images (a ∷ S) [] h k = absurd h
