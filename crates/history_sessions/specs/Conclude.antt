@@ -29,17 +29,28 @@ use Rattle.history_steps.specs.Conclusions.{holds-exporter, holds-handler, fina
 use Rattle.history_sessions.specs.Lists.{each-at, at-each, each-map, map-each}
 use Rattle.history_sessions.specs.Unique.{noArrival, imageAt}
 
--- the modules of a list stand in M, with their links at rest and in one list; rest k are the bytes of number k without links
-pub record Resting (S : List Arrival) (rest : ℕ → Memory) (M : Memory) : Type 0 where
+-- n modules stand in M, with their links at rest and in one list; rest k are the bytes of number k without links
+pub record Resting (n : ℕ) (x : ℕ → Image) (rest : ℕ → Memory) (M : Memory) : Type 0 where
   pub links : ℕ → Links
   pub next : ℕ → ℕ
   pub previous : ℕ → ℕ
-  pub stands : (k : ℕ) → k < length S → Stands (imageAt S k) (rest k) (links k) (next k) (previous k) M
-  pub final : (k : ℕ) → k < length S → Final (length S) (imageAt S) (imageAt S k) (links k)
-  pub listed : Listed (λ k. baseOf (imageAt S k .coming)) (length S) next previous
+  pub stands : (k : ℕ) → k < n → Stands (x k) (rest k) (links k) (next k) (previous k) M
+  pub final : (k : ℕ) → k < n → Final n x (x k) (links k)
+  pub listed : Listed (λ k. baseOf (x k .coming)) n next previous
+
+-- they determine the bytes
+pub resting-unique
+    : (n : ℕ) (x : ℕ → Image) (rest other : ℕ → Memory) (M N : Memory) → ((k : ℕ) → k < n → WellLaid (x k))
+    → ((k : ℕ) → k < n → Agree (Area (x k)) (rest k) (other k)) → Resting n x rest M → Resting n x other N → (k : ℕ) → k < n
+    → Agree (Area (x k)) M N
+resting-unique n x rest other M N laid g h i k l =
+    let e : i .next k ≡ h .next k = i .listed .nexts k l ∙ sym (h .listed .nexts k l) in
+    let f : i .previous k ≡ h .previous k = i .listed .previouses k l ∙ sym (h .listed .previouses k l) in
+    stands-unique (x k) (laid k l) (g k l) (final-unique n x (x k) (h .final k l) (i .final k l)) (h .stands k l)
+    (rw (e, f) at (i .stands k l))
 
 -- the two clauses about imports
-module _ (S : List Arrival) (rest : ℕ → Memory) (M : Memory) (h : Resting S rest M)
+module _ (S : List Arrival) (rest : ℕ → Memory) (M : Memory) (h : Resting (length S) (imageAt S) rest M)
     (once
     : (k : ℕ) → k < length S → (i : Import) (j l p q : ℕ) → j < length S → l < length S → Exports (imageAt S j) (imageAt S k) i p
     → Exports (imageAt S l) (imageAt S k) i q → j ≡ l) where
@@ -107,3 +118,52 @@ same-images (a ∷ S) (b ∷ T) h zero = same-image a b (h .0) (h .1)
 same-images (a ∷ S) (b ∷ T) h (suc k) = same-images S T (h .2) k
 same-images [] (b ∷ T) h k = absurd h
 same-images (a ∷ S) [] h k = absurd h
+
+-- two lists that came alike, each at rest in its own memory: no byte of their areas differs
+module _ (S T : List Arrival) (same : SameStanding S T) (rest other : ℕ → Memory) (M N : Memory)
+    (laid : (k : ℕ) → k < length S → WellLaid (imageAt S k)) (alike : (k : ℕ) → k < length S → Agree (Area (imageAt S k)) (rest k) (other k))
+    (h : Resting (length S) (imageAt S) rest M) (i : Resting (length T) (imageAt T) other N) where
+  moved : Resting (length S) (imageAt S) other N
+  moved =
+      subst (λ n. Resting n (imageAt S) other N) (sym (same-count S T same))
+      (subst (λ x. Resting (length T) x other N) (sym (fun-ext (same-images S T same))) i)
+
+  pub no-byte : Each (λ a. Agree (Area (imageOf a)) M N) S
+  no-byte =
+      at-each (λ a. Agree (Area (imageOf a)) M N) S noArrival
+      (λ k l. resting-unique (length S) (imageAt S) rest other M N laid alike h moved k l)
+
+-- as demand 3 says it
+pub no-byte-differs
+    : (at bt : ℕ) (ts us : List Turn) (rest other : ℕ → Memory) → ((k : ℕ) → k < length (standing at ts) → WellLaid (imageAt (standing at ts) k))
+    → ((k : ℕ) → k < length (standing at ts) → Agree (Area (imageAt (standing at ts) k)) (rest k) (other k))
+    → Resting (length (standing at ts)) (imageAt (standing at ts)) rest (ends at ts)
+    → Resting (length (standing bt us)) (imageAt (standing bt us)) other (ends bt us)
+    → SameStanding (standing at ts) (standing bt us) → NoByteDiffers at ts bt us
+unfolding NoByteDiffers
+no-byte-differs at bt ts us rest other laid alike h i same =
+    no-byte (standing at ts) (standing bt us) same rest other (ends at ts) (ends bt us) laid alike h i
+
+-- how a call that brings a module begins: its bytes without links are what this leaves
+unfoldable pub begun : Coming → Prog (Unit {0})
+begun (initialized base size) = rebaseStatic base >>= λ _. resetExternalRelocations base
+begun (loaded l auto level) = rebase l >>= λ _. resetExternalRelocations (l .base)
+
+abbrev pub restOf : Arrival → Memory
+restOf a = runM (begun (a .coming)) (a .bytes) .1
+
+-- so they are alike for modules that came alike
+pub rest-alike
+    : (a b : Arrival) → a .coming ≡ b .coming → Agree (Area (imageOf a)) (a .bytes) (b .bytes)
+    → WithinM (Area (imageOf a)) (begun (a .coming)) (a .bytes) → Agree (Area (imageOf a)) (restOf a) (restOf b)
+rest-alike a b e g w =
+    subst (λ c. Agree (Area (imageOf a)) (restOf a) (runM (begun c) (b .bytes) .1)) e
+    (same-on (Area (imageOf a)) (begun (a .coming)) (a .bytes) (b .bytes) w g .1)
+
+pub rests-alike
+    : (S T : List Arrival) → SameStanding S T
+    → ((k : ℕ) → k < length S → WithinM (Area (imageAt S k)) (begun (imageAt S k .coming)) (getD S k noArrival .bytes)) → (k : ℕ) → k < length S
+    → Agree (Area (imageAt S k)) (restOf (getD S k noArrival)) (restOf (getD T k noArrival))
+rests-alike S T same w k l =
+    let s = same-arrivals S T same k l in
+    rest-alike (getD S k noArrival) (getD T k noArrival) (s .0) (s .1) (w k l)
