@@ -1,0 +1,113 @@
+-- Of modules among those that came: each is well laid and apart from the others, and only one of them exports to an import.
+use Prim.Native.Nat.{ℕ, _+_, _*_, _≤_, _<_}
+use mathlib.Core.Path.{_≡_, refl, sym, ap, _∙_}
+use mathlib.Core.Logic.{_≢_, _⊎_, inl, inr}
+use mathlib.Core.List.{List, map}
+use native.Mathlib.Omega.{arith}
+use native.Mathlib.Decide.{ℕ-discrete}
+use lib.ListN.{length, getD}
+use Rattle.window.specs.Mirror.{word}
+use Rattle.history.specs.Image.{moduleEntries, count, entry, nameOf, moduleName}
+use Rattle.history.specs.Arrival.{initialized, Image, Arrival, imageOf, baseOf, Area}
+use Rattle.history.specs.Imports.{Import, named, indexed, anonymous, importTable, IsImport, importEntry, runStart, runCount, InRun, From, Exports}
+use Rattle.history.specs.WellLaid.{WellLaid}
+use Rattle.history.specs.Sessions.{Turn, arrived}
+use Rattle.history.specs.Demand3.{Each, Pairs, AutoLinked, ImportsKept, BaseNot0, Apart, OtherName, OtherExports, InWindow, Premises}
+use Rattle.history_steps.specs.Parts.{image-area}
+use Rattle.history_sessions.specs.Lists.{each-at, pairs-at, each-map, pairs-map, pairs-with, Among, among-each, among-pairs, OtherBase}
+
+-- what is in a run is an import
+in-run
+    : (m : Image) → WellLaid m → (j : ℕ) → j < count (m .file) moduleEntries → (i : Import) → InRun (m .file) j i → IsImport (m .file) i
+unfolding InRun importEntry entry runCount
+in-run m laid j l i h = go i h (laid .alone .runs j l i)
+  where
+    go
+        : (i : Import) → InRun (m .file) j i
+        → (runCount (m .file) j i ≡ 0)
+        ⊎ ((k : ℕ) × (runStart (m .file) j i ≡ entry (m .file) (importTable i) k) × (k + runCount (m .file) j i ≤ count (m .file) (importTable i)))
+        → IsImport (m .file) i
+    go i (k, l, e) (inl z) = absurd (omega arith)
+    go (named i) (k, l, e) (inr (r, s, t)) = absurd (omega arith)
+    go (indexed i) (k, l, e) (inr (r, s, t)) = omega arith
+    go (anonymous i) (k, l, e) (inr (r, s, t)) = omega arith
+
+-- an import comes from one name
+from-one
+    : (m : Image) → WellLaid m → (i : Import) (a c : List ℕ) → From (m .file) i a → From (m .file) i c → a ≡ c
+unfolding From
+from-one m laid i a c h r =
+    h .3
+    ∙ ap (λ j. nameOf (m .file) (word (m .file) (entry (m .file) moduleEntries j)))
+    (laid .alone .one-run i (in-run m laid (h .0) (h .1) i (h .2)) (h .0) (r .0) (h .1) (r .1) (h .2) (r .2))
+    ∙ sym (r .3)
+
+-- equal if not different
+same-if : (j k : ℕ) → (j ≢ k → ⊥) → j ≡ k
+same-if j k f = elim (ℕ-discrete j k) [ yes e ↦ e | no o ↦ absurd (f o) ]
+
+-- past the end of the list
+abbrev pub noArrival : Arrival
+noArrival = record { coming = initialized 0 0; bytes = λ q. 0 }
+
+-- module number k of the list
+abbrev pub imageAt : List Arrival → ℕ → Image
+imageAt S k = imageOf (getD S k noArrival)
+
+module _ (at : ℕ) (ts : List Turn) (h : Premises at ts) (S : List Arrival) (among : Among S (arrived at ts)) where
+  each-of : (P : Image → Type 0) → Each P (map imageOf (arrived at ts)) → Each (λ a. P (imageOf a)) S
+  each-of P g = among-each (λ a. P (imageOf a)) S (arrived at ts) among (each-map imageOf P (arrived at ts) g)
+
+  pairs-of : (R : Image → Image → Type 0) → Pairs R (map imageOf (arrived at ts)) → Pairs (λ a b. R (imageOf a) (imageOf b)) S
+  pairs-of R g = among-pairs (λ a b. R (imageOf a) (imageOf b)) S (arrived at ts) among (pairs-map imageOf R (arrived at ts) g)
+
+  pub laid-at : (k : ℕ) → k < length S → WellLaid (imageAt S k)
+  laid-at k l = each-at (λ a. WellLaid (imageOf a)) S noArrival (each-of WellLaid (h .well-laid)) k l
+
+  pub auto-at : (k : ℕ) → k < length S → AutoLinked (imageAt S k .coming)
+  auto-at k l = each-at (λ a. AutoLinked (a .coming)) S noArrival (each-of (λ m. AutoLinked (m .coming)) (h .auto-linked)) k l
+
+  pub kept-at : (k : ℕ) → k < length S → ImportsKept (imageAt S k .coming)
+  kept-at k l = each-at (λ a. ImportsKept (a .coming)) S noArrival (each-of (λ m. ImportsKept (m .coming)) (h .imports-kept)) k l
+
+  pub base-at : (k : ℕ) → k < length S → BaseNot0 (imageAt S k .coming)
+  base-at k l = each-at (λ a. BaseNot0 (a .coming)) S noArrival (each-of (λ m. BaseNot0 (m .coming)) (h .base-not-0)) k l
+
+  pub inside-at : (k : ℕ) → k < length S → InWindow at ts (imageAt S k)
+  inside-at k l = each-at (λ a. InWindow at ts (imageOf a)) S noArrival (each-of (InWindow at ts) (h .in-window)) k l
+
+  pub apart-at : (j k q : ℕ) → j < length S → k < length S → j ≢ k → Area (imageAt S j) q → Area (imageAt S k) q → ⊥
+  unfolding Apart
+  apart-at j k q l g o a b =
+      pairs-at (λ a b. Apart (imageOf a) (imageOf b)) S noArrival (λ a b f q x y. f q y x) (pairs-of Apart (h .areas-apart)) j k l g o q a b
+
+  -- so no two have one base
+  pub other-bases : Pairs OtherBase S
+  unfolding Apart
+  other-bases =
+      pairs-with (λ a. WellLaid (imageOf a)) (λ a b. Apart (imageOf a) (imageOf b)) OtherBase S
+      (λ a b x y f e.
+      f (baseOf (a .coming) + 0) (image-area (imageOf a) x 0 (omega (arith, x .alone .header-inside)))
+      (rw e (image-area (imageOf b) y 0 (omega (arith, y .alone .header-inside)))))
+      (each-of WellLaid (h .well-laid)) (pairs-of Apart (h .areas-apart))
+
+  pub names-at : (j k : ℕ) → j < length S → k < length S → moduleName (imageAt S j .file) ≡ moduleName (imageAt S k .file) → j ≡ k
+  unfolding OtherName
+  names-at j k l g e =
+      same-if j k
+      (λ o. pairs-at (λ a b. OtherName (imageOf a) (imageOf b)) S noArrival (λ a b f z. f (sym z)) (pairs-of OtherName (h .other-names)) j k l g o e)
+
+  exports-at : (j k : ℕ) → j < length S → k < length S → j ≢ k → OtherExports (imageAt S j) (imageAt S k)
+  unfolding OtherExports
+  exports-at j k l g o =
+      pairs-at (λ a b. OtherExports (imageOf a) (imageOf b)) S noArrival (λ a b f n p q x y. f n q p y x)
+      (pairs-of OtherExports (h .other-exports)) j k l g o
+
+  -- only one exports to an import of a well-laid module
+  pub once-at
+      : (m : Image) → WellLaid m → (i : Import) (j k p q : ℕ) → j < length S → k < length S → Exports (imageAt S j) m i p
+      → Exports (imageAt S k) m i q → j ≡ k
+  unfolding Exports OtherExports
+  once-at m laid (named i) j k p q l g a b = same-if j k (λ o. exports-at j k l g o _ p q a b)
+  once-at m laid (indexed i) j k p q l g a b = names-at j k l g (from-one m laid (indexed i) _ _ (a .0) (b .0))
+  once-at m laid (anonymous i) j k p q l g a b = names-at j k l g (from-one m laid (anonymous i) _ _ (a .0) (b .0))
