@@ -1,12 +1,12 @@
 -- Where no module or export name comes twice, only one module exports to an import.
-use Prim.Native.Nat.{ℕ, _+_, _*_, _≤_, _<_}
+use Prim.Native.Nat.{ℕ, _+_, _≤_, _<_}
 use mathlib.Core.Path.{_≡_, refl, sym, ap, _∙_}
 use mathlib.Core.Logic.{_≢_, _⊎_, inl, inr}
 use mathlib.Core.List.{List}
 use native.Mathlib.Omega.{arith}
 use native.Mathlib.Decide.{ℕ-discrete}
 use Rattle.window.specs.Mirror.{word}
-use Rattle.history.specs.Image.{moduleEntries, count, entry, nameOf, moduleName}
+use Rattle.history.specs.Image.{moduleEntries, count, entry, nameOf}
 use Rattle.history.specs.Arrival.{Image}
 use Rattle.history.specs.Imports.{Import, named, indexed, anonymous, importTable, importEntry, IsImport, runStart, runCount, InRun, From, Exports}
 use Rattle.history.specs.WellLaid.{WellLaid}
