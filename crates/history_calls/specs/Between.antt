@@ -1,9 +1,7 @@
 -- From one call to the next: bytes outside the areas may change, and so may the order of a record's named exports.
-use Prim.Native.Nat.{ℕ, zero, suc, _*_, _+_, _≤_, _<_}
+use Prim.Native.Nat.{ℕ, suc, _<_}
 use mathlib.Core.Path.{_≡_, refl, sym, ap, _∙_}
-use mathlib.Core.Logic.{_≢_, _⊎_, inl, inr}
 use mathlib.Core.List.{List, [], _∷_}
-use native.Mathlib.Omega.{arith}
 use lib.ListN.{length}
 use Rattle.window.specs.Within.{Agree}
 use Rattle.register.specs.Module.{Module, Register}

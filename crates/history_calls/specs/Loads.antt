@@ -198,7 +198,8 @@ module _ (C : Cast) (l : Lent) (given level : ℕ) (f : ℕ → ℕ) where
 
       came
           : (N : Memory) → Brought m (rebase l) B N → (k : Module) → Recorded m k → (missing : List (List ℕ)) (L : Memory)
-          (ψ : ℕ → Links) (u v : ℕ → ℕ) → World (fixedCast (extended C m N) (C .number) level) ψ u v L → Listed (baseIn (extended C m N)) (suc (C .number)) u v
+          (ψ : ℕ → Links) (u v : ℕ → ℕ) → World (fixedCast (extended C m N) (C .number) level) ψ u v L
+          → Listed (baseIn (extended C m N)) (suc (C .number)) u v
           → ((j : ℕ) → j < suc (C .number) → Final (suc (C .number)) images (images j) (ψ j))
           → Came C l m level B (missingNow (appended r k) missing) L
       came N g k rec missing L ψ u v w h rest =

@@ -1,12 +1,12 @@
 -- Where no module or export name comes twice, only one module exports to an import.
-use Prim.Native.Nat.{ℕ, _+_, _*_, _≤_, _<_}
-use mathlib.Core.Path.{_≡_, sym, ap, _∙_}
+use Prim.Native.Nat.{ℕ, _+_, _≤_, _<_}
+use mathlib.Core.Path.{_≡_, refl, sym, ap, _∙_}
 use mathlib.Core.Logic.{_≢_, _⊎_, inl, inr}
 use mathlib.Core.List.{List}
 use native.Mathlib.Omega.{arith}
 use native.Mathlib.Decide.{ℕ-discrete}
 use Rattle.window.specs.Mirror.{word}
-use Rattle.history.specs.Image.{moduleEntries, count, entry, nameOf, moduleName}
+use Rattle.history.specs.Image.{moduleEntries, count, entry, nameOf}
 use Rattle.history.specs.Arrival.{Image}
 use Rattle.history.specs.Imports.{Import, named, indexed, anonymous, importTable, importEntry, IsImport, runStart, runCount, InRun, From, Exports}
 use Rattle.history.specs.WellLaid.{WellLaid}
@@ -17,26 +17,20 @@ module _ (m : Image) (laid : WellLaid m) where
   abbrev F : ℕ → ℕ
   F = m .file
 
+  width : (i : Import) → importTable i .width ≡ 8
+  width (named i) = refl
+  width (indexed i) = refl
+  width (anonymous i) = refl
+
   -- what lies in a run is an import: runs lie in the table
   run-import : (j : ℕ) → j < count F moduleEntries → (i : Import) → InRun F j i → IsImport F i
-  unfolding InRun importEntry entry runCount
-  run-import j l (named i) (k, g, e) = absurd (omega (arith, g))
-  run-import j l (indexed i) (k, g, e) = go (laid .alone .runs j l (indexed i))
+  unfolding InRun importEntry entry
+  run-import j l i (k, g, e) = go (laid .alone .runs j l i)
     where
-      go : (runCount F j (indexed i) ≡ 0)
-          ⊎ ((c : ℕ) × (runStart F j (indexed i) ≡ entry F (importTable (indexed i)) c)
-          × (c + runCount F j (indexed i) ≤ count F (importTable (indexed i))))
-          → IsImport F (indexed i)
+      go : (runCount F j i ≡ 0)
+          ⊎ ((c : ℕ) × (runStart F j i ≡ entry F (importTable i) c) × (c + runCount F j i ≤ count F (importTable i))) → IsImport F i
       go (inl z) = absurd (omega (arith, g, z))
-      go (inr (c, z, h)) = omega (arith, g, e, z, h)
-  run-import j l (anonymous i) (k, g, e) = go (laid .alone .runs j l (anonymous i))
-    where
-      go : (runCount F j (anonymous i) ≡ 0)
-          ⊎ ((c : ℕ) × (runStart F j (anonymous i) ≡ entry F (importTable (anonymous i)) c)
-          × (c + runCount F j (anonymous i) ≤ count F (importTable (anonymous i))))
-          → IsImport F (anonymous i)
-      go (inl z) = absurd (omega (arith, g, z))
-      go (inr (c, z, h)) = omega (arith, g, e, z, h)
+      go (inr (c, z, h)) = omega (arith, g, rw (width i) at e, rw (width i) at z, h)
 
   -- so an import comes from one name
   one-name : (i : Import) (a c : List ℕ) → From F i a → From F i c → a ≡ c
