@@ -1,24 +1,30 @@
-/* CRO and CRS linker: the exported calls of crates/linker_calls.
+/* The linker of CRO modules: calls over memory that the host lends. `unload` is to come.
  *
- * A Rattle slice crosses as two arguments, a pointer and a count of bytes. The four buffers must be valid for that many bytes
- * and must not overlap; `value` must not lie in them. Nothing else is required: every call ends on every input.
+ * A lent buffer is passed as two arguments, a pointer to its first byte and its length in bytes. The pointers must be
+ * valid for their lengths, not null even where a length is 0, and the buffers, `*value` included, must not overlap.
+ * A call keeps no pointer, allocates nothing, and has no state but the buffers. Every call ends on any bytes and
+ * any arguments.
  *
- * window    the bytes behind the addresses at .. at + window_len - 1. at and window_len are multiples of 4,096, window_len is above 0,
- *           at + window_len is at most 2^32; else the call answers 3.
- * records   the register: little-endian words, 8 of header, then one record for each module in load order. Of any length from 32 bytes
- *           on; a fresh register is all zeros. Bytes past 2^32 - 1 are never used.
- * names     the register's name bytes, packed. Of any length.
- * missing   the names that no module exported: exactly 32,896 bytes, 64 slots of a 16-bit length and 512 bytes.
- * value     receives the call's value; 0 unless the call answers 0.
+ * The window: a part of a 32-bit address space.
+ *   at       the address of its first byte, a multiple of 4,096
+ *   window   its bytes: a multiple of 4,096 of them, at least one page, none past 2^32
+ *   A read outside gives 0, a write outside is dropped.
  *
- * Answers:
+ * The register: what stands between calls. All bytes 0 is a register without modules.
+ *   records  at least 32 bytes: 8 header words, then one record per module; at most 64 modules
+ *   names    any length: the names of modules and exports
+ *   missing  exactly 32,896 bytes: 64 slots of a 16-bit length and 512 bytes, the names that no module provided
+ *   Only these calls write it, and the three buffers go together.
+ *
+ * What a call answers, tested in the order 3, 4, 1, 2, 5:
  *   0  done
- *   1  the magic at base + 0x080 is neither CRO0 nor CRS0; nothing changed
- *   2  a segment does not fit (load); the window is as rebasing left it there
- *   3  the window breaks its rule; nothing changed
- *   4  records, names and missing are no register of at most 64 modules; nothing changed
- *   5  64 modules stand, or the new record or its names exceed the free bytes; the window is as after the external reset
- * With 1 to 5 records, names and missing are as before. */
+ *   1  the module's magic is neither CRO0 nor CRS0; nothing has changed
+ *   2  a segment is bad; the window has been written up to there
+ *   3  the window breaks its rule; nothing has changed
+ *   4  the three buffers are no register; nothing has changed
+ *   5  64 modules stand, or the module's record or its names have no room; the window has been written
+ * The register is unchanged by 1 to 5, and *value is 0 then.
+ */
 #ifndef FILLQHANO_H
 #define FILLQHANO_H
 
@@ -29,15 +35,29 @@
 extern "C" {
 #endif
 
-/* Takes in the static module (CRS) of `size` bytes at `base`, which heads the title's lists from then on. Value 0. */
-uint32_t initialize(uint32_t at, uint8_t *window, size_t window_len, uint8_t *records, size_t records_len, uint8_t *names,
-                    size_t names_len, uint8_t *missing, size_t missing_len, uint32_t base, uint32_t size, uint32_t *value);
+/* Takes in the static module (CRS) at `base`, `size` bytes long. *value becomes 0. */
+uint32_t initialize(uint32_t at,
+                    uint8_t *window, size_t window_length,
+                    uint8_t *records, size_t records_length,
+                    uint8_t *names, size_t names_length,
+                    uint8_t *missing, size_t missing_length,
+                    uint32_t base, uint32_t size,
+                    uint32_t *value);
 
-/* Takes in the module of `size` bytes at `base`, with room lent for its Data and Bss. Any auto_link but 0 is 1. Value: the size that
- * the module keeps after fixing at `level` 1, 2 or 3, else 0. */
-uint32_t load(uint32_t at, uint8_t *window, size_t window_len, uint8_t *records, size_t records_len, uint8_t *names, size_t names_len,
-              uint8_t *missing, size_t missing_len, uint32_t base, uint32_t size, uint32_t data_at, uint32_t data_size, uint32_t bss_at,
-              uint32_t bss_size, uint32_t auto_link, uint32_t level, uint32_t *value);
+/* Loads the module at `base`, `size` bytes long, its data and bss segments at the addresses given, with their sizes.
+ * auto_link: 0, or anything else for a module whose named exports others may use.
+ * level: 1, 2 or 3 drops the tables that the level says; any other level drops none.
+ * *value becomes the bytes of the module that are left after fixing, 0 where the level drops nothing. */
+uint32_t load(uint32_t at,
+              uint8_t *window, size_t window_length,
+              uint8_t *records, size_t records_length,
+              uint8_t *names, size_t names_length,
+              uint8_t *missing, size_t missing_length,
+              uint32_t base, uint32_t size,
+              uint32_t data_at, uint32_t data_size,
+              uint32_t bss_at, uint32_t bss_size,
+              uint32_t auto_link, uint32_t level,
+              uint32_t *value);
 
 #ifdef __cplusplus
 }
