@@ -4,3 +4,4 @@ pub mod Unique
 pub mod Registers
 pub mod Answers
 pub mod Conclude
+pub mod Back

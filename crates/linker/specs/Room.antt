@@ -195,7 +195,7 @@ module _ (records names : ℕ) (r : Register) (m : Module) (p : proper r ≡ tru
     abbrev pub with : Register
     with = record { modules = ms; crs = c; missing = missing }
 
-    with-small : length missing ≤ 64 → Below (2 ^ 32) (encodeWords with)
+    pub with-small : length missing ≤ 64 → Below (2 ^ 32) (encodeWords with)
     unfolding encodeWords
     with-small h zero = let l = length-append (r .modules) (m ∷ []) in omega (arith, f .few)
     with-small h (suc zero) = crsKnown-small c
