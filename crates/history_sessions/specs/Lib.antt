@@ -5,3 +5,4 @@ pub mod Registers
 pub mod Answers
 pub mod Conclude
 pub mod Back
+pub mod Turns
