@@ -6,3 +6,4 @@ pub mod Answers
 pub mod Conclude
 pub mod Back
 pub mod Turns
+pub mod Before
