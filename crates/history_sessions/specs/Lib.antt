@@ -7,3 +7,4 @@ pub mod Conclude
 pub mod Back
 pub mod Turns
 pub mod Before
+pub mod Assemble
