@@ -8,3 +8,4 @@ pub mod Back
 pub mod Turns
 pub mod Before
 pub mod Assemble
+pub mod Keeping
