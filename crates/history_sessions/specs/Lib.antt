@@ -9,3 +9,4 @@ pub mod Turns
 pub mod Before
 pub mod Assemble
 pub mod Keeping
+pub mod Induction
