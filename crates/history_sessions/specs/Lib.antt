@@ -10,3 +10,4 @@ pub mod Before
 pub mod Assemble
 pub mod Keeping
 pub mod Induction
+pub mod Unloads
