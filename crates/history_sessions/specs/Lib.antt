@@ -11,3 +11,4 @@ pub mod Assemble
 pub mod Keeping
 pub mod Induction
 pub mod Unloads
+pub mod Brings
