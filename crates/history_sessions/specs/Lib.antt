@@ -12,3 +12,4 @@ pub mod Keeping
 pub mod Induction
 pub mod Unloads
 pub mod Brings
+pub mod Steps
