@@ -1,9 +1,9 @@
 -- If what stands is at rest after every session, demand 3 holds; and a refused call keeps it at rest.
 use Prim.Native.Nat.{ℕ, zero, suc, _<_}
-use mathlib.Core.Path.{_≡_, refl, sym, ap, _∙_}
-use mathlib.Core.Logic.{_⊎_, inl, inr}
+use mathlib.Core.Path.{_≡_}
+use mathlib.Core.Logic.{inl, inr}
 use mathlib.Core.List.{List, [], _∷_, map}
-use mathlib.Core.Bool.{true, false}
+use mathlib.Core.Bool.{false}
 use native.Mathlib.Omega.{arith}
 use lib.ListN.{length, getD}
 use Rattle.window.specs.Memory.{byteAt}
@@ -14,7 +14,7 @@ use Rattle.history.specs.Sessions.{Turn, after, done, arrived, standing, Areas,
 use Rattle.history.specs.Demand3.{Each, SameStanding, AllHold, Linked, NoByteDiffers, Premises, ends}
 use Rattle.history_steps.specs.Wp.{Memory, WithinM}
 use Rattle.history_steps.specs.Shows.{shows-agree}
-use Rattle.history_sessions.specs.Lists.{each-at, Among, nothing, keeps, drops, among-trans, standing-among}
+use Rattle.history_sessions.specs.Lists.{Among, nothing, keeps, drops, among-trans, standing-among}
 use Rattle.history_sessions.specs.Unique.{noArrival, imageAt, laid-at, once-at}
 use Rattle.history_sessions.specs.Conclude.{Resting, begun, restOf, all-hold, no-byte-differs, rests-alike}
 use Rattle.history_sessions.specs.Turns.{standing-refused, bytes-refused}
@@ -116,7 +116,7 @@ module _ (rest : (at : ℕ) (ts : List Turn) → Session at ts → Premises at t
     linked at ts s h,
     linked bt us z g,
     λ e.
-    let r = rest at ts s h in
-    no-byte-differs at bt ts us (rests (standing at ts)) (rests (standing bt us)) (laid-at at ts h (standing at ts) (standing-among at ts))
-    (rests-alike (standing at ts) (standing bt us) e (r .begins)) (r .resting) (rest bt us z g .resting) e,
+        let r = rest at ts s h in
+        no-byte-differs at bt ts us (rests (standing at ts)) (rests (standing bt us)) (laid-at at ts h (standing at ts) (standing-among at ts))
+        (rests-alike (standing at ts) (standing bt us) e (r .begins)) (r .resting) (rest bt us z g .resting) e,
   )

@@ -1,24 +1,24 @@
 -- The register that a call leaves is the one of its answer: its bytes are read back.
 use Prim.Native.Nat.{ℕ, _+_, _*_, _^_, _≤_, _<_}
-use mathlib.Core.Path.{_≡_, refl, sym, ap, _∙_, subst}
+use mathlib.Core.Path.{_≡_, refl, ap, _∙_, subst}
 use mathlib.Core.List.{List, [], _∷_, _++_}
-use mathlib.Core.Bool.{Bool, true, false, not}
+use mathlib.Core.Bool.{Bool, true, not}
 use native.Mathlib.Omega.{arith}
 use lib.ListN.{length, take}
 use lib.Dec.{eqb}
-use Rattle.window.specs.Access.{Prog, run}
+use Rattle.window.specs.Access.{Prog}
 use Rattle.layout.specs.Header.{nextCro, previousCro}
 use Rattle.layout.specs.Segments.{setField}
 use Rattle.register.specs.declared.words.Crs.{Crs}
 use Rattle.register.specs.declared.words.Crs.the-variants.{Known}
 use Rattle.register.specs.Module.{Module, Register, proper, properModule, properNames}
 use Rattle.register.specs.Encode.{slots, recordWords, encodeWords, crsBase}
-use Rattle.register.specs.Decode.{registerOf, isRegister}
+use Rattle.register.specs.Decode.{registerOf}
 use Rattle.register.specs.Proper.{proper-parts, parts-proper}
 use Rattle.register.specs.CheckIs.{register-parts}
 use Rattle.register.specs.Change.{appended, removed, withCrs}
 use Rattle.register.specs.Buffers.{Below, padded, names-are, encodeRecords, encodeNames, encodeMissing}
-use Rattle.register_append.specs.Draft.{roomIn, room-inside}
+use Rattle.register_append.specs.Draft.{room-inside}
 use Rattle.register_append.specs.Stands.{encoded-small, appended-proper}
 use Rattle.register_change.specs.Remove.{Stands, remaining}
 use Rattle.register_change.specs.Left.{remove-kept}
@@ -37,7 +37,7 @@ use Rattle.linker.specs.Room.{Small, Fits, fits-means, with-small}
 use Rattle.linker.specs.Reads.{Readable, readModule-yields}
 use Rattle.linker.specs.Valid.{Valid, AreBytes, imports-yield}
 use Rattle.history.specs.Sessions.{Call, initialize, load, unload, given, Words}
-use Rattle.history_sessions.specs.Answers.{program, programOf, Left, encoded-back}
+use Rattle.history_sessions.specs.Answers.{program, Left, encoded-back}
 
 -- s is read back from its bytes, in buffers of such lengths
 abbrev pub ReadBack : ℕ → ℕ → Register → Type 0

@@ -1,7 +1,7 @@
 -- What a session's premises say of the turns before its last one, and of the window.
-use Prim.Native.Nat.{ℕ, _+_, _-_, _%_, _^_, _≤_, _<_}
-use mathlib.Core.Path.{_≡_, refl, sym, ap, _∙_}
-use mathlib.Core.List.{List, [], _∷_, _++_, map}
+use Prim.Native.Nat.{ℕ, _-_, _^_, _<_}
+use mathlib.Core.Path.{_≡_, sym, ap, _∙_}
+use mathlib.Core.List.{List, _∷_, map}
 use mathlib.Core.Bool.{true}
 use native.Mathlib.Omega.{arith}
 use lib.ListN.{length}
@@ -9,9 +9,9 @@ use Rattle.window.specs.Memory.{place, goodWindow}
 use Rattle.window.specs.Within.{In, Low, Lies}
 use Rattle.window.specs.Edges.{good-end}
 use Rattle.history.specs.Arrival.{Image, Arrival, imageOf, Area}
-use Rattle.history.specs.Sessions.{Turn, after, brought, arrived, Follows, Typed, Between, Session, empty, first, next}
+use Rattle.history.specs.Sessions.{Turn, after, brought, arrived, Follows, Typed, Between, Session, first, next}
 use Rattle.history.specs.Windows.{given-length}
-use Rattle.history.specs.Demand3.{Each, Pairs, Harmless, CrsFirst, InWindow, Premises}
+use Rattle.history.specs.Demand3.{Each, Pairs, CrsFirst, InWindow, Premises}
 use Rattle.history_sessions.specs.Lists.{each-map, map-each, pairs-map, map-pairs, each-mono, Among, among-each, among-pairs, among-left}
 use Rattle.history_sessions.specs.Unique.{imageAt, inside-at}
 

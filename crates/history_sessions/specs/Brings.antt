@@ -1,8 +1,7 @@
 -- A load or an `initialize` that is done: one module more stands, and the register has its record.
-use Prim.Native.Nat.{ℕ, _<_}
-use mathlib.Core.Path.{_≡_, refl, sym, ap, _∙_, subst}
+use Prim.Native.Nat.{ℕ}
+use mathlib.Core.Path.{_≡_}
 use mathlib.Core.List.{List, [], _∷_, _++_}
-use lib.ListN.{length, getD}
 use Rattle.window.specs.Memory.{byteAt}
 use Rattle.window.specs.Access.{run}
 use Rattle.register.specs.Module.{Module, Register}

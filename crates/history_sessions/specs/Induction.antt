@@ -1,16 +1,14 @@
 -- From one call that is done to whole sessions: what stands is at rest and recorded after every session.
-use Prim.Native.Nat.{ℕ, _<_}
+use Prim.Native.Nat.{ℕ}
 use mathlib.Core.Path.{_≡_, refl, sym, subst}
 use mathlib.Core.List.{List, [], _∷_}
 use mathlib.Core.Option.{none}
 use mathlib.Core.Bool.{Bool, true, false}
 use native.Mathlib.Omega.{arith}
-use lib.ListN.{length}
 use Rattle.window.specs.Memory.{byteAt}
 use Rattle.history.specs.Sessions.{Turn, after, expected, done, standing, Follows, Typed, Fresh, Session, first, next}
 use Rattle.history.specs.Demand3.{Each, SameStanding, Linked, NoByteDiffers, Premises, ends}
 use Rattle.history_steps.specs.Wp.{Memory}
-use Rattle.history_sessions.specs.Conclude.{Resting}
 use Rattle.history_sessions.specs.Turns.{standing-refused, bytes-refused}
 use Rattle.history_sessions.specs.Before.{session-before, between-last, follows-last, typed-last, length-before, premises-before}
 use Rattle.history_sessions.specs.Assemble.{AtRest, BeginWithin, Rests, got-rest, demand}

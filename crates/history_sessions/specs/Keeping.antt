@@ -1,21 +1,20 @@
 -- The register against what stands, from call to call; bytes that are no register are refused and say nothing.
-use Prim.Native.Nat.{ℕ, zero, suc, pred, _+_, _<_}
+use Prim.Native.Nat.{ℕ, zero, suc, _+_, _<_}
 use mathlib.Core.Path.{_≡_, refl, sym, ap, _∙_, subst}
 use mathlib.Core.Logic.{_≢_, _⊎_, inl, inr}
 use mathlib.Core.List.{List, [], _∷_, _++_}
-use mathlib.Core.Bool.{true, false}
+use mathlib.Core.Bool.{false}
 use native.Mathlib.Omega.{arith}
 use lib.ListN.{length, length-append}
 use Rattle.register.specs.declared.words.Crs.{Crs}
 use Rattle.register.specs.declared.words.Crs.the-variants.{Unknown, Known}
 use Rattle.register.specs.Module.{Module, Register}
-use Rattle.register.specs.Decode.{isRegister}
-use Rattle.register.specs.Change.{removed, without}
+use Rattle.register.specs.Change.{removed}
 use Rattle.linker.specs.Outcome.{Bytes}
 use Rattle.linker.specs.Refusals.{lentRegister}
-use Rattle.linker.specs.Valid.{Valid, AreBytes}
-use Rattle.history.specs.Arrival.{Arrival, imageOf, baseOf, isCrs}
-use Rattle.history.specs.Sessions.{Call, Turn, after, expected, done, Follows, Fresh, SameBytes, SameEncoded, SameRegister}
+use Rattle.linker.specs.Valid.{Valid}
+use Rattle.history.specs.Arrival.{Arrival, imageOf, baseOf}
+use Rattle.history.specs.Sessions.{Turn, after, expected, done, Follows, Fresh, SameBytes, SameEncoded, SameRegister}
 use Rattle.history.specs.Demand3.{Harmless}
 use Rattle.history_steps.specs.Records.{Recorded}
 use Rattle.history_steps.specs.Own.{RecordedAll}

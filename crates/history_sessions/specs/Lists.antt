@@ -9,8 +9,8 @@ use native.Mathlib.Decide.{decLt, ℕ-discrete}
 use lib.ListN.{length, getD}
 use lib.Dec.{eqb}
 use borrow.Author.Tests.{eq-eqb, ne-eqb}
-use Rattle.window.specs.Memory.{if_then_else_, byteAt}
-use Rattle.history.specs.Arrival.{Arrival, imageOf, baseOf, isCrs}
+use Rattle.window.specs.Memory.{if_then_else_}
+use Rattle.history.specs.Arrival.{Arrival, baseOf, isCrs}
 use Rattle.history.specs.Sessions.{Call, initialize, load, unload, Turn, done, brought, arrived, others, stay, standing}
 use Rattle.history.specs.Demand3.{Each, Pairs}
 use Rattle.history_steps.specs.Leaving.{skip, skip-low, skip-high}

@@ -11,17 +11,17 @@ use Rattle.register.specs.Module.{Module, Register}
 use Rattle.linker.specs.declared.rebase.Lent.{Lent}
 use Rattle.linker.specs.Calls.{stands, firstWithBase}
 use Rattle.linker.specs.Refusals.{lentRegister}
-use Rattle.history.specs.Arrival.{Arrival, initialized, loaded, baseOf, isCrs}
+use Rattle.history.specs.Arrival.{initialized, loaded, baseOf, isCrs}
 use Rattle.history.specs.Sessions.{Call, initialize, load, unload, Turn, done, comes, arrived, others, stay, standing, Words, Typed, Session}
-use Rattle.history.specs.Demand3.{Each, InOrder, CrsFirst, SameStanding, Linked, NoByteDiffers, Premises}
+use Rattle.history.specs.Demand3.{InOrder, CrsFirst, SameStanding, Linked, NoByteDiffers, Premises}
 use Rattle.history_steps.specs.Records.{Recorded}
-use Rattle.history_sessions.specs.Lists.{lacking, Among, among-each, among-trans, standing-among}
+use Rattle.history_sessions.specs.Lists.{lacking, among-each, among-trans, standing-among}
 use Rattle.history_sessions.specs.Unique.{imageAt, other-bases}
 use Rattle.history_sessions.specs.Answers.{programOf, Performed, performed, done-zero, Left}
 use Rattle.history_sessions.specs.Turns.{standing-done, crs-first}
 use Rattle.history_sessions.specs.Before.{arrived-before}
 use Rattle.history_sessions.specs.Assemble.{AtRest, BeginWithin}
-use Rattle.history_sessions.specs.Keeping.{Kept, Keeps}
+use Rattle.history_sessions.specs.Keeping.{Kept}
 use Rattle.history_sessions.specs.Brings.{Effect, Leaving, initialize-step, load-step}
 use Rattle.history_sessions.specs.Unloads.{unload-step}
 use Rattle.history_sessions.specs.Induction.{Step, sessions}

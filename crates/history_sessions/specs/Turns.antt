@@ -3,15 +3,14 @@ use Prim.Native.Nat.{ℕ, zero, suc, _<_}
 use mathlib.Core.Path.{_≡_, refl, sym, ap, _∙_}
 use mathlib.Core.Logic.{_≢_}
 use mathlib.Core.List.{List, [], _∷_, _++_, append-nil}
-use mathlib.Core.Bool.{Bool, true, false, not, _||_}
+use mathlib.Core.Bool.{Bool, true, false}
 use native.Mathlib.Omega.{arith}
-use lib.ListN.{length, getD}
-use lib.Dec.{eqb}
-use Rattle.window.specs.Memory.{if_then_else_, byteAt}
-use Rattle.history.specs.Arrival.{Coming, initialized, loaded, Arrival, imageOf, baseOf, isCrs}
+use lib.ListN.{length}
+use Rattle.window.specs.Memory.{byteAt}
+use Rattle.history.specs.Arrival.{initialized, loaded, Arrival, isCrs}
 use Rattle.history.specs.Sessions.{Call, initialize, load, unload, Turn, after, expected, done, comes, brought, arrived, others, stay, standing, Follows, SameBytes}
 use Rattle.history.specs.Demand3.{Each, InOrder, Harmless, CrsFirst}
-use Rattle.history_sessions.specs.Lists.{each-at, each-append, Among, among-each, standing-among, others-among}
+use Rattle.history_sessions.specs.Lists.{each-at, each-append, among-each, others-among}
 use Rattle.history_sessions.specs.Unique.{noArrival, imageAt}
 
 module _ (at : ℕ) where

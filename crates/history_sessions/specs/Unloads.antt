@@ -1,31 +1,29 @@
 -- An unload that is done: which module leaves, if any, and the register without it.
-use Prim.Native.Nat.{ℕ, zero, suc, pred, _<_}
-use mathlib.Core.Path.{_≡_, refl, sym, ap, _∙_, subst}
+use Prim.Native.Nat.{ℕ, zero, suc, _<_}
+use mathlib.Core.Path.{_≡_, sym, _∙_, subst}
 use mathlib.Core.Logic.{_≢_}
-use mathlib.Core.List.{List, [], _∷_, _++_, append-nil}
-use mathlib.Core.Bool.{Bool, true, false}
+use mathlib.Core.List.{List}
+use mathlib.Core.Bool.{true, false}
 use native.Mathlib.Omega.{arith}
-use native.Mathlib.Decide.{ℕ-discrete}
-use lib.ListN.{length, getD}
+use lib.ListN.{length}
 use Rattle.window.specs.Memory.{byteAt}
 use Rattle.window.specs.Access.{run}
-use Rattle.register.specs.Module.{Module, Register}
-use Rattle.register.specs.Change.{removed}
+use Rattle.register.specs.Module.{Module}
 use Rattle.linker.specs.Calls.{stands, firstWithBase}
 use Rattle.linker.specs.Outcome.{Bytes}
 use Rattle.linker.specs.Refusals.{lentRegister}
-use Rattle.linker.specs.Valid.{Valid, AreBytes}
+use Rattle.linker.specs.Valid.{AreBytes}
 use Rattle.history.specs.Arrival.{Arrival, imageOf, baseOf, isCrs, Area}
-use Rattle.history.specs.Sessions.{Call, unload, given, arrived, others, standing}
+use Rattle.history.specs.Sessions.{unload, given, others}
 use Rattle.history.specs.Demand3.{Each, Pairs}
-use Rattle.history_steps.specs.Wp.{Memory, WithinM}
+use Rattle.history_steps.specs.Wp.{WithinM}
 use Rattle.history_steps.specs.Records.{Recorded}
 use Rattle.history_steps.specs.Asking.{true-false}
 use Rattle.history_steps.specs.Leaving.{skip, skip-below}
 use Rattle.history_sessions.specs.Lists.{lacking, lacking-at, lacking-length, OtherBase, leaver}
 use Rattle.history_sessions.specs.Unique.{noArrival, imageAt}
-use Rattle.history_sessions.specs.Registers.{Registered, Found, goes, none, found}
-use Rattle.history_sessions.specs.Answers.{programOf, Performed, Left, unload-unknown, unload-known}
+use Rattle.history_sessions.specs.Registers.{Found, goes, none, found}
+use Rattle.history_sessions.specs.Answers.{programOf, Performed, unload-unknown, unload-known}
 use Rattle.history_sessions.specs.Back.{unload-back}
 use Rattle.history_sessions.specs.Conclude.{begun}
 use Rattle.history_sessions.specs.Turns.{Headed, crs-0}
