@@ -1,6 +1,6 @@
 -- If what stands is at rest after every session, demand 3 holds; and a refused call keeps it at rest.
 use Prim.Native.Nat.{ℕ, zero, suc, _<_}
-use mathlib.Core.Path.{_≡_}
+use mathlib.Core.Path.{_≡_, _∙_}
 use mathlib.Core.Logic.{inl, inr}
 use mathlib.Core.List.{List, [], _∷_, map}
 use mathlib.Core.Bool.{false}
@@ -30,6 +30,32 @@ resting-agree n x rest M N laid g h =
       next = h .next;
       previous = h .previous;
       stands = λ k l. record { shows = shows-agree (x k) (laid k l) (g k l) (h .stands k l .shows) };
+      final = h .final;
+      listed = h .listed;
+    }
+
+-- bytes without links that agree on the areas say the same
+pub resting-rest
+    : (n : ℕ) (x : ℕ → Image) (rest other : ℕ → Memory) (M : Memory) → ((k : ℕ) → k < n → Agree (Area (x k)) (rest k) (other k))
+    → Resting n x rest M → Resting n x other M
+resting-rest n x rest other M g h =
+    record {
+      links = h .links;
+      next = h .next;
+      previous = h .previous;
+      stands =
+          λ k l.
+          let s = h .stands k l .shows in
+          record {
+            shows =
+                record {
+                  words = s .words;
+                  marks = s .marks;
+                  nexts = s .nexts;
+                  previouses = s .previouses;
+                  rest = λ q a o. s .rest q a o ∙ g k l q a;
+                };
+          };
       final = h .final;
       listed = h .listed;
     }
