@@ -13,6 +13,7 @@ use Rattle.history.specs.WellLaid.{WellLaid}
 use Rattle.history.specs.Sessions.{Turn, after, done, arrived, standing, Areas, Session}
 use Rattle.history.specs.Demand3.{Each, SameStanding, AllHold, Linked, NoByteDiffers, Premises, ends}
 use Rattle.history_steps.specs.Wp.{Memory, WithinM}
+use Rattle.history_steps.specs.View.{View}
 use Rattle.history_steps.specs.Shows.{shows-agree}
 use Rattle.history_sessions.specs.Lists.{Among, nothing, keeps, drops, among-trans, standing-among}
 use Rattle.history_sessions.specs.Unique.{noArrival, imageAt, laid-at, once-at}
@@ -67,8 +68,12 @@ rests S k = restOf (getD S k noArrival)
 abbrev pub AtRest : List Arrival → Memory → Type 0
 AtRest S M = Resting (length S) (imageAt S) (rests S) M
 
+-- how an arrival began: in its own areas, and what was left shows its tables
+abbrev pub Began : Arrival → Type 0
+Began a = WithinM (Area (imageOf a)) (begun (a .coming)) (a .bytes) × View (imageOf a) (restOf a)
+
 abbrev pub BeginWithin : List Arrival → Type 0
-BeginWithin S = (k : ℕ) → k < length S → WithinM (Area (imageAt S k)) (begun (imageAt S k .coming)) (getD S k noArrival .bytes)
+BeginWithin S = (k : ℕ) → k < length S → Began (getD S k noArrival)
 
 pub record Rests (at : ℕ) (ts : List Turn) : Type 0 where
   pub resting : AtRest (standing at ts) (ends at ts)
@@ -144,5 +149,5 @@ module _ (rest : (at : ℕ) (ts : List Turn) → Session at ts → Premises at t
     λ e.
         let r = rest at ts s h in
         no-byte-differs at bt ts us (rests (standing at ts)) (rests (standing bt us)) (laid-at at ts h (standing at ts) (standing-among at ts))
-        (rests-alike (standing at ts) (standing bt us) e (r .begins)) (r .resting) (rest bt us z g .resting) e,
+        (rests-alike (standing at ts) (standing bt us) e (λ k l. r .begins k l .0)) (r .resting) (rest bt us z g .resting) e,
   )

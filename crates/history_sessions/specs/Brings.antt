@@ -9,22 +9,16 @@ use Rattle.linker.specs.declared.rebase.Lent.{Lent}
 use Rattle.linker.specs.Outcome.{Bytes}
 use Rattle.linker.specs.Refusals.{lentRegister}
 use Rattle.linker.specs.Valid.{AreBytes}
-use Rattle.history.specs.Arrival.{Arrival, imageOf, Area}
+use Rattle.history.specs.Arrival.{Arrival, imageOf}
 use Rattle.history.specs.Sessions.{Call, initialize, load, given, Words}
 use Rattle.history.specs.Demand3.{Each}
-use Rattle.history_steps.specs.Wp.{WithinM}
 use Rattle.history_steps.specs.Records.{Recorded}
 use Rattle.history_sessions.specs.Lists.{each-at, at-each, each-append}
 use Rattle.history_sessions.specs.Unique.{noArrival}
 use Rattle.history_sessions.specs.Answers.{programOf, Performed, Left, brings-initialize, brings-load}
 use Rattle.history_sessions.specs.Back.{initialize-back, load-back}
-use Rattle.history_sessions.specs.Conclude.{begun}
-use Rattle.history_sessions.specs.Assemble.{AtRest, BeginWithin}
+use Rattle.history_sessions.specs.Assemble.{Began, AtRest, BeginWithin}
 use Rattle.history_sessions.specs.Keeping.{crsOf, Kept, Keeps, kept-more}
-
--- how an arrival began
-abbrev pub Began : Arrival → Type 0
-Began a = WithinM (Area (imageOf a)) (begun (a .coming)) (a .bytes)
 
 pub begins-more : (S : List Arrival) (a : Arrival) → BeginWithin S → Began a → BeginWithin (S ++ (a ∷ []))
 unfolding Each

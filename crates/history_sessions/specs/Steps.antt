@@ -34,6 +34,7 @@ pub record Ready (at : ℕ) (t : Turn) (ts : List Turn) (c : Call) : Type 0 wher
   pub order : InOrder c (arrived at ts)
   pub performs : Performed c at (t .before)
   pub rest : AtRest (standing at ts) (byteAt at (t .before .window))
+  pub begins : BeginWithin (standing at ts)
   pub kept : Kept (standing at ts) (lentRegister (t .before))
 
 -- what is to be proved of the three calls
@@ -53,14 +54,14 @@ pub record Effects : Type 0 where
 
 module _ (f : Effects) where
   by-call
-      : (at : ℕ) (t : Turn) (ts : List Turn) (c : Call) → Words c → Ready at t ts c → BeginWithin (standing at ts)
+      : (at : ℕ) (t : Turn) (ts : List Turn) (c : Call) → Words c → Ready at t ts c
       → Leaving c at (t .before) (stay at c (standing at ts) ++ comes at c (byteAt at (t .before .window)))
   unfolding stay comes InOrder CrsFirst
-  by-call at t ts (initialize base size) w r b =
-      initialize-step at (t .before) (r .typed .1) (standing at ts) _ (r .kept) b base size w (r .performs) (f .initializes at t ts base size r)
-  by-call at t ts (load l auto level) w r b =
-      load-step at (t .before) (r .typed .1) (standing at ts) _ (r .kept) b l auto level w (r .performs) (f .loads at t ts l auto level r)
-  by-call at t ts (unload base) w r b =
+  by-call at t ts (initialize base size) w r =
+      initialize-step at (t .before) (r .typed .1) (standing at ts) _ (r .kept) (r .begins) base size w (r .performs) (f .initializes at t ts base size r)
+  by-call at t ts (load l auto level) w r =
+      load-step at (t .before) (r .typed .1) (standing at ts) _ (r .kept) (r .begins) l auto level w (r .performs) (f .loads at t ts l auto level r)
+  by-call at t ts (unload base) w r =
       let S = standing at ts in
       let g = among-trans S (arrived at ts) (arrived at (t ∷ ts)) (standing-among at ts) (arrived-before at t ts) in
       subst (Leaving (unload base) at (t .before)) (let e : others at base S ≡ others at base S ++ [] = sym (append-nil (others at base S)) in e)
@@ -68,7 +69,7 @@ module _ (f : Effects) where
       (other-bases at (t ∷ ts) (r .premises) S g)
       (among-each (λ a. isCrs (a .coming) ≡ true → baseOf (a .coming) ≢ base) S (arrived at ts) (standing-among at ts) (r .order))
       (r .performs) (r .kept)
-      (λ d m above l e h _. f .unloads at t ts base r d m above l e h) (r .rest) b)
+      (λ d m above l e h _. f .unloads at t ts base r d m above l e h) (r .rest) (r .begins))
 
   pub steps : Step
   unfolding CrsFirst
@@ -76,7 +77,7 @@ module _ (f : Effects) where
       let p = performed (t .call) at (t .before) (done-zero at t e) in
       subst (Leaving (t .call) at (t .before)) (sym (standing-done at t ts e))
       (by-call at t ts (t .call) (w .0)
-      (record { call = refl; typed = w; premises = h; order = h .crs-first .0 e; performs = p; rest = rest; kept = keeps (p .valid) }) begins)
+      (record { call = refl; typed = w; premises = h; order = h .crs-first .0 e; performs = p; rest = rest; begins = begins; kept = keeps (p .valid) }))
 
   pub demand-3
       : (at bt : ℕ) (ts us : List Turn) → Session at ts → Session bt us → Premises at ts → Premises bt us

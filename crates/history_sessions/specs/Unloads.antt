@@ -13,10 +13,9 @@ use Rattle.linker.specs.Calls.{stands, firstWithBase}
 use Rattle.linker.specs.Outcome.{Bytes}
 use Rattle.linker.specs.Refusals.{lentRegister}
 use Rattle.linker.specs.Valid.{AreBytes}
-use Rattle.history.specs.Arrival.{Arrival, imageOf, baseOf, isCrs, Area}
+use Rattle.history.specs.Arrival.{Arrival, imageOf, baseOf, isCrs}
 use Rattle.history.specs.Sessions.{unload, given, others}
 use Rattle.history.specs.Demand3.{Each, Pairs}
-use Rattle.history_steps.specs.Wp.{WithinM}
 use Rattle.history_steps.specs.Records.{Recorded}
 use Rattle.history_steps.specs.Asking.{true-false}
 use Rattle.history_steps.specs.Leaving.{skip, skip-below}
@@ -25,15 +24,14 @@ use Rattle.history_sessions.specs.Unique.{noArrival, imageAt}
 use Rattle.history_sessions.specs.Registers.{Found, goes, none, found}
 use Rattle.history_sessions.specs.Answers.{programOf, Performed, unload-unknown, unload-known}
 use Rattle.history_sessions.specs.Back.{unload-back}
-use Rattle.history_sessions.specs.Conclude.{begun}
 use Rattle.history_sessions.specs.Turns.{Headed, crs-0}
-use Rattle.history_sessions.specs.Assemble.{AtRest, BeginWithin}
+use Rattle.history_sessions.specs.Assemble.{Began, AtRest, BeginWithin}
 use Rattle.history_sessions.specs.Keeping.{Kept, Keeps, kept-less}
 
 -- those that stay began as they did
 pub begins-less : (S : List Arrival) (d : ℕ) → d < length S → BeginWithin S → BeginWithin (lacking S d)
 begins-less S d l h k g =
-    subst (λ a. WithinM (Area (imageOf a)) (begun (a .coming)) (a .bytes)) (sym (lacking-at S d noArrival k))
+    subst Began (sym (lacking-at S d noArrival k))
     (h (skip d k) (skip-below (length S) d k l (omega (arith, lacking-length S d l))))
 
 -- what an unload that gives 0 leaves, but for the bytes of those that stay
