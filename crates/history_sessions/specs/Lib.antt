@@ -13,3 +13,4 @@ pub mod Induction
 pub mod Unloads
 pub mod Brings
 pub mod Steps
+pub mod Casts
