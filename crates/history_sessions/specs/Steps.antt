@@ -42,11 +42,13 @@ pub record Effects : Type 0 where
   pub initializes
       : (at : ℕ) (t : Turn) (ts : List Turn) (base size : ℕ) → Ready at t ts (initialize base size) → (v : ℕ) (s : Register)
       → Left (initialize base size) at (t .before) v s
-      → Effect (initialize base size) at (t .before) (standing at ts) (record { coming = initialized base size; bytes = byteAt at (t .before .window) }) s
+      → Effect (initialize base size) at (t .before) (standing at ts)
+      (record { coming = initialized base size; bytes = byteAt at (t .before .window) }) s
   pub loads
       : (at : ℕ) (t : Turn) (ts : List Turn) (l : Lent) (auto level : ℕ) → Ready at t ts (load l auto level) → (v : ℕ) (s : Register)
       → Left (load l auto level) at (t .before) v s
-      → Effect (load l auto level) at (t .before) (standing at ts) (record { coming = loaded l auto level; bytes = byteAt at (t .before .window) }) s
+      → Effect (load l auto level) at (t .before) (standing at ts)
+      (record { coming = loaded l auto level; bytes = byteAt at (t .before .window) }) s
   pub unloads
       : (at : ℕ) (t : Turn) (ts : List Turn) (base : ℕ) → Ready at t ts (unload base) → (d : ℕ) (r : Module) → 0 < d → d < length (standing at ts)
       → firstWithBase base (lentRegister (t .before) .modules) 0 ≡ stands r d → Recorded (imageAt (standing at ts) d) r
@@ -58,9 +60,11 @@ module _ (f : Effects) where
       → Leaving c at (t .before) (stay at c (standing at ts) ++ comes at c (byteAt at (t .before .window)))
   unfolding stay comes InOrder CrsFirst
   by-call at t ts (initialize base size) w r =
-      initialize-step at (t .before) (r .typed .1) (standing at ts) _ (r .kept) (r .begins) base size w (r .performs) (f .initializes at t ts base size r)
+      initialize-step at (t .before) (r .typed .1) (standing at ts) _ (r .kept) (r .begins) base size w (r .performs)
+      (f .initializes at t ts base size r)
   by-call at t ts (load l auto level) w r =
-      load-step at (t .before) (r .typed .1) (standing at ts) _ (r .kept) (r .begins) l auto level w (r .performs) (f .loads at t ts l auto level r)
+      load-step at (t .before) (r .typed .1) (standing at ts) _ (r .kept) (r .begins) l auto level w (r .performs)
+      (f .loads at t ts l auto level r)
   by-call at t ts (unload base) w r =
       let S = standing at ts in
       let g = among-trans S (arrived at ts) (arrived at (t ∷ ts)) (standing-among at ts) (arrived-before at t ts) in
@@ -77,7 +81,16 @@ module _ (f : Effects) where
       let p = performed (t .call) at (t .before) (done-zero at t e) in
       subst (Leaving (t .call) at (t .before)) (sym (standing-done at t ts e))
       (by-call at t ts (t .call) (w .0)
-      (record { call = refl; typed = w; premises = h; order = h .crs-first .0 e; performs = p; rest = rest; begins = begins; kept = keeps (p .valid) }))
+      (record {
+        call = refl;
+        typed = w;
+        premises = h;
+        order = h .crs-first .0 e;
+        performs = p;
+        rest = rest;
+        begins = begins;
+        kept = keeps (p .valid);
+      }))
 
   pub demand-3
       : (at bt : ℕ) (ts us : List Turn) → Session at ts → Session bt us → Premises at ts → Premises bt us
