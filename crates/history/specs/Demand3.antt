@@ -126,7 +126,7 @@ unfoldable pub NoByteDiffers : ℕ → List Turn → ℕ → List Turn → Type 
 NoByteDiffers at ts bt us = Each (λ a. Agree (Area (imageOf a)) (ends at ts) (ends bt us)) (standing at ts)
 
 -- each call of a session gives the definition's outcome (`Session`, by `Follows`); of any two sessions under the premises:
-pub Demand3 : Type 0
+unfoldable pub Demand3 : Type 0
 Demand3 =
     (at bt : ℕ) (ts us : List Turn) → Session at ts → Session bt us → Premises at ts → Premises bt us
     → Linked at ts × Linked bt us × (SameStanding (standing at ts) (standing bt us) → NoByteDiffers at ts bt us)

@@ -1,5 +1,5 @@
 -- A call that gives 0: its window and register were good, and what it leaves is what its program answered.
-use Prim.Native.Nat.{ℕ, _*_, _^_, _≤_, _<_}
+use Prim.Native.Nat.{ℕ, _*_, _^_, _≤_}
 use mathlib.Core.Path.{_≡_, refl, sym, ap, _∙_}
 use mathlib.Core.List.{List}
 use mathlib.Core.Bool.{Bool, true, false, not}
@@ -8,7 +8,7 @@ use lib.ListN.{length}
 use lib.Dec.{eqb}
 use borrow.Author.Tests.{eqb-true}
 use Rattle.window.specs.Memory.{if_then_else_, goodWindow}
-use Rattle.window.specs.Access.{Prog, ret, run}
+use Rattle.window.specs.Access.{Prog, run}
 use Rattle.layout.specs.Header.{nextCro, previousCro}
 use Rattle.layout.specs.Segments.{setField}
 use Rattle.register.specs.Module.{Module, Register, proper}
@@ -28,8 +28,8 @@ use Rattle.linker.specs.Resets.{resetImporters}
 use Rattle.linker.specs.Fix.{fix}
 use Rattle.linker.specs.Unrebase.{unrebase}
 use Rattle.linker.specs.Calls as calls
-use Rattle.linker.specs.Calls.{Answer, NotACro, BadSegment, NoRoom, Kept, Done, number, rebase, rebaseStatic, fits, enter, initialized, listed, linked, Standing, unknown, stands, firstWithBase, unlisted, leave}
-use Rattle.linker.specs.Outcome.{Bytes, registerAfter, settle, chain, outcome, initializeOutcome, loadOutcome, unloadOutcome}
+use Rattle.linker.specs.Calls.{Answer, NotACro, BadSegment, NoRoom, Kept, Done, number, rebase, rebaseStatic, fits, enter, initialized, listed, linked, unknown, stands, firstWithBase, unlisted, leave}
+use Rattle.linker.specs.Outcome.{Bytes, registerAfter, settle, outcome, initializeOutcome, loadOutcome, unloadOutcome}
 use Rattle.linker.specs.Refusals.{lentRegister}
 use Rattle.linker.specs.Gives.{Gives, gives-run, gives-then, gives-if}
 use Rattle.linker.specs.Valid.{Valid}

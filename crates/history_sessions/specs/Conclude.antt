@@ -1,29 +1,27 @@
 -- From modules that stand with their links at rest to the clauses of demand 3.
-use Prim.Native.Nat.{ℕ, zero, suc, pred, _+_, _<_}
+use Prim.Native.Nat.{ℕ, zero, suc, _+_, _<_}
 use mathlib.Core.Path.{_≡_, refl, sym, ap, _∙_, fun-ext, subst}
-use mathlib.Core.Logic.{_≢_, _⊎_, inl, inr}
+use mathlib.Core.Logic.{inl}
 use mathlib.Core.List.{List, [], _∷_, map}
-use mathlib.Core.Bool.{Bool, true, false}
 use native.Mathlib.Omega.{arith}
 use native.Mathlib.Decide.{decLt}
 use lib.ListN.{length, getD}
-use lib.Dec.{eqb, ltb}
 use borrow.Author.Tests.{lt-ltb, le-ltb}
-use Rattle.window.specs.Memory.{if_then_else_, byteAt}
+use Rattle.window.specs.Memory.{if_then_else_}
 use Rattle.window.specs.Access.{Prog, _>>=_}
-use Rattle.window.specs.Within.{In, Agree}
+use Rattle.window.specs.Within.{Agree}
 use Rattle.window.specs.Mirror.{runM}
 use Rattle.linker.specs.Calls.{rebase, rebaseStatic}
 use Rattle.linker.specs.Relocation.{resetExternalRelocations}
-use Rattle.history.specs.Arrival.{Coming, initialized, loaded, Image, Arrival, cut, imageOf, baseOf, sizeOf, isCrs, handler, Area}
-use Rattle.history.specs.Imports.{Import, IsImport, Exports, Exporter, Holds}
+use Rattle.history.specs.Arrival.{Coming, initialized, loaded, Image, Arrival, cut, imageOf, baseOf, sizeOf, isCrs, Area}
+use Rattle.history.specs.Imports.{Import, Exports, Exporter, Holds}
 use Rattle.history.specs.WellLaid.{WellLaid}
 use Rattle.history.specs.Sessions.{Turn, standing}
-use Rattle.history.specs.Demand3.{Each, Pairs, ImportClause, CrsClause, SameStanding, AllHold, NoByteDiffers, ends}
+use Rattle.history.specs.Demand3.{Each, ImportClause, CrsClause, SameStanding, AllHold, NoByteDiffers, ends}
 use Rattle.history_steps.specs.Wp.{Memory, WithinM}
 use Rattle.history_steps.specs.Windowed.{same-on}
 use Rattle.history_steps.specs.Links.{Links, Stands}
-use Rattle.history_steps.specs.Listing.{nextIn, previousIn, Listed}
+use Rattle.history_steps.specs.Listing.{Listed}
 use Rattle.history_steps.specs.Final.{Final}
 use Rattle.history_steps.specs.Conclusions.{holds-exporter, holds-handler, final-unique, stands-unique}
 use Rattle.history_sessions.specs.Lists.{each-at, at-each, each-map, map-each}

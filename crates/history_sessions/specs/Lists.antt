@@ -9,8 +9,8 @@ use native.Mathlib.Decide.{decLt, ℕ-discrete}
 use lib.ListN.{length, getD}
 use lib.Dec.{eqb}
 use borrow.Author.Tests.{eq-eqb, ne-eqb}
-use Rattle.window.specs.Memory.{if_then_else_, byteAt}
-use Rattle.history.specs.Arrival.{Arrival, imageOf, baseOf, isCrs}
+use Rattle.window.specs.Memory.{if_then_else_}
+use Rattle.history.specs.Arrival.{Arrival, baseOf, isCrs}
 use Rattle.history.specs.Sessions.{Call, initialize, load, unload, Turn, done, brought, arrived, others, stay, standing}
 use Rattle.history.specs.Demand3.{Each, Pairs}
 use Rattle.history_steps.specs.Leaving.{skip, skip-low, skip-high}
@@ -97,6 +97,11 @@ unfolding Pairs
 pairs-map f R [] h = tt
 pairs-map f R (x ∷ xs) h = (each-map f (R (f x)) xs (h .0), pairs-map f R xs (h .1))
 
+pub map-pairs : {A B : Type 0} (f : A → B) (R : B → B → Type 0) (xs : List A) → Pairs (λ a b. R (f a) (f b)) xs → Pairs R (map f xs)
+unfolding Pairs
+map-pairs f R [] h = tt
+map-pairs f R (x ∷ xs) h = (map-each f (R (f x)) xs (h .0), map-pairs f R xs (h .1))
+
 -- a list without some of its elements
 pub data Among {A : Type 0} : List A → List A → Type 0 where
   nothing : Among [] []
@@ -106,6 +111,11 @@ pub data Among {A : Type 0} : List A → List A → Type 0 where
 pub among-same : {A : Type 0} (xs : List A) → Among xs xs
 among-same [] = nothing
 among-same (x ∷ xs) = keeps x xs xs (among-same xs)
+
+pub among-left : {A : Type 0} (xs ys : List A) → Among xs (xs ++ ys)
+among-left [] [] = nothing
+among-left [] (y ∷ ys) = drops y [] ys (among-left [] ys)
+among-left (x ∷ xs) ys = keeps x xs (xs ++ ys) (among-left xs ys)
 
 pub among-append : {A : Type 0} (xs ys zs : List A) → Among xs ys → Among (xs ++ zs) (ys ++ zs)
 among-append xs ys zs nothing = among-same zs
@@ -131,7 +141,7 @@ among-trans xs ys zs (keeps b ss ts h) (keeps a us vs g) = keeps a ss vs (among-
 among-trans xs ys zs (drops b ss ts h) (keeps a us vs g) = drops a xs vs (among-trans xs us vs h g)
 
 -- what stands is among what came
-others-among : (at base : ℕ) (S : List Arrival) → Among (others at base S) S
+pub others-among : (at base : ℕ) (S : List Arrival) → Among (others at base S) S
 unfolding others
 others-among at base [] = nothing
 others-among at base (a ∷ S) = go (isCrs (a .coming) || not (eqb (baseOf (a .coming)) base)) (others-among at base S)
@@ -153,7 +163,9 @@ standing-among at (t ∷ ts) =
     among-append (if done at t then stay at (t .call) (standing at ts) else standing at ts) (arrived at ts) (brought at t)
     (go (done at t) (standing-among at ts))
   where
-    go : (b : Bool) → Among (standing at ts) (arrived at ts) → Among (if b then stay at (t .call) (standing at ts) else standing at ts) (arrived at ts)
+    go
+        : (b : Bool) → Among (standing at ts) (arrived at ts)
+        → Among (if b then stay at (t .call) (standing at ts) else standing at ts) (arrived at ts)
     go true h = among-trans (stay at (t .call) (standing at ts)) (standing at ts) (arrived at ts) (stay-among at (t .call) (standing at ts)) h
     go false h = h
 

@@ -3,22 +3,20 @@ use Prim.Native.Nat.{ℕ, zero, suc, _+_, _<_}
 use mathlib.Core.Path.{_≡_, refl, sym, ap, _∙_}
 use mathlib.Core.Logic.{_≢_}
 use mathlib.Core.List.{List, [], _∷_, _++_}
-use mathlib.Core.Bool.{true, false}
+use mathlib.Core.Bool.{false}
 use native.Mathlib.Omega.{arith}
-use lib.ListN.{length, getD, length-append, List·getD-append}
-use lib.Dec.{eqb}
+use lib.ListN.{length, getD, List·getD-append}
 use borrow.Author.Tests.{eq-eqb, ne-eqb}
-use Rattle.window.specs.Memory.{if_then_else_}
 use Rattle.register.specs.Module.{Module, Register}
 use Rattle.register.specs.Change.{without}
-use Rattle.linker.specs.Calls.{Standing, unknown, stands, firstWithBase}
+use Rattle.linker.specs.Calls.{unknown, stands, firstWithBase}
 use Rattle.history.specs.Arrival.{Image, Arrival, imageOf, baseOf, isCrs}
-use Rattle.history.specs.Sessions.{SameModule, SameModules, SameRegister, others}
-use Rattle.history.specs.Demand3.{Each, Pairs}
+use Rattle.history.specs.Sessions.{SameModules, SameRegister, others}
+use Rattle.history.specs.Demand3.{Pairs}
 use Rattle.history_steps.specs.Records.{Recorded, recorded-same}
 use Rattle.history_steps.specs.Own.{RecordedAll}
 use Rattle.history_steps.specs.Leaving.{skip, skip-low, skip-high}
-use Rattle.history_sessions.specs.Lists.{each-at, pairs-at, lacking, lacking-at, lacking-length, skip-suc, OtherBase, Leaver, leaves, stays}
+use Rattle.history_sessions.specs.Lists.{each-at, pairs-at, lacking, lacking-at, skip-suc, OtherBase, Leaver, leaves, stays}
 use Rattle.history_sessions.specs.Unique.{noArrival, imageAt}
 
 -- another order of the named exports

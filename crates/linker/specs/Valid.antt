@@ -77,7 +77,7 @@ noted-names Nothing name ns g h = go (ltb (length ns) mostMissing) refl
     go false e = h
 
 module _ (at : ℕ) where
-  imports-yield
+  pub imports-yield
       : (ms : List Module) (base : ℕ) (ns : List (List ℕ)) → Names ns → Yields at Names (applyImportNamedSymbols ms base ns)
   unfolding applyImportNamedSymbols importNamed
   imports-yield ms base ns h =
