@@ -152,7 +152,8 @@ unfolding
     linkerCalls.rebaseWith linkerCalls.rebase linkerCalls.rebaseStatic linkerCalls.fits linkerCalls.enter linkerCalls.initialized
     linkerCalls.initialize linkerCalls.listed linkerCalls.missingNow linkerCalls.linked linkerCalls.load linkerCalls.firstWithBase
     linkerCalls.unlisted linkerCalls.leave linkerCalls.unload linkerOutcome.registerAfter linkerOutcome.settle linkerOutcome.outcome
-    linkerOutcome.initializeOutcome linkerOutcome.loadOutcome linkerOutcome.unloadOutcome
+    linkerOutcome.initializeOutcome linkerOutcome.loadOutcome linkerOutcome.unloadOutcome linkerLists.becomesHead linkerLists.becomesTail
+    linkerFix.endTables linkerUnrebase.unmoveSegment
 computed =
     record {
       n₁ = refl;
