@@ -61,10 +61,10 @@ module _ (S : List Arrival) (rest : ℕ → Memory) (M : Memory) (h : Resting (l
         (at-each (λ a. (p : ℕ) → Exporter (imageOf a) (imageAt S k) i p → Holds M (imageAt S k) i p) S noArrival
         (λ j g p e. holds-exporter (imageAt S k) (h .stands k l) (length S) (imageAt S) (h .final k l) i c j g p e)),
     λ o.
-    holds-handler (imageAt S k) (h .stands k l) (length S) (imageAt S) (h .final k l) i c
-    (λ j g p e.
-    each-at (λ a. (p : ℕ) → Exporter (imageOf a) (imageAt S k) i p → ⊥) S noArrival
-    (each-map imageOf (λ x. (p : ℕ) → Exporter x (imageAt S k) i p → ⊥) S o) j g p e),
+        holds-handler (imageAt S k) (h .stands k l) (length S) (imageAt S) (h .final k l) i c
+        (λ j g p e.
+        each-at (λ a. (p : ℕ) → Exporter (imageOf a) (imageAt S k) i p → ⊥) S noArrival
+        (each-map imageOf (λ x. (p : ℕ) → Exporter x (imageAt S k) i p → ⊥) S o) j g p e),
   )
 
   -- what the CRS exports to itself nobody else does

@@ -1,0 +1,2 @@
+-- Demand 3, by induction over a session's calls.
+pub mod Invariant
