@@ -87,16 +87,16 @@ cast-same {n} {o} {x} {y} {T} {U} e f g =
     ∙ ap {B = Cast} (λ z. record { number = o; image = z; rest = T }) (fun-ext f)
     ∙ ap {B = Cast} (λ z. record { number = o; image = y; rest = z }) (fun-ext g)
 
-last-at : (S : List Arrival) (a d : Arrival) → getD (S ++ (a ∷ [])) (length S) d ≡ a
+pub last-at : (S : List Arrival) (a d : Arrival) → getD (S ++ (a ∷ [])) (length S) d ≡ a
 last-at [] a d = refl
 last-at (b ∷ S) a d = last-at S a d
 
-more-length : (S : List Arrival) (a : Arrival) → suc (length S) ≡ length (S ++ (a ∷ []))
+pub more-length : (S : List Arrival) (a : Arrival) → suc (length S) ≡ length (S ++ (a ∷ []))
 more-length [] a = refl
 more-length (b ∷ S) a = ap suc (more-length S a)
 
 -- one more at the end of the list
-more-at
+pub more-at
     : {B : Type 0} (f : Arrival → B) (S : List Arrival) (a : Arrival) (k : ℕ)
     → put (λ i. f (getD S i noArrival)) (length S) (f a) k ≡ f (getD (S ++ (a ∷ [])) k noArrival)
 more-at {B} f S a k = go (ℕ-discrete k (length S)) (decLt k (length S))

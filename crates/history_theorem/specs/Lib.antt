@@ -1,2 +1,3 @@
 -- Demand 3, by induction over a session's calls.
 pub mod Invariant
+pub mod Calls
