@@ -3,6 +3,7 @@ use Prim.Native.Nat.{ℕ, zero, suc, pred, _+_, _^_, _≤_, _<_}
 use mathlib.Core.Path.{_≡_, refl, sym, ap, _∙_, fun-ext, subst}
 use mathlib.Core.Logic.{_≢_}
 use mathlib.Core.List.{List, [], _∷_, _++_}
+use mathlib.Core.Option.{none}
 use mathlib.Core.Bool.{Bool, true, false, not}
 use native.Mathlib.Omega.{arith}
 use lib.ListN.{length, getD, List·getD-append}
@@ -25,12 +26,17 @@ use Rattle.history.specs.Demand3.{OtherExports}
 use Rattle.history_steps.specs.Wp.{Memory, Does}
 use Rattle.history_steps.specs.Windowed.{windowed}
 use Rattle.history_steps.specs.World.{Cast, Sound, All, put}
+use Rattle.history_steps.specs.View.{View}
+use Rattle.history_steps.specs.Links.{Stands}
+use Rattle.history_steps.specs.Final.{Final}
+use Rattle.history_steps.specs.Own.{RecordedAll}
 use Rattle.history_steps.specs.Leaving.{skip, skip-below}
 use Rattle.history_rebase.specs.Once.{Unlike}
 use Rattle.history_rebase.specs.Gone.{fewer, fewer-sound}
 use Rattle.history_rebase.specs.Unloads.{AtRest, unload-does}
-use Rattle.history_calls.specs.Scene.{Scene, Book, extended}
+use Rattle.history_calls.specs.Scene.{Scene, Book, extended, listed-same, final-same, recorded-same}
 use Rattle.history_calls.specs.Loads.{Joined, Came, Answered, Reach, Once, Names, loads, restOf}
+use Rattle.history_calls.specs.Starts.{Started, Begun, starts}
 use Rattle.history_calls.specs.Unique.{exports-once}
 use Rattle.history_sessions.specs.Lists.{lacking, lacking-at, lacking-length}
 use Rattle.history_sessions.specs.Unique.{noArrival, imageAt}
@@ -209,3 +215,62 @@ module _ (at : ℕ) (w : List ℕ) (S : List Arrival) (r : Register) (h : Restin
         does =
             loads (castOf S) l auto level (m .file) laid low bytes data-low bss-low off nonzero c d once other (h .scene) r (h .book)
             (λ o i. cut-fresh new o i) records names
+
+-- `initialize`, with no module before
+module _ (at : ℕ) (w : List ℕ) (r : Register) (none-yet : r .modules ≡ []) (base size : ℕ) where
+  abbrev crs : Arrival
+  crs = record { coming = initialized base size; bytes = byteAt at w }
+
+  started-rests : {s : Register} {N : Memory} → Started (imageOf crs) (byteAt at w) s N → Resting (crs ∷ []) s N
+  unfolding restFor RecordedAll
+  started-rests {s} {N} g =
+      record {
+        links = λ _ _. none;
+        next = λ _. 0;
+        previous = λ _. 0;
+        scene =
+            record {
+              sound =
+                  record {
+                    laid = first (λ k x T. WellLaid x) (g .scene .sound .laid);
+                    low = first (λ k x T. Low (Area x)) (g .scene .sound .low);
+                    view = first (λ k x T. View x T) (g .scene .sound .view);
+                    apart = λ j k q l i o. absurd (o (omega arith));
+                  };
+              some = lit< tt;
+              nonzero = first (λ k x T. baseOf (x .coming) ≢ 0) (g .scene .nonzero);
+              world = record { stands = first (λ k x T. Stands x T (λ _. none) 0 0 N) (g .scene .world .stands) };
+              listed = listed-same 1 (first (λ k x T. base ≡ baseOf (x .coming)) (λ k l. refl)) (λ k l. refl) (λ k l. refl) (g .scene .listed);
+              links = λ j l. final-same 1 (first (λ k x T. imageOf crs ≡ x) (λ k l. refl)) (first (λ k x T. Final 1 (λ _. imageOf crs) x (λ _. none)) (g .scene .links) j l);
+            };
+        book =
+            record {
+              recorded =
+                  recorded-same (λ _. imageOf crs) (imageAt (crs ∷ [])) (s .modules)
+                  (λ k l. first (λ k x T. imageOf crs ≡ x) (λ k l. refl) k (rw (g .book .many) at l)) (g .book .recorded);
+              many = g .book .many;
+              crs = g .book .crs;
+            };
+      }
+    where
+      first
+          : (P : ℕ → Image → Memory → Type 0) → ((k : ℕ) → k < 1 → P k (imageOf crs) (g .rest)) → (k : ℕ) → k < 1
+          → P k (imageAt (crs ∷ []) k) (restOfArrival (getD (crs ∷ []) k noArrival))
+      first P f zero l = subst (P 0 (imageOf crs)) (g .bytes) (f 0 l)
+      first P f (suc k) l = absurd (omega arith)
+
+  pub initialize-rests
+      : Fine at (length w) (crs ∷ []) → ((i : ℕ) → getD w i 0 < 256) → (records names v : ℕ) (s : Register)
+      → run at (calls.initialize base size records names r) w .0 ≡ Done v s
+      → Resting (crs ∷ []) s (byteAt at (run at (calls.initialize base size records names r) w .1))
+  unfolding Begun
+  initialize-rests f small records names v s e =
+      let m = imageOf crs in
+      let p = calls.initialize base size records names r in
+      let one : 0 < length (crs ∷ []) = lit< tt in
+      let g =
+      in-window (Area m) at w (λ q u. in-lies at (length w) q (f .top) (f .inside 0 q one u)) p (Begun m (byteAt at w))
+      (starts base size (m .file) (f .laid 0 one) (fine-low at (length w) (crs ∷ []) f 0 one)
+      (λ o i. rw (← cut-fresh crs o i) (byteAt-small at w (base + o) small)) (f .nonzero 0 one) (λ o i. cut-fresh crs o i) r none-yet records names) in
+      let begun : Started m (byteAt at w) s (g .0) = subst (λ a. Begun m (byteAt at w) a (g .0)) e (g .1) in
+      resting-agree (crs ∷ []) (λ k i q u. g .2 q (let z : k ≡ 0 = omega arith in rw z at u)) (started-rests begun)
