@@ -1,3 +1,4 @@
 -- Demand 3, by induction over a session's calls.
 pub mod Invariant
 pub mod Calls
+pub mod Back
