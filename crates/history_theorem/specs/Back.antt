@@ -30,6 +30,7 @@ use Rattle.linker.specs.Fix.{fix}
 use Rattle.linker.specs.Calls.{Answer, NotACro, BadSegment, NoRoom, Kept, Done, rebase, rebaseStatic, fits, enter, initialized, initialize, listed, missingNow, linked, load}
 use Rattle.linker.specs.Gives.{Yields, yields-ret, yields-bind, yields-then, yields-if}
 use Rattle.linker.specs.Room.{Small, Fits, fits-means, with, with-small}
+use Rattle.linker.specs.Valid.{Names, imports-yield}
 use Rattle.linker.specs.Reads.{Readable, readModule-yields}
 use Rattle.history_sessions.specs.Answers.{encoded-back}
 
@@ -43,17 +44,13 @@ Backs records names NoRoom = Unit {0}
 Backs records names Kept = Unit {0}
 Backs records names (Done v s) = Back records names s
 
--- at most 64 missing names, all of them names
-abbrev pub FewNames : List (List ℕ) → Type 0
-FewNames ns = (length ns ≤ 64) × (properNames ns ≡ true)
-
 module _ (at records names : ℕ) (r : Register) (p : proper r ≡ true) (s : Below (2 ^ 32) (encodeWords r)) where
   abbrev L : Answer → Type 0
   L a = Backs records names a
 
   -- a module more
   with-back
-      : (m : Module) → Readable at m → (f : Fits records names r m) (c : Crs) (missing : List (List ℕ)) → crsBase c < 2 ^ 32 → FewNames missing
+      : (m : Module) → Readable at m → (f : Fits records names r m) (c : Crs) (missing : List (List ℕ)) → crsBase c < 2 ^ 32 → Names missing
       → Back records names (record { modules = appended r m .modules; crs = c; missing = missing })
   unfolding encodeWords appended
   with-back m k f c missing hc h =
@@ -89,19 +86,15 @@ module _ (at records names : ℕ) (r : Register) (p : proper r ≡ true) (s : Be
   unfolding encodeWords
   crs-small = s 2
 
-  -- the missing names that a load notes are few
-  pub load-back
-      : (l : Lent) (auto : Bool) (level : ℕ) → l .base < 2 ^ 32 → l .size < 2 ^ 32
-      → ((ms : List Module) (ns : List (List ℕ)) → FewNames ns → Yields at FewNames (applyImportNamedSymbols ms (l .base) ns))
-      → Yields at L (load l auto level records names r)
+  pub load-back : (l : Lent) (auto : Bool) (level : ℕ) → l .base < 2 ^ 32 → l .size < 2 ^ 32 → Yields at L (load l auto level records names r)
   unfolding load linked missingNow appended
-  load-back l auto level hb hs few =
+  load-back l auto level hb hs =
       let a = proper-parts r p in
       yields-then at L (rebase l) _
       (enter-back (l .base) (l .size) auto _ hb hs
       (λ m k f. yields-then at L (listed (r .crs) (l .base) auto) _
-      (λ _. yields-bind at FewNames L (applyImportNamedSymbols (appended r m .modules) (l .base) (r .missing)) _
-      (few (appended r m .modules) (r .missing) (a .few, a .kept))
+      (λ _. yields-bind at Names L (applyImportNamedSymbols (appended r m .modules) (l .base) (r .missing)) _
+      (imports-yield at (appended r m .modules) (l .base) (r .missing) (a .few, a .kept))
       (λ ns g. yields-then at L (applyModuleImports (appended r m .modules) (l .base)) _
       (λ _. yields-then at L (applyExportsToLoaded m (r .modules)) _
       (λ _. yields-then at L (fix (l .base) (l .size) level) _

@@ -2,3 +2,5 @@
 pub mod Invariant
 pub mod Calls
 pub mod Back
+pub mod Turns
+pub mod Fine
