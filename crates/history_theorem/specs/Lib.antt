@@ -4,3 +4,4 @@ pub mod Calls
 pub mod Back
 pub mod Turns
 pub mod Fine
+pub mod Step
