@@ -74,3 +74,60 @@ module _ (at : ℕ) (t : Turn) (ts : List Turn) where
       some-came (λ z. o (sym a ∙ z)) (subst (λ S. isCrs (imageAt S 0 .coming) ≡ true) (sym s) c)
       (subst (λ S. RestingIn at S (after t)) (sym s)
       (follows-rests at t (standing at ts) f (subst (RestingIn at (standing at ts)) (sym e) h)))
+
+  module _ (f : Follows at t) (typed : Typed t) (h : Premises at (t ∷ ts)) (d : done at t ≡ true) where
+    did : (c : Call) → t .call ≡ c → Performed c at b
+    did c e = performed c at b (subst (λ x. given x at b .number ≡ 0) e (done-zero at t d))
+
+    among : (S : List Arrival) → standing at (t ∷ ts) ≡ S → Among S (arrived at (t ∷ ts))
+    among S e = subst (λ x. Among x (arrived at (t ∷ ts))) e (standing-among at (t ∷ ts))
+
+    follow : (c : Call) → t .call ≡ c → (S : List Arrival) → standing at (t ∷ ts) ≡ S → RestingIn at S (given c at b .left) → RestingIn at (standing at (t ∷ ts)) (after t)
+    follow c e S s g =
+        subst (λ x. RestingIn at x (after t)) (sym s) (follows-rests at t S f (subst (λ x. RestingIn at S (given x at b .left)) (sym e) g))
+
+    order : (c : Call) → t .call ≡ c → InOrder c (arrived at ts)
+    unfolding CrsFirst
+    order c e = subst (λ x. InOrder x (arrived at ts)) e (h .crs-first .0 d)
+
+    words : (c : Call) → t .call ≡ c → Words c
+    words c e = subst Words e (typed .0)
+
+    came-some : (A : List Arrival) (a : Arrival) → arrived at (t ∷ ts) ≡ A ++ (a ∷ []) → arrived at (t ∷ ts) ≢ []
+    came-some A a e z = let n = more-length A a in let y : length (A ++ (a ∷ [])) ≡ 0 = ap length (sym e ∙ z) in absurd (omega (arith, n, y))
+
+    initialize-step : (base size : ℕ) → t .call ≡ initialize base size → Holding at ts b → Holding at (t ∷ ts) (after t)
+    unfolding InOrder Words comes stay Fresh
+    initialize-step base size e (some-came o c g) = absurd (o (order (initialize base size) e))
+    initialize-step base size e (none-came n g) =
+        let x = lists-done d (initialize base size) e in
+        let a : Arrival = record { coming = initialized base size; bytes = byteAt at (b .window) } in
+        let p = did (initialize base size) e in
+        let s : standing at (t ∷ ts) ≡ a ∷ [] = x .1 ∙ ap (λ S. S ++ (a ∷ [])) (among-none (standing at ts) (arrived at ts) (standing-among at ts) n) in
+        let w = words (initialize base size) e in
+        some-came (came-some (arrived at ts) a (x .0)) (subst (λ S. isCrs (imageAt S 0 .coming) ≡ true) (sym s) refl)
+        (follow (initialize base size) e (a ∷ []) s
+        (initialize-turn at b (typed .1) base size (w .0) (w .1) p (g (p .valid) .0)
+        (fine at t ts h (a ∷ []) (among (a ∷ []) s) (good-end at (b .window) (p .good)))))
+
+    load-step : (l : Lent) (auto level : ℕ) → t .call ≡ load l auto level → Holding at ts b → Holding at (t ∷ ts) (after t)
+    unfolding InOrder Words comes stay AutoLinked ImportsKept
+    load-step l auto level e (none-came n g) = absurd (order (load l auto level) e n)
+    load-step l auto level e (some-came o c g) =
+        let x = lists-done d (load l auto level) e in
+        let a : Arrival = record { coming = loaded l auto level; bytes = byteAt at (b .window) } in
+        let p = did (load l auto level) e in
+        let S = standing at ts in
+        let m : Among (S ++ (a ∷ [])) (arrived at (t ∷ ts)) = among (S ++ (a ∷ [])) (x .1) in
+        let top : length S < length (S ++ (a ∷ [])) = let n = more-length S a in omega (arith, n) in
+        let auto-linked : AutoLinked (loaded l auto level) =
+        subst (λ y. AutoLinked (y .coming)) (last-at S a noArrival) (auto-at at (t ∷ ts) h (S ++ (a ∷ [])) m (length S) top) in
+        let kept : ImportsKept (loaded l auto level) =
+        subst (λ y. ImportsKept (y .coming)) (last-at S a noArrival) (kept-at at (t ∷ ts) h (S ++ (a ∷ [])) m (length S) top) in
+        let w = words (load l auto level) e in
+        some-came (came-some (arrived at ts) a (x .0))
+        (subst (λ T. isCrs (imageAt T 0 .coming) ≡ true) (sym (x .1))
+        (subst (λ y. isCrs (y .coming) ≡ true) (sym (List·getD-append S (a ∷ []) noArrival 0 (g .scene .some))) c))
+        (follow (load l auto level) e (S ++ (a ∷ [])) (x .1)
+        (load-turn at b (typed .1) S l auto level (w .0) (w .1) (w .2) (w .4) auto-linked (kept .0) (kept .1) p g
+        (fine at t ts h (S ++ (a ∷ [])) m (good-end at (b .window) (p .good)))))
