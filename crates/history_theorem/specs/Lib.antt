@@ -5,3 +5,4 @@ pub mod Back
 pub mod Turns
 pub mod Fine
 pub mod Step
+pub mod Theorem

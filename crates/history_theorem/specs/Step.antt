@@ -16,11 +16,11 @@ use Rattle.linker.specs.Refusals.{lentRegister}
 use Rattle.linker.specs.Valid.{Valid, AreBytes}
 use Rattle.history.specs.Arrival.{initialized, loaded, Arrival, imageOf, baseOf, isCrs}
 use Rattle.history.specs.Sessions.{Call, initialize, load, unload, given, Turn, after, expected, Follows, Fresh, Words, Typed, SameBytes, done, comes, brought, arrived, others, stay, standing, Between}
-use Rattle.history.specs.Demand3.{Each, InOrder, AutoLinked, ImportsKept, Harmless, CrsFirst, Premises}
+use Rattle.history.specs.Demand3.{Each, Pairs, InOrder, AutoLinked, ImportsKept, Harmless, CrsFirst, Premises}
 use Rattle.history_steps.specs.Leaving.{skip, skip-low}
-use Rattle.history_sessions.specs.Lists.{lacking, lacking-at, Among, nothing, keeps, drops, among-each, standing-among, leaver}
+use Rattle.history_sessions.specs.Lists.{lacking, lacking-at, OtherBase, Among, nothing, keeps, drops, among-each, standing-among, leaver}
 use Rattle.history_sessions.specs.Unique.{noArrival, imageAt, auto-at, kept-at, other-bases}
-use Rattle.history_sessions.specs.Registers.{Found, goes, none, found}
+use Rattle.history_sessions.specs.Registers.{Registered, Found, goes, none, found}
 use Rattle.history_sessions.specs.Answers.{Performed, performed, done-zero, unload-unknown}
 use Rattle.history_theorem.specs.Invariant.{Resting, last-at, more-length}
 use Rattle.history_theorem.specs.Turns.{RestingIn, follows-rests, between-rests, initialize-turn, load-turn, unload-turn}
@@ -35,7 +35,7 @@ nil-right : (xs : List Arrival) → xs ++ [] ≡ xs
 nil-right [] = refl
 nil-right (x ∷ xs) = ap (λ ys. x ∷ ys) (nil-right xs)
 
-among-none : (S A : List Arrival) → Among S A → A ≡ [] → S ≡ []
+pub among-none : (S A : List Arrival) → Among S A → A ≡ [] → S ≡ []
 among-none S A nothing e = refl
 among-none S A (keeps a us vs h) e = let z : suc (length vs) ≡ 0 = ap length e in absurd (omega arith)
 among-none S A (drops a us vs h) e = let z : suc (length vs) ≡ 0 = ap length e in absurd (omega arith)
@@ -131,3 +131,70 @@ module _ (at : ℕ) (t : Turn) (ts : List Turn) where
         (follow (load l auto level) e (S ++ (a ∷ [])) (x .1)
         (load-turn at b (typed .1) S l auto level (w .0) (w .1) (w .2) (w .4) auto-linked (kept .0) (kept .1) p g
         (fine at t ts h (S ++ (a ∷ [])) m (good-end at (b .window) (p .good)))))
+
+    unload-step : (base : ℕ) → t .call ≡ unload base → Holding at ts b → Holding at (t ∷ ts) (after t)
+    unfolding InOrder comes stay Fresh others firstWithBase
+    unload-step base e (none-came n g) =
+        let x = lists-done d (unload base) e in
+        let p = did (unload base) e in
+        let s : standing at ts ≡ [] = among-none (standing at ts) (arrived at ts) (standing-among at ts) n in
+        let z : firstWithBase base (lentRegister b .modules) 0 ≡ unknown = rw (g (p .valid) .0) refl in
+        quiet f (x .0 ∙ nil-right (arrived at ts)) (x .1 ∙ ap (λ S. others at base S ++ []) s ∙ sym s)
+        (ap (λ c. given c at b .left) e ∙ unload-unknown base at b p z) (none-came n g)
+    unload-step base e (some-came o c g) = go (found at base S (lentRegister b) bases registered (leaver at base S bases crs))
+      where
+        S : List Arrival
+        S = standing at ts
+
+        x : (arrived at (t ∷ ts) ≡ arrived at ts ++ []) × (standing at (t ∷ ts) ≡ others at base S ++ [])
+        x = lists-done d (unload base) e
+
+        m : Among S (arrived at (t ∷ ts))
+        m = subst (Among S) (sym (x .0 ∙ nil-right (arrived at ts))) (standing-among at ts)
+
+        p : Performed (unload base) at b
+        p = did (unload base) e
+
+        bases : Pairs OtherBase S
+        bases = other-bases at (t ∷ ts) h S m
+
+        registered : Registered S (lentRegister b)
+        registered = record { recorded = g .book .recorded; number = g .book .many }
+
+        crs : Each (λ a. isCrs (a .coming) ≡ true → baseOf (a .coming) ≢ base) S
+        crs =
+            among-each (λ a. isCrs (a .coming) ≡ true → baseOf (a .coming) ≢ base) S (arrived at ts) (standing-among at ts)
+            (order (unload base) e)
+
+        above : (k : ℕ) → isCrs (imageAt S k .coming) ≡ false → 0 < k
+        above zero i = let z : _≡_ {A = Bool} true false = sym c ∙ i in let y : _≡_ {A = ℕ} 0 1 = cc in absurd (omega arith)
+        above (suc k) i = omega arith
+
+        came : arrived at (t ∷ ts) ≢ []
+        came z = o (sym (x .0 ∙ nil-right (arrived at ts)) ∙ z)
+
+        go : Found at base S (lentRegister b .modules) → Holding at (t ∷ ts) (after t)
+        go (none q z) =
+            quiet f (x .0 ∙ nil-right (arrived at ts)) (x .1 ∙ nil-right (others at base S) ∙ q)
+            (ap (λ c. given c at b .left) e ∙ unload-unknown base at b p z) (some-came o c g)
+        go (goes k r l y i q z rec) =
+            let s : standing at (t ∷ ts) ≡ lacking S k = x .1 ∙ nil-right (others at base S) ∙ q in
+            let u = above k i in
+            some-came came
+            (subst (λ T. isCrs (imageAt T 0 .coming) ≡ true) (sym s)
+            (subst (λ a. isCrs (a .coming) ≡ true) (sym (lacking-at S k noArrival 0 ∙ ap (λ j. getD S j noArrival) (skip-low k 0 u))) c))
+            (follow (unload base) e (lacking S k) s
+            (unload-turn at b (typed .1) S base k u l y p g (fine at t ts h S m (good-end at (b .window) (p .good))) r z))
+
+  pub step : Follows at t → Typed t → Premises at (t ∷ ts) → Holding at ts b → Holding at (t ∷ ts) (after t)
+  unfolding Each Harmless
+  step f typed h g = go (done at t) refl
+    where
+      call : done at t ≡ true → (c : Call) → t .call ≡ c → Holding at (t ∷ ts) (after t)
+      call d (initialize base size) e = initialize-step f typed h d base size e g
+      call d (load l auto level) e = load-step f typed h d l auto level e g
+      call d (unload base) e = unload-step f typed h d base e g
+
+      go : (x : Bool) → done at t ≡ x → Holding at (t ∷ ts) (after t)
+      go true d = call d (t .call) refl
+      go false d = let l = lists-refused d in quiet f (l .0) (l .1) (h .harmless .0 d) g
