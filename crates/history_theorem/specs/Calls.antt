@@ -6,6 +6,7 @@ use mathlib.Core.List.{List, [], _∷_, _++_}
 use mathlib.Core.Option.{none}
 use mathlib.Core.Bool.{Bool, true, false, not}
 use native.Mathlib.Omega.{arith}
+use native.Mathlib.Decide.{ℕ-discrete}
 use lib.ListN.{length, getD, List·getD-append}
 use lib.Dec.{eqb, ltb, lit<}
 use borrow.Author.Tests.{lt-ltb, ne-eqb}
@@ -18,7 +19,7 @@ use Rattle.register.specs.Module.{Register}
 use Rattle.register.specs.Change.{removed}
 use Rattle.linker.specs.declared.rebase.Lent.{Lent}
 use Rattle.linker.specs.Calls as calls
-use Rattle.linker.specs.Calls.{Answer, Done}
+use Rattle.linker.specs.Calls.{Answer, Done, rebaseStatic}
 use Rattle.history.specs.Image.{moduleName}
 use Rattle.history.specs.Arrival.{initialized, loaded, Image, Arrival, cut, imageOf, baseOf, sizeOf, Area}
 use Rattle.history.specs.WellLaid.{WellLaid}
@@ -35,12 +36,13 @@ use Rattle.history_rebase.specs.Once.{Unlike}
 use Rattle.history_rebase.specs.Gone.{fewer, fewer-sound}
 use Rattle.history_rebase.specs.Unloads.{AtRest, unload-does}
 use Rattle.history_calls.specs.Scene.{Scene, Book, extended, listed-same, final-same, recorded-same}
+use Rattle.history_calls.specs.Bringing.{brought}
 use Rattle.history_calls.specs.Loads.{Joined, Came, Answered, Reach, Once, Names, loads, restOf}
 use Rattle.history_calls.specs.Starts.{Started, Begun, starts}
 use Rattle.history_calls.specs.Unique.{exports-once}
 use Rattle.history_sessions.specs.Lists.{lacking, lacking-at, lacking-length}
 use Rattle.history_sessions.specs.Unique.{noArrival, imageAt}
-use Rattle.history_theorem.specs.Invariant.{restFor, restOfArrival, castOf, Resting, to-rest, from-rest, resting-agree, last-at, more-length, more-at, cast-more, cast-less}
+use Rattle.history_theorem.specs.Invariant.{restFor, restOfArrival, castOf, Alike, Resting, to-rest, resting-agree, last-at, more-length, more-at, cast-more, cast-less}
 
 -- what the premises say of the modules of a list, n bytes from at being the window
 pub record Fine (at n : ℕ) (S : List Arrival) : Type 0 where
@@ -82,8 +84,8 @@ in-window S at w fit m Q h =
 
 joined-rests
     : (S : List Arrival) (a : Arrival) {s : Register} {N : Memory} (T : Memory) → T ≡ restOfArrival a → Joined (castOf S) (imageOf a) T s N
-    → Resting (S ++ (a ∷ [])) s N
-joined-rests S a {s} {N} T e j =
+    → ((k : ℕ) → k < length S → Alike (getD S k noArrival)) → Alike a → Resting (S ++ (a ∷ [])) s N
+joined-rests S a {s} {N} T e j old new =
     let c : extended (castOf S) (imageOf a) T ≡ castOf (S ++ (a ∷ [])) = ap (extended (castOf S) (imageOf a)) e ∙ cast-more S a in
     record {
       links = j .links;
@@ -91,13 +93,21 @@ joined-rests S a {s} {N} T e j =
       previous = j .previous;
       scene = subst (λ C. Scene C (j .links) (j .next) (j .previous) N) c (j .scene);
       book = subst (λ C. Book C s) c (j .book);
+      alike = λ k l. each k l (ℕ-discrete k (length S));
     }
+  where
+    each : (k : ℕ) → k < length (S ++ (a ∷ [])) → Dec (k ≡ length S) → Alike (getD (S ++ (a ∷ [])) k noArrival)
+    each k l (yes z) = rw z (subst Alike (sym (last-at S a noArrival)) new)
+    each k l (no z) =
+        let g : k < length S = let n = more-length S a in omega (arith, n) in
+        subst Alike (sym (List·getD-append S (a ∷ []) noArrival k g)) (old k g)
 
 -- one less
 fewer-rests
     : (S : List Arrival) (d : ℕ) → 0 < d → (l : d < length S) → ((k : ℕ) → k < length S → baseOf (imageAt S k .coming) ≢ 0)
-    → (sound : Sound (fewer (castOf S) d)) {s : Register} {N : Memory} → AtRest (fewer (castOf S) d) sound s N → Resting (lacking S d) s N
-fewer-rests S d above l nonzero sound {s} {N} h =
+    → (sound : Sound (fewer (castOf S) d)) {s : Register} {N : Memory} → AtRest (fewer (castOf S) d) sound s N
+    → ((k : ℕ) → k < length S → Alike (getD S k noArrival)) → Resting (lacking S d) s N
+fewer-rests S d above l nonzero sound {s} {N} h old =
     let c = cast-less S d l in
     record {
       links = h .links;
@@ -114,6 +124,10 @@ fewer-rests S d above l nonzero sound {s} {N} h =
             links = h .final;
           });
       book = subst (λ C. Book C s) c (record { recorded = h .recorded; many = h .many; crs = h .crs });
+      alike =
+          λ k g.
+          let e = lacking-length S d l in
+          subst Alike (sym (lacking-at S d noArrival k)) (old (skip d k) (skip-below (length S) d k l (omega (arith, e))));
     }
   where
     some : 0 < pred (length S)
@@ -134,7 +148,7 @@ module _ (at : ℕ) (w : List ℕ) (S : List Arrival) (r : Register) (h : Restin
       (λ a N. (a ≡ Done 1 (removed r d)) × AtRest (fewer C d) (fewer-sound C so d below) (removed r d) N)
       (unload-does C so (fine-unlike at (length w) S f) d above below r (to-rest S h)) in
       resting-agree (lacking S d) (λ k l q u. g .2 q (skip d k, inside k l, there k q u))
-      (fewer-rests S d above below (f .nonzero) (fewer-sound C so d below) (g .1 .1))
+      (fewer-rests S d above below (f .nonzero) (fewer-sound C so d below) (g .1 .1) (h .alike))
     where
       inside : (k : ℕ) → k < length (lacking S d) → skip d k < length S
       inside k l = let e = lacking-length S d below in skip-below (length S) d k below (omega (arith, e))
@@ -172,7 +186,8 @@ module _ (at : ℕ) (w : List ℕ) (S : List Arrival) (r : Register) (h : Restin
         let came : Came (castOf S) l m level (byteAt at w) s (g .0) =
         subst (λ a. Answered (castOf S) l m level (byteAt at w) a (g .0)) e (g .1) in
         resting-agree more (λ k i q u. g .2 q (k, omega (arith, i, count), subst (λ x. Area (x k) q) (sym images-more) u))
-        (joined-rests S new (came .rest) (came .bytes) (came .joined))
+        (joined-rests S new (came .rest) (came .bytes) (came .joined) (h .alike)
+        (λ D x. subst (λ T. Agree (Area m) T (restOf l m level D)) (came .bytes) (came .alike D x)))
       where
         m : Image
         m = imageOf new
@@ -251,6 +266,7 @@ module _ (at : ℕ) (w : List ℕ) (r : Register) (none-yet : r .modules ≡ [])
               many = g .book .many;
               crs = g .book .crs;
             };
+        alike = alike;
       }
     where
       first
@@ -258,6 +274,10 @@ module _ (at : ℕ) (w : List ℕ) (r : Register) (none-yet : r .modules ≡ [])
           → P k (imageAt (crs ∷ []) k) (restOfArrival (getD (crs ∷ []) k noArrival))
       first P f zero l = subst (P 0 (imageOf crs)) (g .bytes) (f 0 l)
       first P f (suc k) l = absurd (omega arith)
+
+      alike : (k : ℕ) → k < 1 → Alike (getD (crs ∷ []) k noArrival)
+      alike zero l = λ D x. subst (λ T. Agree (Area (imageOf crs)) T (brought (rebaseStatic base) base D)) (g .bytes) (g .alike D x)
+      alike (suc k) l = absurd (omega arith)
 
   pub initialize-rests
       : Fine at (length w) (crs ∷ []) → ((i : ℕ) → getD w i 0 < 256) → (records names v : ℕ) (s : Register)

@@ -35,6 +35,11 @@ restOfArrival a = restFor (a .coming) (imageOf a) (a .bytes)
 abbrev pub castOf : List Arrival → Cast
 castOf S = record { number = length S; image = imageAt S; rest = λ k. restOfArrival (getD S k noArrival) }
 
+-- they are a matter of the bytes of its areas alone
+abbrev pub Alike : Arrival → Type 0
+Alike a =
+    (D : Memory) → Agree (Area (imageOf a)) (a .bytes) D → Agree (Area (imageOf a)) (restOfArrival a) (restFor (a .coming) (imageOf a) D)
+
 -- those of S stand at rest in M, and the register has their records
 pub record Resting (S : List Arrival) (r : Register) (M : Memory) : Type 0 where
   pub links : ℕ → Links
@@ -42,8 +47,9 @@ pub record Resting (S : List Arrival) (r : Register) (M : Memory) : Type 0 where
   pub previous : ℕ → ℕ
   pub scene : Scene (castOf S) links next previous M
   pub book : Book (castOf S) r
+  pub alike : (k : ℕ) → k < length S → Alike (getD S k noArrival)
 
--- the same, as an unload takes it and leaves it
+-- the same, as an unload takes it
 pub to-rest : (S : List Arrival) {r : Register} {M : Memory} (h : Resting S r M) → AtRest (castOf S) (h .scene .sound) r M
 to-rest S h =
     record {
@@ -58,27 +64,15 @@ to-rest S h =
       crs = h .book .crs;
     }
 
-pub from-rest
-    : (S : List Arrival) (sound : Sound (castOf S)) → 0 < length S → ((k : ℕ) → k < length S → baseIn (castOf S) k ≢ 0) → {r : Register} {M : Memory}
-    → AtRest (castOf S) sound r M → Resting S r M
-from-rest S sound some nonzero h =
-    record {
-      links = h .links;
-      next = h .next;
-      previous = h .previous;
-      scene = record { sound = sound; some = some; nonzero = nonzero; world = h .world; listed = h .listed; links = h .final };
-      book = record { recorded = h .recorded; many = h .many; crs = h .crs };
-    }
-
 -- bytes outside the areas do not matter, nor the order of named exports
 pub resting-agree
     : (S : List Arrival) {r : Register} {M N : Memory} → ((k : ℕ) → k < length S → Agree (Area (imageAt S k)) M N) → Resting S r M → Resting S r N
 resting-agree S e h =
-    record { links = h .links; next = h .next; previous = h .previous; scene = scene-agree e (h .scene); book = h .book }
+    record { links = h .links; next = h .next; previous = h .previous; scene = scene-agree e (h .scene); book = h .book; alike = h .alike }
 
 pub resting-same : (S : List Arrival) {r s : Register} {M : Memory} → SameRegister r s → Resting S r M → Resting S s M
 resting-same S e h =
-    record { links = h .links; next = h .next; previous = h .previous; scene = h .scene; book = book-same e (h .book) }
+    record { links = h .links; next = h .next; previous = h .previous; scene = h .scene; book = book-same e (h .book); alike = h .alike }
 
 cast-same : {n o : ℕ} {x y : ℕ → Image} {T U : ℕ → Memory} → n ≡ o → ((k : ℕ) → x k ≡ y k) → ((k : ℕ) → T k ≡ U k)
     → _≡_ {A = Cast} (record { number = n; image = x; rest = T }) (record { number = o; image = y; rest = U })
