@@ -6,3 +6,4 @@ pub mod Turns
 pub mod Fine
 pub mod Step
 pub mod Theorem
+pub mod Demand3

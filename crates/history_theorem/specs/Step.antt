@@ -82,7 +82,9 @@ module _ (at : ℕ) (t : Turn) (ts : List Turn) where
     among : (S : List Arrival) → standing at (t ∷ ts) ≡ S → Among S (arrived at (t ∷ ts))
     among S e = subst (λ x. Among x (arrived at (t ∷ ts))) e (standing-among at (t ∷ ts))
 
-    follow : (c : Call) → t .call ≡ c → (S : List Arrival) → standing at (t ∷ ts) ≡ S → RestingIn at S (given c at b .left) → RestingIn at (standing at (t ∷ ts)) (after t)
+    follow
+        : (c : Call) → t .call ≡ c → (S : List Arrival) → standing at (t ∷ ts) ≡ S → RestingIn at S (given c at b .left)
+        → RestingIn at (standing at (t ∷ ts)) (after t)
     follow c e S s g =
         subst (λ x. RestingIn at x (after t)) (sym s) (follows-rests at t S f (subst (λ x. RestingIn at S (given x at b .left)) (sym e) g))
 
