@@ -1,8 +1,8 @@
 -- The register that a call answers is read back from the bytes that it leaves.
-use Prim.Native.Nat.{ℕ, _+_, _*_, _^_, _≤_, _<_}
-use mathlib.Core.Path.{_≡_, refl, sym, ap, _∙_, subst}
+use Prim.Native.Nat.{ℕ, _+_, _*_, _^_, _<_}
+use mathlib.Core.Path.{_≡_, refl, ap, _∙_, subst}
 use mathlib.Core.List.{List}
-use mathlib.Core.Bool.{Bool, true, false}
+use mathlib.Core.Bool.{Bool, true}
 use native.Mathlib.Omega.{arith}
 use lib.ListN.{length, take}
 use Rattle.window.specs.Access.{Prog}
@@ -10,7 +10,7 @@ use Rattle.layout.specs.Header.{nextCro, previousCro}
 use Rattle.layout.specs.Segments.{setField}
 use Rattle.register.specs.declared.words.Crs.{Crs}
 use Rattle.register.specs.declared.words.Crs.the-variants.{Known}
-use Rattle.register.specs.Module.{Module, Register, proper, properModule, properNames}
+use Rattle.register.specs.Module.{Module, Register, proper}
 use Rattle.register.specs.Encode.{recordWords, encodeWords, crsBase, slots}
 use Rattle.register.specs.Decode.{registerOf, isRegister}
 use Rattle.register.specs.Proper.{proper-parts, parts-proper}
@@ -29,7 +29,7 @@ use Rattle.linker.specs.Imports.{applyImportNamedSymbols, applyModuleImports, a
 use Rattle.linker.specs.Fix.{fix}
 use Rattle.linker.specs.Calls.{Answer, NotACro, BadSegment, NoRoom, Kept, Done, rebase, rebaseStatic, fits, enter, initialized, initialize, listed, missingNow, linked, load}
 use Rattle.linker.specs.Gives.{Yields, yields-ret, yields-bind, yields-then, yields-if}
-use Rattle.linker.specs.Room.{Small, Fits, fits-means, with, with-small}
+use Rattle.linker.specs.Room.{Fits, fits-means, with, with-small}
 use Rattle.linker.specs.Valid.{Names, imports-yield}
 use Rattle.linker.specs.Reads.{Readable, readModule-yields}
 use Rattle.history_sessions.specs.Answers.{encoded-back}

@@ -4,13 +4,13 @@ use mathlib.Core.Path.{_≡_, refl, sym, ap, _∙_, fun-ext, subst}
 use mathlib.Core.Logic.{_≢_}
 use mathlib.Core.List.{List, [], _∷_, _++_}
 use mathlib.Core.Option.{none}
-use mathlib.Core.Bool.{Bool, true, false, not}
+use mathlib.Core.Bool.{true}
 use native.Mathlib.Omega.{arith}
 use native.Mathlib.Decide.{ℕ-discrete}
 use lib.ListN.{length, getD, List·getD-append}
-use lib.Dec.{eqb, ltb, lit<}
-use borrow.Author.Tests.{lt-ltb, ne-eqb}
-use Rattle.window.specs.Memory.{if_then_else_, byteAt, place}
+use lib.Dec.{lit<}
+use borrow.Author.Tests.{lt-ltb}
+use Rattle.window.specs.Memory.{byteAt, place}
 use Rattle.window.specs.Access.{Prog, run}
 use Rattle.window.specs.Small.{byteAt-small}
 use Rattle.window.specs.Within.{In, Low, Lies, Agree}
@@ -20,13 +20,12 @@ use Rattle.register.specs.Change.{removed}
 use Rattle.linker.specs.declared.rebase.Lent.{Lent}
 use Rattle.linker.specs.Calls as calls
 use Rattle.linker.specs.Calls.{Answer, Done, rebaseStatic}
-use Rattle.history.specs.Image.{moduleName}
 use Rattle.history.specs.Arrival.{initialized, loaded, Image, Arrival, cut, imageOf, baseOf, sizeOf, Area}
 use Rattle.history.specs.WellLaid.{WellLaid}
 use Rattle.history.specs.Demand3.{OtherExports}
 use Rattle.history_steps.specs.Wp.{Memory, Does}
 use Rattle.history_steps.specs.Windowed.{windowed}
-use Rattle.history_steps.specs.World.{Cast, Sound, All, put}
+use Rattle.history_steps.specs.World.{Sound, All, put}
 use Rattle.history_steps.specs.View.{View}
 use Rattle.history_steps.specs.Links.{Stands}
 use Rattle.history_steps.specs.Final.{Final}
@@ -256,7 +255,8 @@ module _ (at : ℕ) (w : List ℕ) (r : Register) (none-yet : r .modules ≡ [])
               nonzero = first (λ k x T. baseOf (x .coming) ≢ 0) (g .scene .nonzero);
               world = record { stands = first (λ k x T. Stands x T (λ _. none) 0 0 N) (g .scene .world .stands) };
               listed = listed-same 1 (first (λ k x T. base ≡ baseOf (x .coming)) (λ k l. refl)) (λ k l. refl) (λ k l. refl) (g .scene .listed);
-              links = λ j l. final-same 1 (first (λ k x T. imageOf crs ≡ x) (λ k l. refl)) (first (λ k x T. Final 1 (λ _. imageOf crs) x (λ _. none)) (g .scene .links) j l);
+              links = λ j l. final-same 1 (first (λ k x T. imageOf crs ≡ x) (λ k l. refl))
+                  (first (λ k x T. Final 1 (λ _. imageOf crs) x (λ _. none)) (g .scene .links) j l);
             };
         book =
             record {

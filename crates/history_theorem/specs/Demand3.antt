@@ -1,6 +1,6 @@
 -- Demand 3: history does not show.
 use Prim.Native.Nat.{ℕ, _<_}
-use mathlib.Core.Path.{_≡_, refl, sym, ap, _∙_, subst}
+use mathlib.Core.Path.{_≡_, refl, ap, _∙_, subst}
 use mathlib.Core.List.{List, [], _∷_}
 use native.Mathlib.Omega.{arith}
 use lib.ListN.{length, getD}
@@ -15,7 +15,7 @@ use Rattle.history_sessions.specs.Unique.{noArrival, imageAt, laid-at}
 use Rattle.history_sessions.specs.Conclude.{same-count, same-arrivals, same-images, no-byte-differs}
 use Rattle.history_theorem.specs.Invariant.{restFor, restOfArrival, castOf, Resting}
 use Rattle.history_theorem.specs.Turns.{RestingIn}
-use Rattle.history_theorem.specs.Step.{Holding, none-came, some-came, among-none}
+use Rattle.history_theorem.specs.Step.{none-came, some-came, among-none}
 use Rattle.history_theorem.specs.Theorem.{Kept, concluded, session}
 
 -- modules that came alike have the same bytes at rest

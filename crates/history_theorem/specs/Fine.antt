@@ -1,5 +1,5 @@
 -- What the premises of a session say of the modules that stand.
-use Prim.Native.Nat.{ℕ, _+_, _^_, _≤_, _<_}
+use Prim.Native.Nat.{ℕ, _+_, _^_, _≤_}
 use mathlib.Core.List.{List, _∷_}
 use lib.ListN.{length}
 use Rattle.history.specs.Arrival.{Arrival}

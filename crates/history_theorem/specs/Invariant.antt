@@ -1,23 +1,21 @@
 -- What a session keeps: the arrivals that stand are at rest, each with the bytes at rest that its call and its bytes alone determine.
-use Prim.Native.Nat.{ℕ, zero, suc, pred, _+_, _<_}
-use mathlib.Core.Path.{_≡_, refl, sym, ap, _∙_, fun-ext, subst}
-use mathlib.Core.Logic.{_≢_}
+use Prim.Native.Nat.{ℕ, suc, pred, _+_, _<_}
+use mathlib.Core.Path.{_≡_, refl, sym, ap, _∙_, fun-ext}
 use mathlib.Core.List.{List, [], _∷_, _++_}
 use native.Mathlib.Omega.{arith}
 use native.Mathlib.Decide.{decLt, ℕ-discrete}
-use lib.ListN.{length, getD, length-append, List·getD-append, List·getD-eq-default}
+use lib.ListN.{length, getD, List·getD-append, List·getD-eq-default}
 use Rattle.window.specs.Within.{Agree}
 use Rattle.register.specs.Module.{Register}
-use Rattle.linker.specs.Calls.{rebase, rebaseStatic}
-use Rattle.history.specs.Arrival.{Coming, initialized, loaded, Image, Arrival, imageOf, baseOf, Area}
+use Rattle.linker.specs.Calls.{rebaseStatic}
+use Rattle.history.specs.Arrival.{Coming, initialized, loaded, Image, Arrival, imageOf, Area}
 use Rattle.history.specs.Sessions.{SameRegister}
 use Rattle.history_steps.specs.Wp.{Memory}
 use Rattle.history_steps.specs.Links.{Links}
-use Rattle.history_steps.specs.World.{Cast, Sound, World, put, put-same, put-other}
-use Rattle.history_steps.specs.Leaving.{skip}
+use Rattle.history_steps.specs.World.{Cast, put, put-same, put-other}
 use Rattle.history_rebase.specs.Gone.{fewer}
 use Rattle.history_rebase.specs.Unloads.{AtRest}
-use Rattle.history_calls.specs.Scene.{baseIn, Scene, Book, extended}
+use Rattle.history_calls.specs.Scene.{Scene, Book, extended}
 use Rattle.history_calls.specs.Bringing.{brought}
 use Rattle.history_calls.specs.Loads.{restOf}
 use Rattle.history_calls.specs.Between.{scene-agree, book-same}
@@ -103,7 +101,8 @@ more-at {B} f S a k = go (ℕ-discrete k (length S)) (decLt k (length S))
     go (no o) (yes l) = put-other x (length S) (f a) k o ∙ ap f (sym (List·getD-append S (a ∷ []) noArrival k l))
     go (no o) (no l) =
         put-other x (length S) (f a) k o
-        ∙ ap f (List·getD-eq-default S noArrival (omega arith) ∙ sym (List·getD-eq-default (S ++ (a ∷ [])) noArrival (omega (arith, more-length S a))))
+        ∙ ap f (List·getD-eq-default S noArrival (omega arith)
+        ∙ sym (List·getD-eq-default (S ++ (a ∷ [])) noArrival (omega (arith, more-length S a))))
 
 pub cast-more : (S : List Arrival) (a : Arrival) → extended (castOf S) (imageOf a) (restOfArrival a) ≡ castOf (S ++ (a ∷ []))
 cast-more S a = cast-same (more-length S a) (more-at imageOf S a) (more-at restOfArrival S a)

@@ -1,28 +1,26 @@
 -- One turn more: what holds before it holds after it.
-use Prim.Native.Nat.{ℕ, zero, suc, _+_, _^_, _≤_, _<_}
+use Prim.Native.Nat.{ℕ, zero, suc, _+_, _<_}
 use mathlib.Core.Path.{_≡_, refl, sym, ap, _∙_, subst}
 use mathlib.Core.Logic.{_≢_}
 use mathlib.Core.List.{List, [], _∷_, _++_}
 use mathlib.Core.Bool.{Bool, true, false}
 use native.Mathlib.Omega.{arith}
 use lib.ListN.{length, getD, List·getD-append}
-use Rattle.window.specs.Memory.{if_then_else_, byteAt}
+use Rattle.window.specs.Memory.{byteAt}
 use Rattle.window.specs.Edges.{good-end}
-use Rattle.register.specs.declared.words.Crs.the-variants.{Unknown}
 use Rattle.linker.specs.declared.rebase.Lent.{Lent}
 use Rattle.linker.specs.Calls.{unknown, firstWithBase}
 use Rattle.linker.specs.Outcome.{Bytes}
 use Rattle.linker.specs.Refusals.{lentRegister}
-use Rattle.linker.specs.Valid.{Valid, AreBytes}
-use Rattle.history.specs.Arrival.{initialized, loaded, Arrival, imageOf, baseOf, isCrs}
+use Rattle.history.specs.Arrival.{initialized, loaded, Arrival, baseOf, isCrs}
 use Rattle.history.specs.Sessions.{Call, initialize, load, unload, given, Turn, after, expected, Follows, Fresh, Words, Typed, SameBytes, done, comes, brought, arrived, others, stay, standing, Between}
 use Rattle.history.specs.Demand3.{Each, Pairs, InOrder, AutoLinked, ImportsKept, Harmless, CrsFirst, Premises}
-use Rattle.history_steps.specs.Leaving.{skip, skip-low}
+use Rattle.history_steps.specs.Leaving.{skip-low}
 use Rattle.history_sessions.specs.Lists.{lacking, lacking-at, OtherBase, Among, nothing, keeps, drops, among-each, standing-among, leaver}
 use Rattle.history_sessions.specs.Unique.{noArrival, imageAt, auto-at, kept-at, other-bases}
 use Rattle.history_sessions.specs.Registers.{Registered, Found, goes, none, found}
 use Rattle.history_sessions.specs.Answers.{Performed, performed, done-zero, unload-unknown}
-use Rattle.history_theorem.specs.Invariant.{Resting, last-at, more-length}
+use Rattle.history_theorem.specs.Invariant.{last-at, more-length}
 use Rattle.history_theorem.specs.Turns.{RestingIn, follows-rests, between-rests, initialize-turn, load-turn, unload-turn}
 use Rattle.history_theorem.specs.Fine.{fine}
 

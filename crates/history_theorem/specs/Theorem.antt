@@ -1,16 +1,15 @@
 -- Demand 3's first half: after every call all imports hold their exporters' addresses or their handlers'.
-use Prim.Native.Nat.{ℕ, _<_}
+use Prim.Native.Nat.{ℕ}
 use mathlib.Core.Path.{_≡_, refl, sym, ap, _∙_, subst}
 use mathlib.Core.List.{List, [], _∷_, _++_, map}
-use native.Mathlib.Omega.{arith}
 use lib.ListN.{length}
 use Rattle.window.specs.Memory.{byteAt}
 use Rattle.window.specs.Within.{In}
 use Rattle.linker.specs.Outcome.{Bytes}
-use Rattle.history.specs.Arrival.{Image, Arrival, imageOf, Area}
-use Rattle.history.specs.Sessions.{Turn, after, expected, given, Follows, brought, arrived, standing, Between, Session, empty, first, next}
+use Rattle.history.specs.Arrival.{Image, Arrival, imageOf}
+use Rattle.history.specs.Sessions.{Turn, after, Follows, brought, arrived, standing, Between, Session, empty, first, next}
 use Rattle.history.specs.Windows.{given-length}
-use Rattle.history.specs.Demand3.{Each, Pairs, CrsFirst, Harmless, InWindow, images, Premises, AllHold, Linked, ends}
+use Rattle.history.specs.Demand3.{Each, Pairs, CrsFirst, InWindow, images, Premises, AllHold, Linked, ends}
 use Rattle.history_sessions.specs.Lists.{each-mono, each-left, pairs-left, standing-among}
 use Rattle.history_sessions.specs.Unique.{imageAt, laid-at, once-at}
 use Rattle.history_sessions.specs.Conclude as conclude

@@ -1,34 +1,32 @@
 -- A turn of a session: what its call leaves at rest, in the bytes that it gave, and in those that the next call gets.
 use Prim.Native.Nat.{ℕ, zero, suc, _^_, _<_}
-use mathlib.Core.Path.{_≡_, refl, sym, ap, _∙_, subst}
+use mathlib.Core.Path.{_≡_, refl, sym, subst}
 use mathlib.Core.Logic.{_≢_, _⊎_, inl, inr}
 use mathlib.Core.List.{List, [], _∷_, _++_}
-use mathlib.Core.Bool.{Bool, true, false, not}
+use mathlib.Core.Bool.{true, not}
 use native.Mathlib.Omega.{arith}
-use lib.ListN.{length, getD}
+use lib.ListN.{length}
 use lib.Dec.{eqb}
 use borrow.Author.Tests.{ne-eqb}
 use Rattle.window.specs.Memory.{byteAt}
 use Rattle.window.specs.Access.{run}
 use Rattle.register.specs.Module.{Register, proper}
 use Rattle.register.specs.Encode.{encodeWords}
-use Rattle.register.specs.Decode.{registerOf}
 use Rattle.register.specs.CheckIs.{register-parts}
 use Rattle.register.specs.Change.{removed}
 use Rattle.register.specs.Buffers.{Below}
 use Rattle.register_append.specs.Stands.{encoded-small}
 use Rattle.linker.specs.declared.rebase.Lent.{Lent}
 use Rattle.linker.specs.Calls as calls
-use Rattle.linker.specs.Calls.{Answer, Done, stands, firstWithBase}
+use Rattle.linker.specs.Calls.{Done, stands, firstWithBase}
 use Rattle.linker.specs.Outcome.{Bytes}
 use Rattle.linker.specs.Refusals.{lentRegister}
 use Rattle.linker.specs.Valid.{Valid, AreBytes}
 use Rattle.register.specs.Module.{Module}
-use Rattle.history.specs.Arrival.{initialized, loaded, Arrival, imageOf, baseOf, Area}
+use Rattle.history.specs.Arrival.{initialized, loaded, Arrival, baseOf, Area}
 use Rattle.history.specs.Sessions.{Call, initialize, load, unload, given, Turn, after, expected, Follows, SameBytes, SameEncoded, Areas, arrived, Between}
-use Rattle.history_steps.specs.Wp.{Memory}
 use Rattle.history_sessions.specs.Lists.{lacking, Among, nothing, keeps, drops}
-use Rattle.history_sessions.specs.Unique.{noArrival, imageAt}
+use Rattle.history_sessions.specs.Unique.{imageAt}
 use Rattle.history_sessions.specs.Answers.{program, programOf, Performed, Left, brings-initialize, brings-load, unload-known}
 use Rattle.history_theorem.specs.Invariant.{Resting, resting-agree, resting-same}
 use Rattle.history_theorem.specs.Calls.{Fine, unload-rests, load-rests, initialize-rests}
