@@ -181,7 +181,8 @@ module _ (at : ℕ) (w : List ℕ) (S : List Arrival) (r : Register) (h : Restin
         → Resting more s (byteAt at (run at (calls.load l true level records names r) w .1))
     unfolding Answered restFor
     load-rests f small data-low bss-low c d records names v s e =
-        let g = in-window (Reach (castOf S) m) at w fit (calls.load l true level records names r) (Answered (castOf S) l m level (byteAt at w)) does in
+        let g =
+        in-window (Reach (castOf S) m) at w fit (calls.load l true level records names r) (Answered (castOf S) l m level (byteAt at w)) does in
         let came : Came (castOf S) l m level (byteAt at w) s (g .0) =
         subst (λ a. Answered (castOf S) l m level (byteAt at w) a (g .0)) e (g .1) in
         resting-agree more (λ k i q u. g .2 q (k, omega (arith, i, count), subst (λ x. Area (x k) q) (sym images-more) u))
@@ -291,6 +292,7 @@ module _ (at : ℕ) (w : List ℕ) (r : Register) (none-yet : r .modules ≡ [])
       let g =
       in-window (Area m) at w (λ q u. in-lies at (length w) q (f .top) (f .inside 0 q one u)) p (Begun m (byteAt at w))
       (starts base size (m .file) (f .laid 0 one) (fine-low at (length w) (crs ∷ []) f 0 one)
-      (λ o i. rw (← cut-fresh crs o i) (byteAt-small at w (base + o) small)) (f .nonzero 0 one) (λ o i. cut-fresh crs o i) r none-yet records names) in
+      (λ o i. rw (← cut-fresh crs o i) (byteAt-small at w (base + o) small)) (f .nonzero 0 one) (λ o i. cut-fresh crs o i) r none-yet
+      records names) in
       let begun : Started m (byteAt at w) s (g .0) = subst (λ a. Begun m (byteAt at w) a (g .0)) e (g .1) in
       resting-agree (crs ∷ []) (λ k i q u. g .2 q (let z : k ≡ 0 = omega arith in rw z at u)) (started-rests begun)

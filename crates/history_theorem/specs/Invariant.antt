@@ -111,5 +111,6 @@ cast-more S a = cast-same (more-length S a) (more-at imageOf S a) (more-at restO
 pub cast-less : (S : List Arrival) (d : ℕ) → d < length S → fewer (castOf S) d ≡ castOf (lacking S d)
 cast-less S d l =
     cast-same
-    (let e = lacking-length S d l in let z : pred (length S) ≡ length (lacking S d) = omega (arith, e) in z) (λ k. ap imageOf (sym (lacking-at S d noArrival k)))
+    (let e = lacking-length S d l in let z : pred (length S) ≡ length (lacking S d) = omega (arith, e) in z)
+    (λ k. ap imageOf (sym (lacking-at S d noArrival k)))
     (λ k. ap restOfArrival (sym (lacking-at S d noArrival k)))

@@ -103,7 +103,8 @@ module _ (at : ℕ) (t : Turn) (ts : List Turn) where
         let x = lists-done d (initialize base size) e in
         let a : Arrival = record { coming = initialized base size; bytes = byteAt at (b .window) } in
         let p = did (initialize base size) e in
-        let s : standing at (t ∷ ts) ≡ a ∷ [] = x .1 ∙ ap (λ S. S ++ (a ∷ [])) (among-none (standing at ts) (arrived at ts) (standing-among at ts) n) in
+        let s : standing at (t ∷ ts) ≡ a ∷ [] =
+        x .1 ∙ ap (λ S. S ++ (a ∷ [])) (among-none (standing at ts) (arrived at ts) (standing-among at ts) n) in
         let w = words (initialize base size) e in
         some-came (came-some (arrived at ts) a (x .0)) (subst (λ S. isCrs (imageAt S 0 .coming) ≡ true) (sym s) refl)
         (follow (initialize base size) e (a ∷ []) s
