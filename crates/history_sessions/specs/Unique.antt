@@ -97,7 +97,7 @@ module _ (at : ℕ) (ts : List Turn) (h : Premises at ts) (S : List Arrival) (am
       same-if j k
       (λ o. pairs-at (λ a b. OtherName (imageOf a) (imageOf b)) S noArrival (λ a b f z. f (sym z)) (pairs-of OtherName (h .other-names)) j k l g o e)
 
-  exports-at : (j k : ℕ) → j < length S → k < length S → j ≢ k → OtherExports (imageAt S j) (imageAt S k)
+  pub exports-at : (j k : ℕ) → j < length S → k < length S → j ≢ k → OtherExports (imageAt S j) (imageAt S k)
   unfolding OtherExports
   exports-at j k l g o =
       pairs-at (λ a b. OtherExports (imageOf a) (imageOf b)) S noArrival (λ a b f n p q x y. f n q p y x)

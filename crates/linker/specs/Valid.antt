@@ -56,7 +56,7 @@ Word n = n < 2 ^ 32
 
 -- missing names: names, at most 64
 
-abbrev Names : List (List ℕ) → Type 0
+abbrev pub Names : List (List ℕ) → Type 0
 Names ns = (length ns ≤ 64) × (properNames ns ≡ true)
 
 names-more : (ns : List (List ℕ)) (name : List ℕ) → properNames ns ≡ true → isName name ≡ true → properNames (ns ++ (name ∷ [])) ≡ true

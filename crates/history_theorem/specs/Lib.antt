@@ -1,0 +1,9 @@
+-- Demand 3, by induction over a session's calls.
+pub mod Invariant
+pub mod Calls
+pub mod Back
+pub mod Turns
+pub mod Fine
+pub mod Step
+pub mod Theorem
+pub mod Demand3
