@@ -16,6 +16,3 @@ pub mod Unrebased
 pub mod Once
 pub mod Gone
 pub mod Unloads
-pub mod Rests
-pub mod Holding
-pub mod Alike

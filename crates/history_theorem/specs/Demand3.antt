@@ -7,7 +7,7 @@ use lib.ListN.{length, getD}
 use Rattle.window.specs.Within.{Agree}
 use Rattle.history.specs.Arrival.{Arrival, imageOf, Area}
 use Rattle.history.specs.Sessions.{Turn, after, arrived, standing, Session}
-use Rattle.history.specs.Demand3.{Each, Premises, SameStanding, NoByteDiffers, Linked, ends}
+use Rattle.history.specs.Demand3.{Demand3, Each, Premises, SameStanding, NoByteDiffers, Linked, ends}
 use Rattle.history_steps.specs.Wp.{Memory}
 use Rattle.register.specs.Module.{Register}
 use Rattle.history_sessions.specs.Lists.{standing-among}
@@ -69,10 +69,9 @@ no-byte at bt (t ∷ ts) (u ∷ us) h (some-came o c g) (none-came n f) same =
     nothing-same at bt (t ∷ ts) (u ∷ us) (none-stand bt (u ∷ us) n) same
 no-byte at bt (t ∷ ts) (u ∷ us) h (some-came o c g) (some-came e d i) same = both-stand at bt t u ts us h g i same
 
--- what `Demand3` of crate history says, written out
-pub demand3
-    : (at bt : ℕ) (ts us : List Turn) → Session at ts → Session bt us → Premises at ts → Premises bt us
-    → Linked at ts × Linked bt us × (SameStanding (standing at ts) (standing bt us) → NoByteDiffers at ts bt us)
+-- any two sessions under the premises
+pub demand3 : Demand3
+unfolding Demand3
 demand3 at bt ts us s r p q =
     let g = session at ts s p in
     let h = session bt us r q in
