@@ -141,27 +141,3 @@ pub no-byte-differs
 unfolding NoByteDiffers
 no-byte-differs at bt ts us rest other laid alike h i same =
     no-byte (standing at ts) (standing bt us) same rest other (ends at ts) (ends bt us) laid alike h i
-
--- how a call that brings a module begins: its bytes without links are what this leaves
-unfoldable pub begun : Coming → Prog (Unit {0})
-begun (initialized base size) = rebaseStatic base >>= λ _. resetExternalRelocations base
-begun (loaded l auto level) = rebase l >>= λ _. resetExternalRelocations (l .base)
-
-abbrev pub restOf : Arrival → Memory
-restOf a = runM (begun (a .coming)) (a .bytes) .1
-
--- so they are alike for modules that came alike
-pub rest-alike
-    : (a b : Arrival) → a .coming ≡ b .coming → Agree (Area (imageOf a)) (a .bytes) (b .bytes)
-    → WithinM (Area (imageOf a)) (begun (a .coming)) (a .bytes) → Agree (Area (imageOf a)) (restOf a) (restOf b)
-rest-alike a b e g w =
-    subst (λ c. Agree (Area (imageOf a)) (restOf a) (runM (begun c) (b .bytes) .1)) e
-    (same-on (Area (imageOf a)) (begun (a .coming)) (a .bytes) (b .bytes) w g .1)
-
-pub rests-alike
-    : (S T : List Arrival) → SameStanding S T
-    → ((k : ℕ) → k < length S → WithinM (Area (imageAt S k)) (begun (imageAt S k .coming)) (getD S k noArrival .bytes)) → (k : ℕ) → k < length S
-    → Agree (Area (imageAt S k)) (restOf (getD S k noArrival)) (restOf (getD T k noArrival))
-rests-alike S T same w k l =
-    let s = same-arrivals S T same k l in
-    rest-alike (getD S k noArrival) (getD T k noArrival) (s .0) (s .1) (w k l)
