@@ -5,4 +5,5 @@ pub mod Bringing
 pub mod Loads
 pub mod Starts
 pub mod Between
-pub mod Unique
+pub mod Gone
+pub mod Unloads

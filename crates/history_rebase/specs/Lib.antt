@@ -13,6 +13,3 @@ pub mod Reset
 pub mod Standing
 pub mod Arrives
 pub mod Unrebased
-pub mod Once
-pub mod Gone
-pub mod Unloads

@@ -13,34 +13,9 @@ use Rattle.history.specs.Imports.{Import, named, indexed, anonymous, importTabl
 use Rattle.history.specs.WellLaid.{WellLaid}
 use Rattle.history.specs.Sessions.{Turn, arrived}
 use Rattle.history.specs.Demand3.{Each, Pairs, AutoLinked, ImportsKept, BaseNot0, Apart, OtherName, OtherExports, InWindow, Premises}
+use Rattle.history_steps.specs.Once.{once}
 use Rattle.history_steps.specs.Parts.{image-area}
 use Rattle.history_sessions.specs.Lists.{each-at, pairs-at, each-map, pairs-map, pairs-with, Among, among-each, among-pairs, OtherBase}
-
--- what is in a run is an import
-in-run
-    : (m : Image) → WellLaid m → (j : ℕ) → j < count (m .file) moduleEntries → (i : Import) → InRun (m .file) j i → IsImport (m .file) i
-unfolding InRun importEntry entry runCount
-in-run m laid j l i h = go i h (laid .alone .runs j l i)
-  where
-    go
-        : (i : Import) → InRun (m .file) j i
-        → (runCount (m .file) j i ≡ 0)
-        ⊎ ((k : ℕ) × (runStart (m .file) j i ≡ entry (m .file) (importTable i) k) × (k + runCount (m .file) j i ≤ count (m .file) (importTable i)))
-        → IsImport (m .file) i
-    go i (k, l, e) (inl z) = absurd (omega arith)
-    go (named i) (k, l, e) (inr (r, s, t)) = absurd (omega arith)
-    go (indexed i) (k, l, e) (inr (r, s, t)) = omega arith
-    go (anonymous i) (k, l, e) (inr (r, s, t)) = omega arith
-
--- an import comes from one name
-from-one
-    : (m : Image) → WellLaid m → (i : Import) (a c : List ℕ) → From (m .file) i a → From (m .file) i c → a ≡ c
-unfolding From
-from-one m laid i a c h r =
-    h .3
-    ∙ ap (λ j. nameOf (m .file) (word (m .file) (entry (m .file) moduleEntries j)))
-    (laid .alone .one-run i (in-run m laid (h .0) (h .1) i (h .2)) (h .0) (r .0) (h .1) (r .1) (h .2) (r .2))
-    ∙ sym (r .3)
 
 -- equal if not different
 same-if : (j k : ℕ) → (j ≢ k → ⊥) → j ≡ k
@@ -107,7 +82,4 @@ module _ (at : ℕ) (ts : List Turn) (h : Premises at ts) (S : List Arrival) (am
   pub once-at
       : (m : Image) → WellLaid m → (i : Import) (j k p q : ℕ) → j < length S → k < length S → Exports (imageAt S j) m i p
       → Exports (imageAt S k) m i q → j ≡ k
-  unfolding Exports OtherExports
-  once-at m laid (named i) j k p q l g a b = same-if j k (λ o. exports-at j k l g o _ p q a b)
-  once-at m laid (indexed i) j k p q l g a b = names-at j k l g (from-one m laid (indexed i) _ _ (a .0) (b .0))
-  once-at m laid (anonymous i) j k p q l g a b = names-at j k l g (from-one m laid (anonymous i) _ _ (a .0) (b .0))
+  once-at m laid = once m laid (length S) (imageAt S) names-at exports-at

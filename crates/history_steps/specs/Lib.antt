@@ -23,6 +23,7 @@ pub mod Gathered
 pub mod Recording
 pub mod Fixing
 pub mod Final
+pub mod Once
 pub mod Conclusions
 pub mod Own
 pub mod Reaching

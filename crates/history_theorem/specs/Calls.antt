@@ -31,14 +31,13 @@ use Rattle.history_steps.specs.Links.{Stands}
 use Rattle.history_steps.specs.Final.{Final}
 use Rattle.history_steps.specs.Own.{RecordedAll}
 use Rattle.history_steps.specs.Leaving.{skip, skip-below}
-use Rattle.history_rebase.specs.Once.{Unlike}
-use Rattle.history_rebase.specs.Gone.{fewer, fewer-sound}
-use Rattle.history_rebase.specs.Unloads.{AtRest, unload-does}
+use Rattle.history_steps.specs.Once.{Unlike, once}
+use Rattle.history_calls.specs.Gone.{fewer, fewer-sound}
+use Rattle.history_calls.specs.Unloads.{AtRest, unload-does}
 use Rattle.history_calls.specs.Scene.{Scene, Book, extended, listed-same, final-same, recorded-same}
 use Rattle.history_calls.specs.Bringing.{brought}
 use Rattle.history_calls.specs.Loads.{Joined, Came, Answered, Reach, Once, Names, loads, restOf}
 use Rattle.history_calls.specs.Starts.{Started, Begun, starts}
-use Rattle.history_calls.specs.Unique.{exports-once}
 use Rattle.history_sessions.specs.Lists.{lacking, lacking-at, lacking-length}
 use Rattle.history_sessions.specs.Unique.{noArrival, imageAt}
 use Rattle.history_theorem.specs.Invariant.{restFor, restOfArrival, castOf, Alike, Resting, to-rest, resting-agree, last-at, more-length, more-at, cast-more, cast-less}
@@ -66,7 +65,7 @@ module _ (at n : ℕ) (S : List Arrival) (f : Fine at n S) where
   fine-unlike = record { nonzero = f .nonzero; names = f .names; exports = f .exports }
 
   pub fine-once : Once (length S) (imageAt S)
-  fine-once = exports-once (length S) (imageAt S) (f .laid) (f .names) (f .exports)
+  fine-once t l = once (imageAt S t) (f .laid t l) (length S) (imageAt S) (f .names) (f .exports)
 
 -- the image's bytes are those of the memory
 pub cut-fresh : (a : Arrival) (o : ℕ) → o < sizeOf (a .coming) → a .bytes (baseOf (a .coming) + o) ≡ imageOf a .file o

@@ -13,8 +13,8 @@ use Rattle.history.specs.Sessions.{SameRegister}
 use Rattle.history_steps.specs.Wp.{Memory}
 use Rattle.history_steps.specs.Links.{Links}
 use Rattle.history_steps.specs.World.{Cast, put, put-same, put-other}
-use Rattle.history_rebase.specs.Gone.{fewer}
-use Rattle.history_rebase.specs.Unloads.{AtRest}
+use Rattle.history_calls.specs.Gone.{fewer}
+use Rattle.history_calls.specs.Unloads.{AtRest}
 use Rattle.history_calls.specs.Scene.{Scene, Book, extended}
 use Rattle.history_calls.specs.Bringing.{brought}
 use Rattle.history_calls.specs.Loads.{restOf}

@@ -25,9 +25,9 @@ use Rattle.history_steps.specs.Leaving.{skip, skip-low, skip-not, skip-below, d
 use Rattle.history_steps.specs.Final.{Final, dropped}
 use Rattle.history_steps.specs.Own.{RecordedAll}
 use Rattle.history_steps.specs.Reaching.{resets-world}
 use Rattle.history_rebase.specs.Unrebased.{unrebases}
-use Rattle.history_rebase.specs.Once.{Unlike, once}
-use Rattle.history_rebase.specs.Gone.{fewer, fewer-sound, fewer-world, recorded-without, length-without, finds, finds-none}
+use Rattle.history_steps.specs.Once.{Unlike, once}
+use Rattle.history_calls.specs.Gone.{fewer, fewer-sound, fewer-world, recorded-without, length-without, finds, finds-none}
 
 -- the modules as they are between calls: each import linked to its exporter or to none, all listed in load order, all recorded
 pub record AtRest (C : Cast) (sound : Sound C) (r : Register) (M : Memory) : Type 0 where
