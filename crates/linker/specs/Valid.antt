@@ -90,8 +90,8 @@ module _ (at : ℕ) where
       (λ unresolved. yields-if at Names unresolved _ _
       (λ _. yields-then at Names (get32 entry) _
       (λ p. yields-bind at (λ name. isName name ≡ true) Names (nameAt p) _ (name-yields at p)
-      (λ name g. yields-then at Names (resolve base batch (lookupIn ms name)) _
-      (λ _. yields-ret at Names (noted (lookupIn ms name) name xs) (noted-names (lookupIn ms name) name xs g k)))))
+      (λ name g. yields-then at Names _ _
+      (λ _. yields-ret at Names _ (noted-names (lookupIn ms name) name xs g k)))))
       (λ _. yields-ret at Names xs k))))
       0 count ns h))
 
