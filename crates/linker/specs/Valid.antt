@@ -30,7 +30,7 @@ use Rattle.linker.specs.declared.rebase.Lent.{Lent}
 use Rattle.linker.specs.declared.rebase.Rebased.{Rebased}
 use Rattle.linker.specs.Relocation.{resetExternalRelocations}
 use Rattle.linker.specs.Exports.{readModule}
-use Rattle.linker.specs.Imports.{isUnresolved, resolve, mostMissing, noted, importNamed, applyImportNamedSymbols, applyModuleImports, applyExportsToLoaded}
+use Rattle.linker.specs.Imports.{isUnresolved, mostMissing, noted, importNamed, applyImportNamedSymbols, applyModuleImports, applyExportsToLoaded}
 use Rattle.linker.specs.Resets.{resetImporters}
 use Rattle.linker.specs.Fix.{fix}
 use Rattle.linker.specs.Unrebase.{unrebase}
