@@ -108,7 +108,7 @@ fn are_steps(file: &[u8], count: u32) -> bool
 {
     let mut k: u32 = 0;
     while k < count {
-        if !is_step(step_at(file, k)) {
+        if !is_step(read_step(file, k)) {
             return false;
         }
         k += 1;
@@ -178,4 +178,41 @@ pub fn window_bytes(file: &[u8]) -> &[u8]
     ensures { λ r. ⌜ now r ≡ part (now (file .entry)) (windowOffset (now (file .entry))) (windowLength (now (file .entry))) ⌝ }
 {
     name_part(file, word(file, 4), word(file, 3))
+}
+
+// Reads a session: the lent file, and the number of the next step. Each function below only takes it apart or makes it.
+pub struct Reader<'a> {
+    pub file: &'a [u8],
+    pub next: u32,
+}
+
+// A reader at the first step.
+pub fn new<'a>(file: &'a [u8]) -> Reader<'a>
+    ensures { λ r. ⌜ (r .file ≡ file .entry) × (r .next ≡ 0) ⌝ }
+{
+    Reader { file, next: 0 }
+}
+
+// The reader at step k.
+pub fn moved<'a>(r: Reader<'a>, k: u32) -> Reader<'a>
+    ensures { λ q. ⌜ (q .file ≡ r .entry .file) × (q .next ≡ k) ⌝ }
+{
+    Reader {
+        file: r.file,
+        next: k,
+    }
+}
+
+// The step that the reader stands at.
+pub fn next_step<'a>(r: Reader<'a>) -> Step
+    ensures { λ s. ⌜ s ≡ stepAt (now (r .entry .file)) (r .entry .next) ⌝ }
+{
+    step_at(r.file, r.next)
+}
+
+// Step number k, through the reader: for callers that hold the file and a number.
+pub fn read_step(file: &[u8], k: u32) -> Step
+    ensures { λ r. ⌜ r ≡ stepAt (now (file .entry)) k ⌝ }
+{
+    next_step(moved(new(file), k))
 }

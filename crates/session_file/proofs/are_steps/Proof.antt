@@ -19,14 +19,14 @@ loop-holds : tie.Need-loop-holds Inv-loop μ-loop
 unfolding areSteps
 loop-holds c = (omega arith, refl)
 
-step-at-requires : tie.Need-step-at-requires Inv-loop μ-loop
-step-at-requires c κs = search needs
+read-step-requires : tie.Need-read-step-requires Inv-loop μ-loop
+read-step-requires c κs = search needs
 
 is-step-requires : tie.Need-is-step-requires Inv-loop μ-loop
 is-step-requires c κs = search needs
 
 returns : tie.Need-returns Inv-loop μ-loop
-returns c = step-bad _ _ _ (c .before .before .before .loop-test .taken) (c .before .is-step .ensures ∙ ap isStep (c .before .before .step-at .ensures)) (not-true _ (c .if1 .taken))
+returns c = step-bad _ _ _ (c .before .before .before .loop-test .taken) (c .before .is-step .ensures ∙ ap isStep (c .before .before .read-step .ensures)) (not-true _ (c .if1 .taken))
 
 add-k : tie.Need-add-k Inv-loop μ-loop
 add-k c = omega arith
@@ -35,11 +35,11 @@ loop-less : tie.Need-loop-less Inv-loop μ-loop
 loop-less c = omega arith
 
 loop-again : tie.Need-loop-again Inv-loop μ-loop
-loop-again c = (omega arith, step-on _ _ (c .before .before .before .before .loop .inv .1) (c .before .is-step .ensures ∙ ap isStep (c .before .before .step-at .ensures)) (not-false _ (c .if1 .left)))
+loop-again c = (omega arith, step-on _ _ (c .before .before .before .before .loop .inv .1) (c .before .is-step .ensures ∙ ap isStep (c .before .before .read-step .ensures)) (not-false _ (c .if1 .left)))
 
 returns-2 : tie.Need-returns-2 Inv-loop μ-loop
 returns-2 c = let e : c .before .loop .k ≡ c .before .before .before .args .count = omega arith in rw (← e) (sym (c .before .loop .inv .1))
 
 pub are-steps-spec : {M : Type 1} → statement M
 are-steps-spec =
-    tie.close (tie.spec Inv-loop μ-loop loop-holds step-at-requires is-step-requires returns add-k loop-less loop-again returns-2)
+    tie.close (tie.spec Inv-loop μ-loop loop-holds read-step-requires is-step-requires returns add-k loop-less loop-again returns-2)
