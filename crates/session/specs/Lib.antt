@@ -1,0 +1,2 @@
+-- The definitions that the contracts of `session` cite.
+pub mod Run
