@@ -1,7 +1,7 @@
--- The steps of a session file: nine words as a step, and the first steps of a table.
+-- What the code of `session_file` finds, test by test: nine words as a step, the steps of a table, and the judgement.
 use Prim.Native.Nat.{ℕ, zero, suc, _+_, _*_, _≤_, _<_}
 use mathlib.Core.Logic.{inl, inr}
-use mathlib.Core.Path.{_≡_, refl, sym, ap, _∙_}
+use mathlib.Core.Path.{_≡_, refl}
 use mathlib.Core.List.{List, [], _∷_}
 use mathlib.Core.Bool.{Bool, true, false, _&&_, and-false, and-assoc}
 use native.Mathlib.Omega.{arith}
@@ -17,6 +17,7 @@ use Rattle.session_file.specs.declared.Step.{Step}
 use Rattle.session_file.specs.declared.Step.the-variants.{Initialize, Load, Unload, Bad}
 use Rattle.session_file.specs.File.{headWord, stepOf, stepAt, isStep, areSteps, isSession}
 
+-- nine words as a step, six of them in l
 module _ (call : ℕ) (l : Lent) (auto level : ℕ) where
   abbrev rest : List ℕ
   rest = l .«data_at» ∷ l .«data_size» ∷ l .«bss_at» ∷ l .«bss_size» ∷ auto ∷ level ∷ []
@@ -65,19 +66,17 @@ pub step-on : (file : List ℕ) (k : ℕ) {t : Bool} → areSteps file k ≡ tru
 unfolding areSteps
 step-on file k z s e = rw (add-one, z, ← s, e)
 
--- the table is inside, so whether the window is inside too is left
-pub window-left : (file : List ℕ) {table count offset size : ℕ} → table ≡ headWord file 1 → count ≡ headWord file 0
-    → table + 36 * count ≤ length file → offset ≡ headWord file 4 → size ≡ headWord file 3
-    → leb (offset + size) (length file)
-    ≡ (leb (headWord file 1 + 36 * headWord file 0) (length file) && leb (headWord file 4 + headWord file 3) (length file))
-window-left file t n h o s = rw (← t, ← n, ← o, ← s, le-leb _ _ h)
-
 -- the judgement, with its tests in three groups
 abbrev limits : List ℕ → Bool
 limits file = leb 20 (length file) && (leb (length file) 49152 && (leb (headWord file 0) 64 && leb (headWord file 3) 32768))
 
 abbrev parts : List ℕ → Bool
 parts file = leb (headWord file 1 + 36 * headWord file 0) (length file) && leb (headWord file 4 + headWord file 3) (length file)
+
+-- the table is inside, so whether the window is inside too is left
+pub window-left : (file : List ℕ) {table count offset size : ℕ} → table ≡ headWord file 1 → count ≡ headWord file 0
+    → table + 36 * count ≤ length file → offset ≡ headWord file 4 → size ≡ headWord file 3 → leb (offset + size) (length file) ≡ parts file
+window-left file t n h o s = rw (← t, ← n, ← o, ← s, le-leb _ _ h)
 
 groups : (file : List ℕ) → limits file && (parts file && areSteps file (headWord file 0)) ≡ isSession file
 unfolding isSession

@@ -44,7 +44,9 @@ add-window-end c = search needs
 
 returns-2 : tie.Need-returns-2
 unfolding headWord
-returns-2 c = window-left _ (c .before .before .before .before .word .ensures) (c .before .before .before .word2 .ensures) (c .before .before .if1 .left) (c .before .word3 .ensures) (c .word4 .ensures)
+returns-2 c = window-left _ (c .before .before .before .before .word .ensures) (c .before .before .before .word2 .ensures)
+    (c .before .before .if1 .left) (c .before .word3 .ensures) (c .word4 .ensures)
 
 pub are-parts-inside-spec : {M : Type 1} → statement M
-are-parts-inside-spec = tie.close (tie.spec word-requires cast-table-end word-requires-2 cast-table-end-2 mul-table-end add-table-end returns word-requires-3 cast-window-end word-requires-4 cast-window-end-2 add-window-end returns-2)
+are-parts-inside-spec = tie.close (tie.spec word-requires cast-table-end word-requires-2 cast-table-end-2 mul-table-end add-table-end returns
+    word-requires-3 cast-window-end word-requires-4 cast-window-end-2 add-window-end returns-2)

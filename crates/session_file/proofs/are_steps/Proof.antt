@@ -26,7 +26,8 @@ is-step-requires : tie.Need-is-step-requires Inv-loop μ-loop
 is-step-requires c κs = search needs
 
 returns : tie.Need-returns Inv-loop μ-loop
-returns c = step-bad _ _ _ (c .before .before .before .loop-test .taken) (c .before .is-step .ensures ∙ ap isStep (c .before .before .read-step .ensures)) (not-true _ (c .if1 .taken))
+returns c = step-bad _ _ _ (c .before .before .before .loop-test .taken)
+    (c .before .is-step .ensures ∙ ap isStep (c .before .before .read-step .ensures)) (not-true _ (c .if1 .taken))
 
 add-k : tie.Need-add-k Inv-loop μ-loop
 add-k c = omega arith
@@ -35,7 +36,11 @@ loop-less : tie.Need-loop-less Inv-loop μ-loop
 loop-less c = omega arith
 
 loop-again : tie.Need-loop-again Inv-loop μ-loop
-loop-again c = (omega arith, step-on _ _ (c .before .before .before .before .loop .inv .1) (c .before .is-step .ensures ∙ ap isStep (c .before .before .read-step .ensures)) (not-false _ (c .if1 .left)))
+loop-again c = (
+  omega arith,
+  step-on _ _ (c .before .before .before .before .loop .inv .1)
+      (c .before .is-step .ensures ∙ ap isStep (c .before .before .read-step .ensures)) (not-false _ (c .if1 .left)),
+)
 
 returns-2 : tie.Need-returns-2 Inv-loop μ-loop
 returns-2 c = let e : c .before .loop .k ≡ c .before .before .before .args .count = omega arith in rw (← e) (sym (c .before .loop .inv .1))

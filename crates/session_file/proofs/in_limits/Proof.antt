@@ -17,14 +17,25 @@ word-requires c κs = search needs
 
 returns-3 : tie.Need-returns-3
 unfolding headWord
-returns-3 c = simp (le-leb _ _ (c .before .before .before .if1 .left), le-leb _ _ (c .before .before .if2 .left), ← c .before .word .ensures, lt-leb _ _ (c .if3 .taken))
+returns-3 c = simp (
+  le-leb _ _ (c .before .before .before .if1 .left),
+  le-leb _ _ (c .before .before .if2 .left),
+  ← c .before .word .ensures,
+  lt-leb _ _ (c .if3 .taken),
+)
 
 word-requires-2 : tie.Need-word-requires-2
 word-requires-2 c κs = search needs
 
 returns-4 : tie.Need-returns-4
 unfolding headWord
-returns-4 c = simp (le-leb _ _ (c .before .before .before .before .if1 .left), le-leb _ _ (c .before .before .before .if2 .left), ← c .before .before .word .ensures, le-leb _ _ (c .before .if3 .left), ← c .word2 .ensures)
+returns-4 c = simp (
+  le-leb _ _ (c .before .before .before .before .if1 .left),
+  le-leb _ _ (c .before .before .before .if2 .left),
+  ← c .before .before .word .ensures,
+  le-leb _ _ (c .before .if3 .left),
+  ← c .word2 .ensures,
+)
 
 pub in-limits-spec : {M : Type 1} → statement M
 in-limits-spec = tie.close (tie.spec returns returns-2 word-requires returns-3 word-requires-2 returns-4)

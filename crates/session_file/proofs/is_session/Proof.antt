@@ -15,7 +15,8 @@ are-parts-inside-requires : tie.Need-are-parts-inside-requires
 are-parts-inside-requires c κs = search needs
 
 returns-2 : tie.Need-returns-2
-returns-2 c = part-outside _ (c .before .before .before .in-limits .ensures) (not-false _ (c .before .before .if1 .left)) (c .before .are-parts-inside .ensures) (not-true _ (c .if2 .taken))
+returns-2 c = part-outside _ (c .before .before .before .in-limits .ensures) (not-false _ (c .before .before .if1 .left))
+    (c .before .are-parts-inside .ensures) (not-true _ (c .if2 .taken))
 
 word-requires : tie.Need-word-requires
 word-requires c κs = search needs
@@ -25,7 +26,9 @@ are-steps-requires c κs = search needs
 
 returns-3 : tie.Need-returns-3
 unfolding headWord
-returns-3 c = steps-left _ (c .before .before .before .before .before .in-limits .ensures) (not-false _ (c .before .before .before .before .if1 .left)) (c .before .before .before .are-parts-inside .ensures) (not-false _ (c .before .before .if2 .left)) (c .before .word .ensures) (c .are-steps .ensures)
+returns-3 c = steps-left _ (c .before .before .before .before .before .in-limits .ensures)
+    (not-false _ (c .before .before .before .before .if1 .left)) (c .before .before .before .are-parts-inside .ensures)
+    (not-false _ (c .before .before .if2 .left)) (c .before .word .ensures) (c .are-steps .ensures)
 
 pub is-session-spec : {M : Type 1} → statement M
 is-session-spec = tie.close (tie.spec in-limits-requires returns are-parts-inside-requires returns-2 word-requires are-steps-requires returns-3)

@@ -1,4 +1,3 @@
-use mathlib.Core.Path.{refl}
 use borrow.Author.Needs.{needs}
 use Rattle.session_file.specs.File.{isStep}
 use Rattle.session_file.proofs.is_step.Statement.{statement}

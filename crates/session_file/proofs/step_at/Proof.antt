@@ -85,4 +85,6 @@ returns c = simp (
 ) (c .step-of .ensures)
 
 pub step-at-spec : {M : Type 1} → statement M
-step-at-spec = tie.close (tie.spec word-requires name-part-requires mul-at add-word word-requires-2 add-word-2 word-requires-3 add-word-3 word-requires-4 add-word-4 word-requires-5 add-word-5 word-requires-6 add-word-6 word-requires-7 word-requires-8 add-word-7 word-requires-9 add-word-8 word-requires-10 step-of-requires returns)
+step-at-spec = tie.close (tie.spec word-requires name-part-requires mul-at add-word word-requires-2 add-word-2 word-requires-3 add-word-3
+    word-requires-4 add-word-4 word-requires-5 add-word-5 word-requires-6 add-word-6 word-requires-7 word-requires-8 add-word-7 word-requires-9
+    add-word-8 word-requires-10 step-of-requires returns)

@@ -24,7 +24,8 @@ returns-5 : tie.Need-returns-5
 returns-5 c = has-size _ _ _ _ (c .before .before .if4 .left) (c .if5 .taken)
 
 returns-6 : tie.Need-returns-6
-returns-6 c = is-unload _ _ _ _ (c .before .before .if4 .left) (c .if5 .left) (sym (not-false _ (c .before .before .before .before .if2 .left)) ∙ c .before .before .before .before .before .all-zero .ensures)
+returns-6 c = is-unload _ _ _ _ (c .before .before .if4 .left) (c .if5 .left)
+    (sym (not-false _ (c .before .before .before .before .if2 .left)) ∙ c .before .before .before .before .before .all-zero .ensures)
 
 pub step-of-spec : {M : Type 1} → statement M
 step-of-spec = tie.close (tie.spec returns all-zero-requires returns-2 returns-3 returns-4 returns-5 returns-6)
