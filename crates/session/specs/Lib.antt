@@ -1,2 +1,3 @@
 -- The definitions that the contracts of `session` cite.
 pub mod Run
+pub mod Start

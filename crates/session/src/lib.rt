@@ -1,7 +1,6 @@
 // A session: the file judged, its steps run through the three calls, and the text that they print.
-ghost use mathlib.Core.Path.{_≡_};
 ghost use Rattle.linker_calls.specs.Steps.{lent, left};
-ghost use Rattle.session.specs.Run.{stepOutcome};
+ghost use Rattle.session.specs.Run.{Ran};
 use linker_calls::initialize;
 use linker_calls::load;
 use linker_calls::unload;
@@ -22,8 +21,8 @@ fn run_step(
     names: &mut [u8],
     missing: &mut [u8],
 ) -> Answered
-    ensures { λ r. ⌜ left (r .number) (r .value) (lent (now (window .exit)) (now (records .exit)) (now (names .exit)) (now (missing .exit)))
-        ≡ stepOutcome step at (lent (now (window .entry)) (now (records .entry)) (now (names .entry)) (now (missing .entry))) ⌝ }
+    ensures { λ r. ⌜ Ran step at (lent (now (window .entry)) (now (records .entry)) (now (names .entry)) (now (missing .entry)))
+        (left (r .number) (r .value) (lent (now (window .exit)) (now (records .exit)) (now (names .exit)) (now (missing .exit)))) ⌝ }
 {
     let mut value: u32 = 0;
     let number = match step {

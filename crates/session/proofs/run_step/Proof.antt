@@ -1,6 +1,7 @@
+use native.Mathlib.Omega.{arith}
 use mathlib.Core.Path.{refl}
 use Rattle.linker_calls.specs.Steps.{lent}
-use Rattle.session.proofs.Laws.{is-initialize, is-load, is-unload, is-bad}
+use Rattle.session.proofs.Laws.{is-initialize, is-load, is-unload, is-bad, initialize-keeps, load-keeps, unload-keeps}
 use borrow.Author.Needs.{needs}
 use Rattle.session.proofs.run_step.Statement.{statement}
 use Rattle.session.proofs.run_step.Tie as tie
@@ -46,9 +47,15 @@ same-length-4 c = search needs
 returns : tie.Need-returns
 returns c =
     let p8 = c .before .before .before .before .before .before .before .before in
-    let p15 = p8 .before .before .before .before .before .before .before in
-    let a = p15 .before .before .before .before .before .before .args in
-    is-initialize (a .at) (lent (a .window .now) (a .records .now) (a .names .now) (a .missing .now)) _ _ (p15 .step .given .1) (p8 .initialize .ensures)
+    let p14 = p8 .before .before .before .before .before .before in
+    let p15 = p14 .before in
+    let p19 = p15 .before .before .before .before in
+    let p20 = p19 .before in
+    let a = p20 .before .args in
+    let b = lent (a .window .now) (a .records .now) (a .names .now) (a .missing .now) in (
+      is-initialize (a .at) b _ _ (p15 .step .given .1) (p8 .initialize .ensures),
+      λ v. initialize-keeps (a .at) b v (λ i. omega (arith, p20 .slice-known .given i), λ i. omega (arith, p19 .slice-known2 .given i)) _ _ (p14 .known-told .given .0 .1) (p14 .known-told .given .1 .0 .1) (p8 .initialize .ensures),
+    )
 
 same-length-5 : tie.Need-same-length-5
 same-length-5 c = search needs
@@ -65,9 +72,15 @@ same-length-8 c = search needs
 returns-2 : tie.Need-returns-2
 returns-2 c =
     let p8 = c .before .before .before .before .before .before .before .before in
-    let p15 = p8 .before .before .before .before .before .before .before in
-    let a = p15 .before .before .before .before .before .before .args in
-    is-load (a .at) (lent (a .window .now) (a .records .now) (a .names .now) (a .missing .now)) _ _ _ (p15 .step2 .given .1) (p8 .load .ensures)
+    let p14 = p8 .before .before .before .before .before .before in
+    let p15 = p14 .before in
+    let p19 = p15 .before .before .before .before in
+    let p20 = p19 .before in
+    let a = p20 .before .args in
+    let b = lent (a .window .now) (a .records .now) (a .names .now) (a .missing .now) in (
+      is-load (a .at) b _ _ _ (p15 .step2 .given .1) (p8 .load .ensures),
+      λ v. load-keeps (a .at) b v (λ i. omega (arith, p20 .slice-known .given i), λ i. omega (arith, p19 .slice-known2 .given i)) _ _ _ (p14 .known-told2 .given .0 .1 .1 .0 .1) (p14 .known-told2 .given .0 .1 .1 .1 .0 .1) (p8 .load .ensures),
+    )
 
 same-length-9 : tie.Need-same-length-9
 same-length-9 c = search needs
@@ -84,14 +97,20 @@ same-length-12 c = search needs
 returns-3 : tie.Need-returns-3
 returns-3 c =
     let p8 = c .before .before .before .before .before .before .before .before in
-    let p15 = p8 .before .before .before .before .before .before .before in
-    let a = p15 .before .before .before .before .before .before .args in
-    is-unload (a .at) (lent (a .window .now) (a .records .now) (a .names .now) (a .missing .now)) _ (p15 .step3 .given .1) (p8 .unload .ensures)
+    let p14 = p8 .before .before .before .before .before .before in
+    let p15 = p14 .before in
+    let p19 = p15 .before .before .before .before in
+    let p20 = p19 .before in
+    let a = p20 .before .args in
+    let b = lent (a .window .now) (a .records .now) (a .names .now) (a .missing .now) in (
+      is-unload (a .at) b _ (p15 .step3 .given .1) (p8 .unload .ensures),
+      λ v. unload-keeps (a .at) b v (λ i. omega (arith, p20 .slice-known .given i), λ i. omega (arith, p19 .slice-known2 .given i)) _ (p8 .unload .ensures),
+    )
 
 returns-4 : tie.Need-returns-4
 returns-4 c =
     let a = c .before .before .before .before .before .before .args in
-    is-bad (a .at) (lent (a .window .now) (a .records .now) (a .names .now) (a .missing .now)) (c .enum-told .given .1) refl
+    (is-bad (a .at) (lent (a .window .now) (a .records .now) (a .names .now) (a .missing .now)) (c .enum-told .given .1) refl, λ v. v)
 
 pub run-step-spec : {M : Type 1} → statement M
 run-step-spec =
