@@ -40,7 +40,8 @@ abbrev judged : ℕ → ℕ → ℕ → ℕ → ℕ → Bool
 judged call size dataAt auto level = isSession (stepped call size dataAt auto level)
 
 -- "calls 1 to 3"
-pub calls : (judged 0 0 0 0 0 ≡ false) × (judged 1 0 0 0 0 ≡ true) × (judged 2 0 0 0 0 ≡ true) × (judged 3 0 0 0 0 ≡ true) × (judged 4 0 0 0 0 ≡ false)
+pub calls
+    : (judged 0 0 0 0 0 ≡ false) × (judged 1 0 0 0 0 ≡ true) × (judged 2 0 0 0 0 ≡ true) × (judged 3 0 0 0 0 ≡ true) × (judged 4 0 0 0 0 ≡ false)
 unfolding isSession areSteps isStep stepAt stepOf stepWord headWord allZero part wordsIn flat bytesOf byteOf
 calls = (refl, refl, refl, refl, refl)
 
