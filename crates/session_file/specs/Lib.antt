@@ -1,2 +1,3 @@
 -- The definitions that the contracts of `session_file` cite.
 pub mod File
+pub mod Cases

@@ -156,7 +156,7 @@ pub fn is_session(file: &[u8]) -> bool
     if !are_parts_inside(file) {
         return false;
     }
-    are_steps(file, word(file, 0))
+    are_steps(file, step_count(file))
 }
 
 // How many steps the session has.

@@ -1,6 +1,5 @@
 use borrow.Author.Tests.{not-true, not-false}
 use borrow.Author.Needs.{needs}
-use Rattle.session_file.specs.File.{headWord}
 use Rattle.session_file.proofs.Laws.{past-limits, part-outside, steps-left}
 use Rattle.session_file.proofs.is_session.Statement.{statement}
 use Rattle.session_file.proofs.is_session.Tie as tie
@@ -18,17 +17,16 @@ returns-2 : tie.Need-returns-2
 returns-2 c = part-outside _ (c .before .before .before .in-limits .ensures) (not-false _ (c .before .before .if1 .left))
     (c .before .are-parts-inside .ensures) (not-true _ (c .if2 .taken))
 
-word-requires : tie.Need-word-requires
-word-requires c κs = search needs
+step-count-requires : tie.Need-step-count-requires
+step-count-requires c κs = search needs
 
 are-steps-requires : tie.Need-are-steps-requires
 are-steps-requires c κs = search needs
 
 returns-3 : tie.Need-returns-3
-unfolding headWord
 returns-3 c = steps-left _ (c .before .before .before .before .before .in-limits .ensures)
     (not-false _ (c .before .before .before .before .if1 .left)) (c .before .before .before .are-parts-inside .ensures)
-    (not-false _ (c .before .before .if2 .left)) (c .before .word .ensures) (c .are-steps .ensures)
+    (not-false _ (c .before .before .if2 .left)) (c .before .step-count .ensures) (c .are-steps .ensures)
 
 pub is-session-spec : {M : Type 1} → statement M
-is-session-spec = tie.close (tie.spec in-limits-requires returns are-parts-inside-requires returns-2 word-requires are-steps-requires returns-3)
+is-session-spec = tie.close (tie.spec in-limits-requires returns are-parts-inside-requires returns-2 step-count-requires are-steps-requires returns-3)
