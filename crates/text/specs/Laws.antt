@@ -2,10 +2,10 @@
 use Prim.Native.Nat.{ℕ, zero, suc, _+_, _-_, _/_, _%_, _^_, _≤_, _<_, min}
 use mathlib.Core.Path.{_≡_, refl, sym, ap, _∙_}
 use mathlib.Core.Bool.{Bool, true, false}
-use mathlib.Core.List.{List, [], _∷_, _++_, append-nil}
+use mathlib.Core.List.{List, [], _∷_, _++_, append-nil, append-assoc}
 use native.Mathlib.Omega.{arith}
 use native.Mathlib.Nat.{pow-zero, pow-suc, div-lt-iff-lt-mul}
-use native.Mathlib.Decide.{decLe, decLt}
+use native.Mathlib.Decide.{decLt}
 use native.Mathlib.Numerals.{add-one}
 use lib.ListN.{length, take, drop, set, length-set, take-append-drop, drop-of-length-le}
 use lib.Seq.{take-nil, take-all, take-suc-set, drop-set-lt, append-snoc}
@@ -29,6 +29,15 @@ pub put-append : (s t : List ℕ) (p : ℕ × List ℕ) → put (s ++ t) p ≡ p
 unfolding put
 put-append [] t p = refl
 put-append (c ∷ s) t (i, l) = put-append s t (if ltb i (length l) then (i + 1, set l i c) else (i, l))
+
+-- pieces put one after another are put as one text
+
+module _ (s t : List ℕ) (o : ℕ × List ℕ) {p : ℕ × List ℕ} (e : p ≡ put s o) where
+  pub put-then : {q : ℕ × List ℕ} → q ≡ put t p → q ≡ put (s ++ t) o
+  put-then f = f ∙ ap (put t) e ∙ sym (put-append s t o)
+
+  pub put-then-two : (u : List ℕ) {q : ℕ × List ℕ} → q ≡ put (t ++ u) p → q ≡ put (s ++ t ++ u) o
+  put-then-two u f = f ∙ ap (put (t ++ u)) e ∙ sym (put-append s (t ++ u) o) ∙ ap (λ l. put l o) (sym (append-assoc s t u))
 
 -- what is put at or after the end is left out
 pub put-none : (s : List ℕ) (i : ℕ) (l : List ℕ) → length l ≤ i → put s (i, l) ≡ (i, l)
@@ -85,6 +94,9 @@ put-length (c ∷ s) (i, l) = put-length s (if ltb i (length l) then (i + 1, set
     go : (b : Bool) → length (if_then_else_ {A = ℕ × List ℕ} b (i + 1, set l i c) (i, l) .1) ≡ length l
     go true = length-set l i c
     go false = refl
+
+pub put-kept : (s : List ℕ) (o : ℕ × List ℕ) {p : ℕ × List ℕ} → p ≡ put s o → length (p .1) ≡ length (o .1)
+put-kept s o e = ap (λ p. length (p .1)) e ∙ put-length s o
 
 -- digits
 
