@@ -2,13 +2,13 @@
 use Prim.Native.Nat.{ℕ, zero, suc, _+_, _-_, _/_, _%_, _^_, _≤_, _<_, min}
 use mathlib.Core.Path.{_≡_, refl, sym, ap, _∙_}
 use mathlib.Core.Bool.{Bool, true, false}
-use mathlib.Core.List.{List, [], _∷_, _++_, append-nil}
+use mathlib.Core.List.{List, [], _∷_, _++_, append-nil, append-assoc}
 use native.Mathlib.Omega.{arith}
 use native.Mathlib.Nat.{pow-zero, pow-suc, div-lt-iff-lt-mul}
-use native.Mathlib.Decide.{decLe, decLt}
+use native.Mathlib.Decide.{decLt}
 use native.Mathlib.Numerals.{add-one}
 use lib.ListN.{length, take, drop, set, length-set, take-append-drop, drop-of-length-le}
-use lib.Seq.{take-nil, take-all, take-suc-set, drop-set-lt, append-snoc}
+use lib.Seq.{length-take-le, take-nil, take-all, take-suc-set, drop-set-lt, append-snoc}
 use lib.Dec.{ltb}
 use borrow.Author.Tests.{lt-ltb, le-ltb}
 use Rattle.window.specs.Memory.{if_then_else_}
@@ -29,6 +29,28 @@ pub put-append : (s t : List ℕ) (p : ℕ × List ℕ) → put (s ++ t) p ≡ p
 unfolding put
 put-append [] t p = refl
 put-append (c ∷ s) t (i, l) = put-append s t (if ltb i (length l) then (i + 1, set l i c) else (i, l))
+
+-- pieces put one after another are put as one text
+
+module _ (s t : List ℕ) (o : ℕ × List ℕ) {p : ℕ × List ℕ} (e : p ≡ put s o) where
+  pub put-then : {q : ℕ × List ℕ} → q ≡ put t p → q ≡ put (s ++ t) o
+  put-then f = f ∙ ap (put t) e ∙ sym (put-append s t o)
+
+  pub put-then-two : (u : List ℕ) {q : ℕ × List ℕ} → q ≡ put (t ++ u) p → q ≡ put (s ++ t ++ u) o
+  put-then-two u f = f ∙ ap (put (t ++ u)) e ∙ sym (put-append s (t ++ u) o) ∙ ap (λ l. put l o) (sym (append-assoc s t u))
+
+-- the buffer keeps its length
+pub put-length : (s : List ℕ) (p : ℕ × List ℕ) → length (put s p .1) ≡ length (p .1)
+unfolding put
+put-length [] p = refl
+put-length (c ∷ s) (i, l) = put-length s (if ltb i (length l) then (i + 1, set l i c) else (i, l)) ∙ go (ltb i (length l))
+  where
+    go : (b : Bool) → length (if_then_else_ {A = ℕ × List ℕ} b (i + 1, set l i c) (i, l) .1) ≡ length l
+    go true = length-set l i c
+    go false = refl
+
+pub put-kept : (s : List ℕ) (o : ℕ × List ℕ) {p : ℕ × List ℕ} → p ≡ put s o → length (p .1) ≡ length (o .1)
+put-kept s o e = ap (λ p. length (p .1)) e ∙ put-length s o
 
 -- what is put at or after the end is left out
 pub put-none : (s : List ℕ) (i : ℕ) (l : List ℕ) → length l ≤ i → put s (i, l) ≡ (i, l)
@@ -57,7 +79,8 @@ put-cut (c ∷ s) i l h = go (decLt i (length l)) (put-cut s (i + 1) (set l i c)
         let b : i + 1 + min (length s) room ≡ i + min (suc (length s)) (suc room) = omega arith in
         let e : i + 1 + length s ≡ i + suc (length s) = omega arith in
         let t : take (i + 1) (set l i c) ≡ take i l ++ (c ∷ []) = rw add-one (take-suc-set l i c j) in
-        let d : drop (i + 1 + length s) (set l i c) ≡ drop (i + suc (length s)) l = drop-set-lt (i + 1 + length s) l i c (omega arith) ∙ rw e in
+        let d : drop (i + 1 + length s) (set l i c) ≡ drop (i + suc (length s)) l =
+        drop-set-lt (i + 1 + length s) l i c (omega arith) ∙ rw e in
         put-in c s i l j
         ∙ rest (omega (arith, length-set l i c))
         ∙ rw (length-set, t, d, append-snoc, a, b)
@@ -68,7 +91,7 @@ put-cut (c ∷ s) i l h = go (decLt i (length l)) (put-cut s (i + 1) (set l i c)
         let d : drop (i + suc (length s)) l ≡ [] = drop-of-length-le l {i = i + suc (length s)} (omega arith) in
         put-none (c ∷ s) i l n ∙ rw (a, take-all i l n, d, append-nil l, append-nil l, m)
 
--- so into an empty buffer goes as much of the text as there is room for, and after it stands what stood there
+-- at the start of a buffer stands as much of the text as there is room for, and after it what stood there
 pub put-whole
     : (s l : List ℕ) → put s (0, l) ≡ (min (length s) (length l), take (length l) s ++ drop (length s) l)
 put-whole s l =
@@ -77,14 +100,14 @@ put-whole s l =
     let d : 0 + length s ≡ length s = omega arith in
     put-cut s 0 l (omega arith) ∙ rw (a, b, d)
 
-pub put-length : (s : List ℕ) (p : ℕ × List ℕ) → length (put s p .1) ≡ length (p .1)
-unfolding put
-put-length [] p = refl
-put-length (c ∷ s) (i, l) = put-length s (if ltb i (length l) then (i + 1, set l i c) else (i, l)) ∙ go (ltb i (length l))
-  where
-    go : (b : Bool) → length (if_then_else_ {A = ℕ × List ℕ} b (i + 1, set l i c) (i, l) .1) ≡ length l
-    go true = length-set l i c
-    go false = refl
+-- the place after it is within the buffer, or at its end: what `&buffer[..e]` asks
+pub put-within
+    : (s : List ℕ) (i : ℕ) (l : List ℕ) {e : ℕ} {b : List ℕ} → i ≤ length l → _≡_ {A = ℕ × List ℕ} (e, b) (put s (i, l))
+    → (e ≤ length b) × (e ≡ length (take e b))
+put-within s i l {e} {b} h f =
+    let n : e ≡ i + min (length s) (length l - i) = ap (λ (p : ℕ × List ℕ). p .0) (f ∙ put-cut s i l h) in
+    let g : e ≤ length b = omega (arith, put-kept s (i, l) f) in
+    (g, sym (length-take-le e b g))
 
 -- digits
 

@@ -1,34 +1,16 @@
--- Text in a lent buffer: the bytes of a text, a word in hex, and what an append leaves.
-use Prim.Native.Nat.{ℕ, zero, suc, _+_, _/_, _%_, _≤_, _<_}
-use Prim.Native.Char.{code}
-use Prim.Native.String.{String, [] as ε, _∷_ as _◃_}
+-- What an append of a text leaves in a lent buffer.
+use Prim.Native.Nat.{ℕ, _+_, _≤_, _<_}
 use mathlib.Core.Path.{_≡_, refl, sym, ap, _∙_}
-use mathlib.Core.List.{List, [], _∷_, _++_}
+use mathlib.Core.List.{List, _++_}
 use native.Mathlib.Omega.{arith}
 use native.Mathlib.Decide.{decLe}
-use lib.ListN.{length, take, drop, getD, length-append, length-take, length-drop}
+use lib.ListN.{length, take, drop, length-append, length-take, length-drop}
 use lib.Seq.{length-take-le}
-use lib.Dec.{leb, ltb}
-use borrow.Author.Tests.{lt-ltb, le-ltb, le-leb, lt-leb}
+use lib.Dec.{leb}
+use borrow.Author.Tests.{le-leb, lt-leb}
 use Rattle.window.specs.Memory.{if_then_else_}
-use Rattle.header_text.specs.declared.text.Next.{Next}
-use Rattle.header_text.specs.declared.text.Next.the-variants.{At, Full}
-
--- the bytes of an ASCII text
-unfoldable pub bytes : String → List ℕ
-bytes ε = []
-bytes (c ◃ s) = code c ∷ bytes s
-
-unfoldable pub digitOf : ℕ → ℕ
-digitOf d = getD (bytes "0123456789abcdef") d 0
-
--- v in hex, in at most n digits and with no leading zero; a word has at most 8
-unfoldable pub hexIn : ℕ → ℕ → List ℕ
-hexIn zero v = []
-hexIn (suc n) v = if ltb v 16 then digitOf v ∷ [] else hexIn n (v / 16) ++ (digitOf (v % 16) ∷ [])
-
-unfoldable pub hexOf : ℕ → List ℕ
-hexOf v = hexIn 8 v
+use Rattle.header_text.specs.declared.append.Next.{Next}
+use Rattle.header_text.specs.declared.append.Next.the-variants.{At, Full}
 
 -- s in a buffer from place i on, and the next place; a buffer too short for it stays as it is
 unfoldable pub appended : List ℕ → ℕ → List ℕ → Next × List ℕ
@@ -36,23 +18,6 @@ appended s i l =
     if leb (i + length s) (length l) then (At (i + length s), take i l ++ s ++ drop (i + length s) l) else (Full, l)
 
 -- what they give
-
-module _ (n v : ℕ) where
-  pub hex-last : v < 16 → hexIn (suc n) v ≡ digitOf v ∷ []
-  unfolding hexIn
-  hex-last h = rw (lt-ltb v 16 h)
-
-  pub hex-more : 16 ≤ v → hexIn (suc n) v ≡ hexIn n (v / 16) ++ (digitOf (v % 16) ∷ [])
-  unfolding hexIn
-  hex-more h = rw (le-ltb v 16 h)
-
-hex-0 : hexOf 0 ≡ bytes "0"
-unfolding hexOf hexIn digitOf bytes
-hex-0 = refl
-
-hex-deadbeef : hexOf 0xdeadbeef ≡ bytes "deadbeef"
-unfolding hexOf hexIn digitOf bytes
-hex-deadbeef = refl
 
 module _ (s : List ℕ) (i : ℕ) (l : List ℕ) where
   pub appended-fits : i + length s ≤ length l → appended s i l ≡ (At (i + length s), take i l ++ s ++ drop (i + length s) l)

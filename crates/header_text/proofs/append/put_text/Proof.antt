@@ -5,10 +5,10 @@ use native.Mathlib.Omega.{arith}
 use native.Mathlib.Numerals.{add-one}
 use lib.ListN.{length, length-set}
 use lib.Seq.{paste, paste-zero, paste-suc, take-length}
-use Rattle.header_text.specs.Text.{appended-full}
+use Rattle.header_text.specs.Append.{appended-full}
 use Rattle.header_text.proofs.Laws.{room-none, room-enough, laid}
-use Rattle.header_text.proofs.text.put_text.Statement.{statement}
-use Rattle.header_text.proofs.text.put_text.Tie as tie
+use Rattle.header_text.proofs.append.put_text.Statement.{statement}
+use Rattle.header_text.proofs.append.put_text.Tie as tie
 
 abbrev Inv-loop : tie.InvT-loop
 Inv-loop buffer₀ at text n i₀ buffer i =

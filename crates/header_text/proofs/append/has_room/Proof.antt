@@ -4,8 +4,8 @@ use mathlib.Core.Path.{sym}
 use native.Mathlib.Omega.{arith}
 use borrow.Author.Tests.{lt-leb}
 use Rattle.header_text.proofs.Laws.{room}
-use Rattle.header_text.proofs.text.has_room.Statement.{statement}
-use Rattle.header_text.proofs.text.has_room.Tie as tie
+use Rattle.header_text.proofs.append.has_room.Statement.{statement}
+use Rattle.header_text.proofs.append.has_room.Tie as tie
 
 returns : tie.Need-returns
 returns c = sym (lt-leb (c .before .args .at + c .before .args .n) (c .before .args .all) (omega arith))
