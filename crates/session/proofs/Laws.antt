@@ -49,7 +49,8 @@ pub turned
     : (file : List ℕ) (k : ℕ) (p : ℕ × List ℕ) (b : Bytes) {step : Step} {at n v : ℕ} {c : Bytes} {q : ℕ × List ℕ} → step ≡ stepAt file k
     → at ≡ windowAddress file → Ran step at b (left n v c) → q ≡ put (stepLine (k + 1) step n v) p → Turned file k (p, b) (q, c)
 unfolding outcomeAt
-turned file k p b {step} {at} {n} {v} es ea ran f =
-    (λ m. ahead-more file k m p b (ran .0 ∙ ap (λ s. stepOutcome s at b) es ∙ ap (λ a. stepOutcome (stepAt file k) a b) ea)
-    (f ∙ ap (λ s. put (stepLine (k + 1) s n v) p) es),
-    ran .1)
+turned file k p b {step} {at} {n} {v} es ea ran f = (
+  λ m. ahead-more file k m p b (ran .0 ∙ ap (λ s. stepOutcome s at b) es ∙ ap (λ a. stepOutcome (stepAt file k) a b) ea)
+      (f ∙ ap (λ s. put (stepLine (k + 1) s n v) p) es),
+  ran .1,
+)
