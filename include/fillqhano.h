@@ -1,4 +1,4 @@
-/* The linker of CRO modules: calls over memory that the host lends. `unload` is to come.
+/* The linker of CRO modules: three calls over memory that the host lends.
  *
  * A lent buffer is passed as two arguments, a pointer to its first byte and its length in bytes. The pointers must be
  * valid for their lengths, not null even where a length is 0, and the buffers, `*value` included, must not overlap.
@@ -18,11 +18,11 @@
  *
  * What a call answers, tested in the order 3, 4, 1, 2, 5:
  *   0  done
- *   1  the module's magic is neither CRO0 nor CRS0; nothing has changed
- *   2  a segment is bad; the window has been written up to there
+ *   1  the module's magic is neither CRO0 nor CRS0; nothing has changed (initialize and load)
+ *   2  a segment is bad; the window has been written up to there (load)
  *   3  the window breaks its rule; nothing has changed
  *   4  the three buffers are no register; nothing has changed
- *   5  64 modules stand, or the module's record or its names have no room; the window has been written
+ *   5  64 modules stand, or the module's record or its names have no room; the window has been written (initialize and load)
  * The register is unchanged by 1 to 5, and *value is 0 then.
  */
 #ifndef FILLQHANO_H
@@ -58,6 +58,17 @@ uint32_t load(uint32_t at,
               uint32_t bss_at, uint32_t bss_size,
               uint32_t auto_link, uint32_t level,
               uint32_t *value);
+
+/* Unloads the first module whose record has `base`: the batches of auto-linked modules that it served go back to their
+ * handlers, it leaves its list, its offsets become those of its file, and its record and names leave the register.
+ * *value becomes 1, or 0 where no module has that base; then nothing has changed. */
+uint32_t unload(uint32_t at,
+                uint8_t *window, size_t window_length,
+                uint8_t *records, size_t records_length,
+                uint8_t *names, size_t names_length,
+                uint8_t *missing, size_t missing_length,
+                uint32_t base,
+                uint32_t *value);
 
 #ifdef __cplusplus
 }

@@ -2,8 +2,8 @@
 // Places in the file are counted in words.
 ghost use mathlib.Core.Path.{_≡_};
 ghost use Rattle.case_reader.specs.Pieces.{piece, pieces};
-use header_text::text::Next;
-use header_text::text::put_text;
+use header_text::append::Next;
+use header_text::append::put_text;
 use register::words::word;
 
 // Lays the piece at `at` over the buffer and gives the place after it. A piece that is not all in the file, or does not

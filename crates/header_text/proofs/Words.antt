@@ -12,7 +12,7 @@ use lib.Seq.{drop-cons, take-append-seam, drop-append-add}
 use lib.Dec.{eqb}
 use borrow.Author.Tests.{eq-eqb, ne-eqb, eqb-true, not-true}
 use Rattle.window.specs.Tests.{both}
-use Rattle.header_text.specs.Text.{bytes}
+use Rattle.text.specs.Text.{bytes}
 use Rattle.header_text.specs.Lines.{headerLines, lineAt, wordsLength}
 
 -- offsets that go up by four from x on

@@ -1,3 +1,3 @@
 -- The definitions that the contracts of `header_text` cite.
-pub mod Text
+pub mod Append
 pub mod Lines

@@ -1,3 +1,3 @@
-// The header of a module as text: which field each line shows, and words in hex.
+// The header of a module as text: which field each line shows, under what name.
+pub mod append;
 pub mod lines;
-pub mod text;

@@ -5,10 +5,11 @@ ghost use Prim.Native.Nat.{_<_};
 ghost use Rattle.window.specs.Access.{run};
 ghost use Rattle.layout.specs.Header.{magic};
 ghost use Rattle.layout.specs.Segments.{field};
-ghost use Rattle.header_text.specs.Text.{bytes, appended};
+ghost use Rattle.text.specs.Text.{bytes};
+ghost use Rattle.header_text.specs.Append.{appended};
 ghost use Rattle.header_text.specs.Lines.{isModule, lineAt, wordsLength};
-use super::text::Next;
-use super::text::put_text;
+use super::append::Next;
+use super::append::put_text;
 use layout::header;
 
 // The two magics, as words.

@@ -186,13 +186,13 @@ module _ (at base : ℕ) (b : Bytes) where
     open-now : (goodWindow at (b .window) ≡ true) × (isRegister (b .records) (b .names) (b .missing) ≡ true)
     open-now = tests-pass _ _ et ez
 
-    pub unload-encoded : (names : List ℕ) × Encoded (b .records) names
-    unload-encoded = (b .names, (b .missing, open-now .1))
+    pub unload-encoded : Encoded (b .records) (b .names)
+    unload-encoded = (b .missing, open-now .1)
 
     module _ {x : Found}
         (ex : (names : List ℕ) → Encoded (b .records) names → x ≡ placeFrom 32 (modulesOf (b .records) names) (hasBase base)) where
       first : x ≡ placeFrom 32 (modulesOf (b .records) (b .names)) (hasBase base)
-      first = ex (b .names) (b .missing, open-now .1)
+      first = ex (b .names) unload-encoded
 
       pub unload-none : x ≡ found.Nothing → left 0 0 b ≡ unloadOutcome base at b
       unload-none z =

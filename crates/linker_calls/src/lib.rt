@@ -10,8 +10,8 @@ ghost use Rattle.register.specs.Decode.{registerOf, isRegister};
 ghost use Rattle.register.specs.Module.{Module, Register};
 ghost use Rattle.register.specs.Change.{appended};
 ghost use Rattle.register_read.specs.Read.{placeAfter};
-ghost use Rattle.linker.specs.Calls.{listed};
-ghost use Rattle.linker.specs.Outcome.{initializeOutcome, loadOutcome};
+ghost use Rattle.linker.specs.Calls.{listed, unlisted};
+ghost use Rattle.linker.specs.Outcome.{initializeOutcome, loadOutcome, unloadOutcome};
 ghost use Rattle.linker_calls.specs.Steps.{lent, left, toLoad, tested, entered, unhung};
 ghost use Rattle.linker_calls.specs.Linked.{headerCrs, Links};
 use layout::fields::set_field;
@@ -26,14 +26,19 @@ use linker_header::lists;
 use linker_imports::others::apply_exports_to_loaded;
 use linker_imports::own::apply_import_named_symbols;
 use linker_imports::own::apply_module_imports;
+use linker_imports::resets::reset_importers;
 use linker_rebase::rebase::rebase;
 use linker_rebase::rebase::rebase_static;
+use linker_rebase::unrebase::unrebase;
 use linker_relocation::relocation::reset_external_relocations;
 use register::check::is_register;
 use register::check::used_bytes;
+use register::exports::Found;
 use register::words::Crs;
 use register::words::read_crs;
 use register_change::header::set_crs;
+use register_change::remove::remove_record;
+use register_read::modules::first_with_base;
 
 // The tests that come first: 3 where the window breaks its rule, then 4 where the buffers are no register.
 fn tested(at: u32, w: &[u8], records: &[u8], names: &[u8], missing: &[u8]) -> u32
@@ -93,6 +98,16 @@ fn list(at: u32, w: &mut [u8], records: &[u8], base: u32, auto_link: bool)
         return;
     };
     lists::register(at, w, crs, base, auto_link);
+}
+
+// Takes a module out of its list, where the static module is known.
+fn unlist(at: u32, w: &mut [u8], records: &[u8], base: u32)
+    ensures { λ _. ⌜ now (w .exit) ≡ run at (unlisted (headerCrs (now (records .entry))) base) (now (w .entry)) .1 ⌝ }
+{
+    let Crs::Known(crs) = read_crs(records) else {
+        return;
+    };
+    lists::unregister(at, w, crs, base);
 }
 
 // Links the module whose record is the last one, at the place, and fixes it; gives what fixing gives.
@@ -203,5 +218,37 @@ pub extern "C" fn load(
         auto,
         level,
     );
+    0
+}
+
+// Unloads the first module with that base: the modules that linked on their own no longer use it, and its record is gone.
+// The value is 1 where a module left, 0 where none has that base.
+#[no_mangle]
+pub extern "C" fn unload(
+    at: u32,
+    window: &mut [u8],
+    records: &mut [u8],
+    names: &mut [u8],
+    missing: &mut [u8],
+    base: u32,
+    value: &mut u32,
+) -> u32
+    ensures { λ r. ⌜ left r (now (value .exit)) (lent (now (window .exit)) (now (records .exit)) (now (names .exit)) (now (missing .exit)))
+        ≡ unloadOutcome base at
+        (lent (now (window .entry)) (now (records .entry)) (now (names .entry)) (now (missing .entry))) ⌝ }
+{
+    *value = 0;
+    let refused = tested(at, window, records, names, missing);
+    if refused != 0 {
+        return refused;
+    }
+    let Found::At(place) = first_with_base(records, base) else {
+        return 0;
+    };
+    reset_importers(at, window, records, names, place);
+    unlist(at, window, records, base);
+    unrebase(at, window, base);
+    remove_record(records, names, place);
+    *value = 1;
     0
 }

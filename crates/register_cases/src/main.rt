@@ -5,7 +5,7 @@
 ghost use mathlib.Core.Path.{_≡_};
 ghost use Rattle.register_cases.specs.Cases.{judged, caseAt};
 use case_reader::put_pieces;
-use header_text::text::Next;
+use header_text::append::Next;
 use register::check::is_register;
 use register::words::word;
 

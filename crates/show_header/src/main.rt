@@ -1,9 +1,8 @@
 // Prints the header of the module on standard input: a line for each field, its name and its word, and then a line for
 // each of the first 16 segments, its index, offset, size and kind. Numbers are in hex, the index too.
 ghost use Prim.Native.Nat.{_<_};
+use header_text::append::Next;
 use header_text::lines;
-use header_text::text;
-use header_text::text::Next;
 use layout::fields;
 use layout::segments;
 use layout::segments::FoundSegment;
@@ -64,8 +63,7 @@ fn print_segment(w: &[u8], i: u32) -> bool {
 // Prints v and what comes after it.
 fn print_hex(v: u32, after: &[u8]) {
     let mut digits = [0u8; 8];
-    if let Next::At(n) = text::put_hex(&mut digits, 0, v) {
-        io::write_all(1, &digits[..n]);
-    }
+    let n = text::put_hex(&mut digits, 0, v);
+    io::write_all(1, &digits[..n]);
     io::write_all(1, after);
 }

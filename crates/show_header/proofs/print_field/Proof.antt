@@ -1,6 +1,6 @@
 -- The next place is within the buffer.
 use borrow.Author.Needs.{needs}
-use Rattle.header_text.specs.Text.{next-within}
+use Rattle.header_text.specs.Append.{next-within}
 use Rattle.show_header.proofs.print_field.Statement.{statement}
 use Rattle.show_header.proofs.print_field.Tie as tie
 

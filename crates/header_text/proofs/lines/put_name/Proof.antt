@@ -1,7 +1,8 @@
 -- The constant is the names of the lines, so the words at k are the name of line k.
 use mathlib.Core.Path.{ap, _∙_}
 use borrow.Author.Needs.{needs}
-use Rattle.header_text.specs.Text.{appended, bytes}
+use Rattle.text.specs.Text.{bytes}
+use Rattle.header_text.specs.Append.{appended}
 use Rattle.header_text.specs.Lines.{headerLines}
 use Rattle.header_text.proofs.Words.{line-name}
 use Rattle.header_text.proofs.lines.put_name.Statement.{statement}

@@ -1,0 +1,3 @@
+-- What ties the code to the definitions.
+pub mod Laws
+pub mod Whole

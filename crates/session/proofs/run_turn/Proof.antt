@@ -1,0 +1,67 @@
+use Rattle.linker_calls.specs.Steps.{lent}
+use Rattle.session.proofs.Laws.{turned}
+use borrow.Author.Needs.{needs}
+use Rattle.session.proofs.run_turn.Statement.{statement}
+use Rattle.session.proofs.run_turn.Tie as tie
+use Rattle.session.proofs.run_turn.Reads as reads
+use Rattle.session.proofs.run_turn.Lts as lts
+use Rattle.session.proofs.run_step.Reads as run-step-reads
+use Rattle.session_file.proofs.read_step.Reads as read-step-reads
+use Rattle.session_file.proofs.window_address.Reads as window-address-reads
+use Rattle.session_lines.proofs.put_step.Reads as put-step-reads
+
+read-step-requires : tie.Need-read-step-requires
+read-step-requires c κs = search needs
+
+window-address-requires : tie.Need-window-address-requires
+window-address-requires c κs = search needs
+
+run-step-requires : tie.Need-run-step-requires
+run-step-requires c κs = search needs
+
+add-put-step : tie.Need-add-put-step
+add-put-step c = search needs
+
+put-step-requires : tie.Need-put-step-requires
+put-step-requires c κs = search needs
+
+same-length : tie.Need-same-length
+same-length c = search needs
+
+same-length-2 : tie.Need-same-length-2
+same-length-2 c = search needs
+
+same-length-3 : tie.Need-same-length-3
+same-length-3 c = search needs
+
+same-length-4 : tie.Need-same-length-4
+same-length-4 c = search needs
+
+same-length-5 : tie.Need-same-length-5
+same-length-5 c = search needs
+
+returns : tie.Need-returns
+returns c =
+    let p2 = c .before .before in
+    let p12 = p2 .before .before .before .before .before .before .before .before .before .before in
+    let p17 = p12 .before .before .before .before .before in
+    let p18 = p17 .before in
+    let a = p18 .before .before .before .before .before .before .before .args in
+    turned (a .file .now) (a .k) (a .at, a .out .now) (lent (a .window .now) (a .records .now) (a .names .now) (a .missing .now))
+    (p18 .read-step .ensures) (p17 .window-address .ensures) (p12 .run-step .ensures) (p2 .put-step .ensures)
+
+pub run-turn-spec : {M : Type 1} → statement M
+run-turn-spec =
+    tie.close
+    (tie.spec
+    read-step-requires
+    window-address-requires
+    run-step-requires
+    add-put-step
+    put-step-requires
+    same-length
+    same-length-2
+    same-length-3
+    same-length-4
+    same-length-5
+    returns)

@@ -1,0 +1,32 @@
+-- The steps of a session, run through the three calls. Document 01, "The session program".
+use Prim.Native.Nat.{ℕ}
+use mathlib.Core.List.{List}
+use mathlib.Core.Path.{_≡_}
+use lib.ListN.{replicate}
+use Rattle.register.specs.Words.{part}
+use Rattle.linker.specs.Outcome.{Bytes, Outcome, initializeOutcome, loadOutcome, unloadOutcome}
+use Rattle.linker.specs.Valid.{Valid}
+use Rattle.session_file.specs.declared.Step.{Step}
+use Rattle.session_file.specs.declared.Step.the-variants.{Initialize, Load, Unload, Bad}
+use Rattle.session_file.specs.File.{windowLength, windowOffset}
+
+-- "The register starts zeroed, records and names 16,384 bytes each."
+unfoldable pub start : List ℕ → Bytes
+start file =
+    record {
+      window = part file (windowOffset file) (windowLength file);
+      records = replicate 16384 0;
+      names = replicate 16384 0;
+      missing = replicate 32896 0;
+    }
+
+-- what a step gives; a session has no `Bad` step
+unfoldable pub stepOutcome : Step → ℕ → Bytes → Outcome
+stepOutcome (Initialize base size) at b = initializeOutcome base size at b
+stepOutcome (Load l auto level) at b = loadOutcome l auto level at b
+stepOutcome (Unload base) at b = unloadOutcome base at b
+stepOutcome Bad at b = record { number = 0; value = 0; left = b }
+
+-- what running a step promises: its outcome, and that a register stays one
+abbrev pub Ran : Step → ℕ → Bytes → Outcome → Type 0
+Ran step at b o = (o ≡ stepOutcome step at b) × (Valid b → Valid (o .left))

@@ -1,0 +1,142 @@
+// A session: the file judged, its steps run through the three calls, and the text that they print.
+ghost use mathlib.Core.Path.{_≡_};
+ghost use mathlib.Core.Bool.{true};
+ghost use Prim.Native.Nat.{_<_, _≤_};
+ghost use Rattle.register.specs.Decode.{isRegister};
+ghost use Rattle.text.specs.Text.{put};
+ghost use Rattle.linker_calls.specs.Steps.{lent, left};
+ghost use Rattle.session_file.specs.File.{stepCount};
+ghost use Rattle.session.specs.Run.{Ran};
+ghost use Rattle.session.specs.Session.{sessionText};
+ghost use Rattle.session.specs.Ahead.{Turned, AllRan};
+use linker_calls::initialize;
+use linker_calls::load;
+use linker_calls::unload;
+use session_file::Step;
+use session_file::is_session;
+use session_file::read_step;
+use session_file::step_count;
+use session_file::window_address;
+use session_file::window_bytes;
+use session_lines::put_register;
+use session_lines::put_step;
+use text::put_decimal;
+use text::put_text;
+
+// What a call answered.
+struct Answered {
+    number: u32,
+    value: u32,
+}
+
+// Runs a step.
+fn run_step(
+    step: Step,
+    at: u32,
+    window: &mut [u8],
+    records: &mut [u8],
+    names: &mut [u8],
+    missing: &mut [u8],
+) -> Answered
+    ensures { λ r. ⌜ Ran step at (lent (now (window .entry)) (now (records .entry)) (now (names .entry)) (now (missing .entry)))
+        (left (r .number) (r .value) (lent (now (window .exit)) (now (records .exit)) (now (names .exit)) (now (missing .exit)))) ⌝ }
+{
+    let mut value: u32 = 0;
+    let number = match step {
+        Step::Initialize(base, size) => {
+            initialize(at, window, records, names, missing, base, size, &mut value)
+        }
+        Step::Load(l, auto_link, level) => load(
+            at,
+            window,
+            records,
+            names,
+            missing,
+            l.base,
+            l.size,
+            l.data_at,
+            l.data_size,
+            l.bss_at,
+            l.bss_size,
+            auto_link,
+            level,
+            &mut value,
+        ),
+        Step::Unload(base) => unload(at, window, records, names, missing, base, &mut value),
+        Step::Bad => 0,
+    };
+    Answered { number, value }
+}
+
+// Runs step k and puts its line.
+fn run_turn(
+    file: &[u8],
+    k: u32,
+    window: &mut [u8],
+    records: &mut [u8],
+    names: &mut [u8],
+    missing: &mut [u8],
+    out: &mut [u8],
+    at: usize,
+) -> usize
+    requires { ⌜ k < 64 ⌝ }
+    ensures { λ r. ⌜ Turned (now (file .entry)) k
+        ((at, now (out .entry)), lent (now (window .entry)) (now (records .entry)) (now (names .entry)) (now (missing .entry)))
+        ((r, now (out .exit)), lent (now (window .exit)) (now (records .exit)) (now (names .exit)) (now (missing .exit))) ⌝ }
+{
+    let step = read_step(file, k);
+    let answered = run_step(step, window_address(file), window, records, names, missing);
+    put_step(out, at, k + 1, step, answered.number, answered.value)
+}
+
+// Runs all steps and puts their lines.
+fn run_steps(
+    file: &[u8],
+    window: &mut [u8],
+    records: &mut [u8],
+    names: &mut [u8],
+    missing: &mut [u8],
+    out: &mut [u8],
+    at: usize,
+) -> usize
+    requires { ⌜ (stepCount (now file) ≤ 64) × (isRegister (now records) (now names) (now missing) ≡ true) ⌝ }
+    ensures { λ r. ⌜ AllRan (now (file .entry)) (stepCount (now (file .entry)))
+        ((at, now (out .entry)), lent (now (window .entry)) (now (records .entry)) (now (names .entry)) (now (missing .entry)))
+        ((r, now (out .exit)), lent (now (window .exit)) (now (records .exit)) (now (names .exit)) (now (missing .exit))) ⌝ }
+{
+    let count = step_count(file);
+    let mut i = at;
+    let mut k: u32 = 0;
+    while k < count {
+        i = run_turn(file, k, window, records, names, missing, out, i);
+        k += 1;
+    }
+    i
+}
+
+// Puts the text of a session, as far as there is room, and answers how many bytes that are.
+pub fn session_text(file: &[u8], out: &mut [u8]) -> usize
+    ensures { λ r. ⌜ (r, now (out .exit)) ≡ put (sessionText (now (file .entry))) (0, now (out .entry)) ⌝ }
+{
+    if !is_session(file) {
+        return put_text(out, 0, b"session bad\n");
+    }
+    let mut window = [0u8; 32768];
+    let mut records = [0u8; 16384];
+    let mut names = [0u8; 16384];
+    let mut missing = [0u8; 32896];
+    let length = put_text(&mut window, 0, window_bytes(file));
+    let i = put_text(out, 0, b"session ");
+    let i = put_decimal(out, i, step_count(file));
+    let i = put_text(out, i, b"\n");
+    let i = run_steps(
+        file,
+        &mut window[..length],
+        &mut records,
+        &mut names,
+        &mut missing,
+        out,
+        i,
+    );
+    put_register(out, i, &records, &names, &missing)
+}

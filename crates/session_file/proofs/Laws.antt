@@ -1,0 +1,94 @@
+-- What the code of `session_file` finds, test by test: nine words as a step, the steps of a table, and the judgement.
+use Prim.Native.Nat.{ℕ, zero, suc, _+_, _*_, _≤_, _<_}
+use mathlib.Core.Logic.{inl, inr}
+use mathlib.Core.Path.{_≡_, refl}
+use mathlib.Core.List.{List, [], _∷_}
+use mathlib.Core.Bool.{Bool, true, false, _&&_, and-false, and-assoc}
+use native.Mathlib.Omega.{arith}
+use native.Mathlib.Nat.{eq-or-lt-of-le}
+use native.Mathlib.Numerals.{add-one}
+use lib.ListN.{length}
+use lib.Dec.{eqb, leb}
+use borrow.Author.Tests.{ne-eqb, le-leb}
+use Rattle.window.specs.Memory.{if_then_else_}
+use Rattle.register.specs.Words.{allZero}
+use Rattle.linker.specs.declared.rebase.Lent.{Lent}
+use Rattle.session_file.specs.declared.Step.{Step}
+use Rattle.session_file.specs.declared.Step.the-variants.{Initialize, Load, Unload, Bad}
+use Rattle.session_file.specs.File.{headWord, stepOf, stepAt, isStep, areSteps, isSession}
+
+-- nine words as a step, six of them in l
+module _ (call : ℕ) (l : Lent) (auto level : ℕ) where
+  abbrev rest : List ℕ
+  rest = l .«data_at» ∷ l .«data_size» ∷ l .«bss_at» ∷ l .«bss_size» ∷ auto ∷ level ∷ []
+
+  abbrev step : Step
+  step = stepOf call (l .base) (l .size) (l .«data_at») (l .«data_size») (l .«bss_at») (l .«bss_size») auto level
+
+  pub is-load : call ≡ 2 → Load l auto level ≡ step
+  unfolding stepOf
+  is-load e = rw e
+
+  pub is-initialize : call ≡ 1 → true ≡ allZero rest → Initialize (l .base) (l .size) ≡ step
+  unfolding stepOf
+  is-initialize e z = rw (e, ← z)
+
+  pub is-unload : call ≡ 3 → l .size ≡ 0 → true ≡ allZero rest → Unload (l .base) ≡ step
+  unfolding stepOf allZero
+  is-unload e s z = rw (e, s, ← z)
+
+  pub has-size : call ≡ 3 → (l .size ≡ 0 → ⊥) → Bad ≡ step
+  unfolding stepOf allZero
+  has-size e s = rw (e, ne-eqb (l .size) 0 s)
+
+  pub no-call : (call ≡ 1 → ⊥) → (call ≡ 2 → ⊥) → (call ≡ 3 → ⊥) → Bad ≡ step
+  unfolding stepOf
+  no-call a b d = rw (ne-eqb call 1 a, ne-eqb call 2 b, ne-eqb call 3 d)
+
+  pub not-zero : (call ≡ 2 → ⊥) → false ≡ allZero rest → Bad ≡ step
+  unfolding stepOf allZero
+  not-zero n z = rw (ne-eqb call 2 n, ← z, and-false (eqb (l .size) 0)) (go (eqb call 1) (eqb call 3))
+    where
+      go : (a b : Bool) → Bad ≡ (if a then Bad else (if b then Bad else Bad))
+      go true b = refl
+      go false true = refl
+      go false false = refl
+
+-- once a step is no call, the steps are not all calls
+pub step-bad : (file : List ℕ) (k count : ℕ) {t : Bool} → k < count → t ≡ isStep (stepAt file k) → t ≡ false → false ≡ areSteps file count
+unfolding areSteps
+step-bad file k zero h s e = absurd (omega arith)
+step-bad file k (suc n) h s e =
+    elim (eq-or-lt-of-le {n = k} {m = n} (omega arith))
+    [ inl z ↦ rw (← z, ← s, e, and-false (areSteps file k)) | inr l ↦ rw (← step-bad file k n l s e) ]
+
+pub step-on : (file : List ℕ) (k : ℕ) {t : Bool} → areSteps file k ≡ true → t ≡ isStep (stepAt file k) → t ≡ true → areSteps file (k + 1) ≡ true
+unfolding areSteps
+step-on file k z s e = rw (add-one, z, ← s, e)
+
+-- the judgement, with its tests in three groups
+abbrev limits : List ℕ → Bool
+limits file = leb 20 (length file) && (leb (length file) 49152 && (leb (headWord file 0) 64 && leb (headWord file 3) 32768))
+
+abbrev parts : List ℕ → Bool
+parts file = leb (headWord file 1 + 36 * headWord file 0) (length file) && leb (headWord file 4 + headWord file 3) (length file)
+
+-- the table is inside, so whether the window is inside too is left
+pub window-left : (file : List ℕ) {table count offset size : ℕ} → table ≡ headWord file 1 → count ≡ headWord file 0
+    → table + 36 * count ≤ length file → offset ≡ headWord file 4 → size ≡ headWord file 3 → leb (offset + size) (length file) ≡ parts file
+window-left file t n h o s = rw (← t, ← n, ← o, ← s, le-leb _ _ h)
+
+groups : (file : List ℕ) → limits file && (parts file && areSteps file (headWord file 0)) ≡ isSession file
+unfolding isSession
+groups file = simp and-assoc
+
+module _ (file : List ℕ) {within : Bool} (limited : within ≡ limits file) where
+  pub past-limits : within ≡ false → false ≡ isSession file
+  past-limits z = rw (← groups file, ← limited, z)
+
+  module _ (i : within ≡ true) {inside : Bool} (placed : inside ≡ parts file) where
+    pub part-outside : inside ≡ false → false ≡ isSession file
+    part-outside z = rw (← groups file, ← limited, i, ← placed, z)
+
+    pub steps-left : inside ≡ true → {count : ℕ} {t : Bool} → count ≡ headWord file 0 → t ≡ areSteps file count → t ≡ isSession file
+    steps-left j n s = rw (← groups file, ← limited, i, ← placed, j, ← n) s

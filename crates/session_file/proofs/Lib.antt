@@ -1,0 +1,2 @@
+-- What the proofs of `session_file` share.
+pub mod Laws

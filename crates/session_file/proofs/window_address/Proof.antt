@@ -1,0 +1,14 @@
+use borrow.Author.Needs.{needs}
+use Rattle.session_file.specs.File.{headWord}
+use Rattle.session_file.proofs.window_address.Statement.{statement}
+use Rattle.session_file.proofs.window_address.Tie as tie
+
+word-requires : tie.Need-word-requires
+word-requires c κs = search needs
+
+returns : tie.Need-returns
+unfolding headWord
+returns c = c .word .ensures
+
+pub window-address-spec : {M : Type 1} → statement M
+window-address-spec = tie.close (tie.spec word-requires returns)

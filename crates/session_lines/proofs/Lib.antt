@@ -1,0 +1,2 @@
+-- What the proofs of `session_lines` share.
+pub mod Laws

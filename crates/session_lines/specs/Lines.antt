@@ -1,0 +1,50 @@
+-- The lines that a session prints. Document 01, "The session program".
+use Prim.Native.Nat.{ℕ, _+_}
+use mathlib.Core.List.{List, [], _∷_, _++_}
+use mathlib.Core.Bool.{Bool, true, false}
+use lib.ListN.{length}
+use Rattle.window.specs.Memory.{if_then_else_}
+use Rattle.register.specs.Module.{Module, Register}
+use Rattle.text.specs.Text.{bytes, hexOf, decimalOf, pairsOf}
+use Rattle.session_file.specs.declared.Step.{Step}
+use Rattle.session_file.specs.declared.Step.the-variants.{Initialize, Load, Unload, Bad}
+
+-- a step of a session is one of the three calls, so `Bad` has no name
+unfoldable pub callName : Step → List ℕ
+callName (Initialize base size) = bytes "initialize"
+callName (Load l auto level) = bytes "load"
+callName (Unload base) = bytes "unload"
+callName Bad = []
+
+-- "step, call, number, then fixed size (load) or 1 if a module left (unload), else 0": hex serves for all three
+unfoldable pub stepLine : ℕ → Step → ℕ → ℕ → List ℕ
+stepLine k step number value =
+    decimalOf k ++ bytes " " ++ callName step ++ bytes " " ++ decimalOf number ++ bytes " " ++ hexOf value ++ bytes "\n"
+
+-- "name length, then the name's bytes as hex pairs if any"
+unfoldable pub nameText : List ℕ → List ℕ
+nameText [] = decimalOf 0
+nameText (b ∷ s) = decimalOf (length (b ∷ s)) ++ bytes " " ++ pairsOf (b ∷ s)
+
+unfoldable pub bit : Bool → ℕ
+bit true = 1
+bit false = 0
+
+-- "Module lines: base, size, auto-link, named, indexed, name length, then the name's bytes"
+unfoldable pub moduleLine : Module → List ℕ
+moduleLine m =
+    bytes "module " ++ hexOf (m .base) ++ bytes " " ++ hexOf (m .size) ++ bytes " " ++ decimalOf (bit (m .auto)) ++ bytes " "
+    ++ decimalOf (length (m .named)) ++ bytes " " ++ decimalOf (length (m .indexed)) ++ bytes " " ++ nameText (m .name) ++ bytes "\n"
+
+unfoldable pub moduleLines : List Module → List ℕ
+moduleLines [] = []
+moduleLines (m ∷ ms) = moduleLine m ++ moduleLines ms
+
+-- "a line for each missing name: length, then bytes likewise"
+unfoldable pub nameLines : List (List ℕ) → List ℕ
+nameLines [] = []
+nameLines (n ∷ ns) = nameText n ++ bytes "\n" ++ nameLines ns
+
+-- "Then comes `missing` with the count, and a line for each missing name"
+unfoldable pub missingLines : List (List ℕ) → List ℕ
+missingLines ns = bytes "missing " ++ decimalOf (length ns) ++ bytes "\n" ++ nameLines ns

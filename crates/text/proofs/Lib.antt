@@ -1,0 +1,2 @@
+-- What the proofs of `text` share.
+pub mod Laws
