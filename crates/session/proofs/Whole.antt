@@ -1,6 +1,6 @@
 -- The text of a session, from what its parts print.
 use Prim.Native.Nat.{ℕ, _+_, _-_, _≤_, min}
-use mathlib.Core.Path.{_≡_, refl, sym, ap, _∙_}
+use mathlib.Core.Path.{_≡_, refl, sym, ap, subst, _∙_}
 use mathlib.Core.Bool.{Bool, true, false}
 use mathlib.Core.List.{List, _++_}
 use native.Mathlib.Omega.{arith}
@@ -8,7 +8,9 @@ use lib.ListN.{length, take, drop, replicate, length-take, length-drop, length-r
 use lib.Seq.{take-all, take-append-seam}
 use Rattle.window.specs.Memory.{if_then_else_}
 use Rattle.register.specs.Words.{part}
+use Rattle.register.specs.Module.{proper}
 use Rattle.register.specs.Decode.{registerOf}
+use Rattle.register.specs.CheckIs.{register-parts}
 use Rattle.linker.specs.Outcome.{Bytes}
 use Rattle.linker.specs.Refusals.{lentRegister}
 use Rattle.linker_calls.specs.Steps.{lent}
@@ -19,13 +21,14 @@ use Rattle.session_file.specs.Parts.{session-parts}
 use Rattle.session_lines.specs.Lines.{moduleLines, missingLines}
 use Rattle.session.specs.Run.{start}
 use Rattle.session.specs.Session.{steps, registerLines, sessionText}
+use Rattle.session.specs.Fits.{bad-fits, text-fits}
 use Rattle.session.specs.Ahead.{Placed, AllRan, ahead}
 
 pub text-bad
     : (file : List ℕ) (q : ℕ × List ℕ) {p : ℕ × List ℕ} → isSession file ≡ false → p ≡ put (bytes "session bad\n") q
-    → p ≡ put (sessionText file) q
+    → (p ≡ put (sessionText file) q) × (length (sessionText file) ≤ 139264)
 unfolding sessionText
-text-bad file q e h = rw e h
+text-bad file q e h = (rw e h, bad-fits file e)
 
 -- the window starts with the file's bytes, which a buffer of 32,768 bytes has room for
 pub window-laid
@@ -51,7 +54,7 @@ pub text-good
     → p₂ ≡ put (decimalOf count) p₁ → p₃ ≡ put (bytes "\n") p₂
     → AllRan file (stepCount file) (p₃, lent w₀ (replicate 16384 0) (replicate 16384 0) (replicate 32896 0)) (p₄, lent w records names missing)
     → p₅ ≡ put (moduleLines (registerOf records names missing .modules) ++ missingLines (registerOf records names missing .missing)) p₄
-    → p₅ ≡ put (sessionText file) q
+    → (p₅ ≡ put (sessionText file) q) × (length (sessionText file) ≤ 139264)
 unfolding sessionText registerLines start ahead
 text-good file q {w₀} {p₁ = p₁} {p₃ = p₃} {p₄ = p₄} s ew e₁ ec e₂ e₃ ran e₅ =
     let ends = steps file (stepCount file) 0 (start file) in
@@ -60,5 +63,9 @@ text-good file q {w₀} {p₁ = p₁} {p₃ = p₃} {p₄ = p₄} s ew e₁ ec e
     let e₄ : p₄ ≡ put (ends .0) p₃ = ap (λ (x : Placed). x .0) r in
     let f₂ = e₂ ∙ ap (λ n. put (decimalOf n) p₁) ec in
     let f₅ = e₅ ∙ ap (λ b. put (lines b) p₄) (ap (λ (x : Placed). x .1) r) in
-    rw (s, put-append (bytes "session " ++ decimalOf (stepCount file) ++ bytes "\n" ++ ends .0), put-append (bytes "session " ++ decimalOf (stepCount file) ++ bytes "\n"), put-append (bytes "session " ++ decimalOf (stepCount file)), put-append (bytes "session "))
-    (f₅ ∙ ap (put (lines (ends .1))) (e₄ ∙ ap (put (ends .0)) (e₃ ∙ ap (put (bytes "\n")) (f₂ ∙ ap (put (decimalOf (stepCount file))) e₁))))
+    let proper-now : proper (lentRegister (ends .1)) ≡ true =
+    subst (λ (x : Placed). proper (lentRegister (x .1)) ≡ true) r (register-parts _ _ _ (ran .1) .0) in (
+      rw (s, put-append (bytes "session " ++ decimalOf (stepCount file) ++ bytes "\n" ++ ends .0), put-append (bytes "session " ++ decimalOf (stepCount file) ++ bytes "\n"), put-append (bytes "session " ++ decimalOf (stepCount file)), put-append (bytes "session "))
+          (f₅ ∙ ap (put (lines (ends .1))) (e₄ ∙ ap (put (ends .0)) (e₃ ∙ ap (put (bytes "\n")) (f₂ ∙ ap (put (decimalOf (stepCount file))) e₁)))),
+      text-fits file s proper-now,
+    )

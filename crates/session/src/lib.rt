@@ -2,6 +2,7 @@
 ghost use mathlib.Core.Path.{_≡_};
 ghost use mathlib.Core.Bool.{true};
 ghost use Prim.Native.Nat.{_<_, _≤_};
+ghost use lib.ListN.{length};
 ghost use Rattle.register.specs.Decode.{isRegister};
 ghost use Rattle.text.specs.Text.{put};
 ghost use Rattle.linker_calls.specs.Steps.{lent, left};
@@ -114,9 +115,11 @@ fn run_steps(
     i
 }
 
-// Puts the text of a session, as far as there is room, and answers how many bytes that are.
+// Puts the text of a session, as far as there is room, and answers how many bytes that are. A buffer of 139,264 bytes has
+// room for every text.
 pub fn session_text(file: &[u8], out: &mut [u8]) -> usize
-    ensures { λ r. ⌜ (r, now (out .exit)) ≡ put (sessionText (now (file .entry))) (0, now (out .entry)) ⌝ }
+    ensures { λ r. ⌜ ((r, now (out .exit)) ≡ put (sessionText (now (file .entry))) (0, now (out .entry)))
+        × (length (sessionText (now (file .entry))) ≤ 139264) ⌝ }
 {
     if !is_session(file) {
         return put_text(out, 0, b"session bad\n");

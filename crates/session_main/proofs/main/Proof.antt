@@ -28,10 +28,10 @@ session-text-requires : tie.Need-session-text-requires
 session-text-requires c κs = search needs
 
 array-share-prefix-text : tie.Need-array-share-prefix-text
-array-share-prefix-text c = put-within _ 0 _ (omega arith) (c .before .session-text .ensures) .0
+array-share-prefix-text c = put-within _ 0 _ (omega arith) (c .before .session-text .ensures .0) .0
 
 slice-aggregate-write-all : tie.Need-slice-aggregate-write-all
-slice-aggregate-write-all c = put-within _ 0 _ (omega arith) (c .before .before .session-text .ensures) .1
+slice-aggregate-write-all c = put-within _ 0 _ (omega arith) (c .before .before .session-text .ensures .0) .1
 
 write-all-requires : tie.Need-write-all-requires
 write-all-requires c κs = search needs
