@@ -155,8 +155,8 @@ returns-3 c =
     let p24 = p18 .before .before .before .before .before .before in
     let a = p24 .args in
     let b = lent (a .window .now) (a .records .now) (a .names .now) (a .missing .now) in
-    unloads _ (a .at) b (p18 .word .ensures) (p17 .word2 .ensures) (p16 .word3 .ensures) (p15 .word4 .ensures) (p14 .match .rest .0 .1) (p14 .match .rest .1)
-    (p8 .unload .ensures)
+    unloads _ (a .at) b (p18 .word .ensures) (p17 .word2 .ensures) (p16 .word3 .ensures) (p15 .word4 .ensures)
+    (p14 .match .rest .0 .1) (p14 .match .rest .1) (p8 .unload .ensures)
 
 pub call-spec : {M : Type 1} → statement M
 call-spec =

@@ -103,7 +103,10 @@ slice-aggregate-judge-8 c = search needs
 
 judge-requires : tie.Need-judge-requires
 judge-requires c κs =
-    c .before .before .before .before .before .before .before .before .before .before .before .before .before .before .before .before .before .before .before .before .before .before .before .before .before .before .before .before .before .before .before .before .before .before .before .before .before .before .before .before .pre
+    let p10 = c .before .before .before .before .before .before .before .before .before .before in
+    let p20 = p10 .before .before .before .before .before .before .before .before .before .before in
+    let p30 = p20 .before .before .before .before .before .before .before .before .before .before in
+    p30 .before .before .before .before .before .before .before .before .before .before .pre
 
 returns-5 : tie.Need-returns-5
 returns-5 c = search needs

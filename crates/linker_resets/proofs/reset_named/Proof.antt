@@ -1,9 +1,9 @@
 -- By whether the module exported the name.
 use borrow.Author.Needs.{needs}
 use Rattle.register_read.specs.Read.{moduleAt}
-use Rattle.linker_imports.proofs.ResetLaws.{named-kept, named-reset}
-use Rattle.linker_imports.proofs.resets.reset_named.Statement.{statement}
-use Rattle.linker_imports.proofs.resets.reset_named.Tie as tie
+use Rattle.linker_resets.proofs.Laws.{named-kept, named-reset}
+use Rattle.linker_resets.proofs.reset_named.Statement.{statement}
+use Rattle.linker_resets.proofs.reset_named.Tie as tie
 
 read32-requires : tie.Need-read32-requires
 read32-requires c κs = search needs

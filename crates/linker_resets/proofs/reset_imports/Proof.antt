@@ -1,9 +1,9 @@
 -- The handler, then the named imports, then the module entries.
 use borrow.Author.Needs.{needs}
 use Rattle.register_read.specs.Read.{moduleAt}
-use Rattle.linker_imports.proofs.ResetLaws.{both-reset}
-use Rattle.linker_imports.proofs.resets.reset_imports.Statement.{statement}
-use Rattle.linker_imports.proofs.resets.reset_imports.Tie as tie
+use Rattle.linker_resets.proofs.Laws.{both-reset}
+use Rattle.linker_resets.proofs.reset_imports.Statement.{statement}
+use Rattle.linker_resets.proofs.reset_imports.Tie as tie
 
 unresolved-symbol-requires : tie.Need-unresolved-symbol-requires
 unresolved-symbol-requires c κs = search needs

@@ -10,10 +10,10 @@ use Rattle.layout.specs.Segments.{entryAt}
 use Rattle.layout.specs.Header.{importIndexedSymbolEntrySize}
 use Rattle.linker.specs.Resets.{resetAt}
 use Rattle.linker_relocation.specs.Runs.{step-made, steps-over}
-use Rattle.linker_imports.specs.Source.{resetTable}
-use Rattle.linker_imports.proofs.ResetLaws.{resets-start}
-use Rattle.linker_imports.proofs.resets.reset_table.Statement.{statement}
-use Rattle.linker_imports.proofs.resets.reset_table.Tie as tie
+use Rattle.linker_resets.specs.Tables.{resetTable}
+use Rattle.linker_resets.proofs.Laws.{resets-start}
+use Rattle.linker_resets.proofs.reset_table.Statement.{statement}
+use Rattle.linker_resets.proofs.reset_table.Tie as tie
 
 abbrev Inv-loop : tie.InvT-loop
 Inv-loop at w₀ base handler table count index₀ w index =

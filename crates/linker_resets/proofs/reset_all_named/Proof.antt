@@ -1,4 +1,4 @@
--- A counted loop over the table: `modules-start`, `step-made`, `steps-over`.
+-- A counted loop over the table: `named-start`, `step-made`, `steps-over`.
 use Prim.Native.Nat.{_-_, _≤_}
 use mathlib.Core.Path.{_≡_, refl, _∙_}
 use native.Mathlib.Omega.{arith}
@@ -7,22 +7,22 @@ use borrow.Author.Needs.{needs}
 use Rattle.window.specs.Access.{run}
 use Rattle.window.specs.Loop.{loop}
 use Rattle.layout.specs.Segments.{entryAt}
-use Rattle.layout.specs.Header.{importModuleEntrySize}
+use Rattle.layout.specs.Header.{importNamedSymbolEntrySize}
 use Rattle.register_read.specs.Read.{moduleAt}
-use Rattle.linker.specs.Resets.{resetModule}
+use Rattle.linker.specs.Resets.{resetNamed}
 use Rattle.linker_relocation.specs.Runs.{step-made, steps-over}
-use Rattle.linker_imports.specs.Source.{resetAllModules}
-use Rattle.linker_imports.proofs.ResetLaws.{modules-start}
-use Rattle.linker_imports.proofs.resets.reset_all_modules.Statement.{statement}
-use Rattle.linker_imports.proofs.resets.reset_all_modules.Tie as tie
+use Rattle.linker_resets.specs.Tables.{resetAllNamed}
+use Rattle.linker_resets.proofs.Laws.{named-start}
+use Rattle.linker_resets.proofs.reset_all_named.Statement.{statement}
+use Rattle.linker_resets.proofs.reset_all_named.Tie as tie
 
 abbrev Inv-loop : tie.InvT-loop
 Inv-loop at w₀ records names place base handler table count index₀ w index =
     (index ≤ count)
     × (length w ≡ length w₀)
-    × (run at (loop (λ i _. resetModule (moduleAt records names place) base handler (entryAt table i importModuleEntrySize)) index (count - index)
-    tt) w
-    ≡ run at (resetAllModules (moduleAt records names place) base handler) w₀)
+    × (run at (loop (λ i _. resetNamed (moduleAt records names place) base handler (entryAt table i importNamedSymbolEntrySize))
+    index (count - index) tt) w
+    ≡ run at (resetAllNamed (moduleAt records names place) base handler) w₀)
 
 abbrev μ-loop : tie.MeasureT-loop
 μ-loop at w₀ records names place base handler table count index₀ w index = count - index
@@ -39,13 +39,13 @@ loop-holds c =
     let p7 = p2 .before .before .before .before .before in
     let a = p7 .args in
     let m = moduleAt (a .records .now) (a .names .now) (a .place) in
-    (omega arith, refl, modules-start (a .at) (a .base) (a .handler) (a .w .now) m (p2 .field .ensures) (c .field2 .ensures))
+    (omega arith, refl, named-start (a .at) (a .base) (a .handler) (a .w .now) m (p2 .field .ensures) (c .field2 .ensures))
 
 entry-address-requires : tie.Need-entry-address-requires Inv-loop μ-loop
 entry-address-requires c κs = search needs
 
-reset-module-requires : tie.Need-reset-module-requires Inv-loop μ-loop
-reset-module-requires c κs = search needs
+reset-named-requires : tie.Need-reset-named-requires Inv-loop μ-loop
+reset-named-requires c κs = search needs
 
 add-index : tie.Need-add-index Inv-loop μ-loop
 add-index c = omega arith
@@ -65,9 +65,9 @@ loop-again c =
     let a = p14 .args in
     let m = moduleAt (a .records .now) (a .names .now) (a .place) in (
       omega arith,
-      p2 .reset-module .kept .1 .0 ∙ p6 .loop .inv .1,
-      step-made (a .at) (resetModule m (a .base) (a .handler)) (λ i. entryAt (p9 .field .result) i importModuleEntrySize) (p6 .loop .index)
-          (p7 .field2 .result) (p6 .loop .w) (p6 .loop .inv .2) (p5 .loop-test .taken) (p4 .entry-address .ensures) (p2 .reset-module .ensures),
+      p2 .reset-named .kept .1 .0 ∙ p6 .loop .inv .1,
+      step-made (a .at) (resetNamed m (a .base) (a .handler)) (λ i. entryAt (p9 .field .result) i importNamedSymbolEntrySize) (p6 .loop .index)
+          (p7 .field2 .result) (p6 .loop .w) (p6 .loop .inv .2) (p5 .loop-test .taken) (p4 .entry-address .ensures) (p2 .reset-named .ensures),
     )
 
 same-length : tie.Need-same-length Inv-loop μ-loop
@@ -83,11 +83,11 @@ returns c =
     let p9 = p4 .before .before .before .before .before in
     let a = p9 .args in
     let m = moduleAt (a .records .now) (a .names .now) (a .place) in
-    steps-over (a .at) (resetModule m (a .base) (a .handler)) (λ i. entryAt (p4 .field .result) i importModuleEntrySize) (p1 .loop .index)
+    steps-over (a .at) (resetNamed m (a .base) (a .handler)) (λ i. entryAt (p4 .field .result) i importNamedSymbolEntrySize) (p1 .loop .index)
     (p2 .field2 .result) (p1 .loop .w) (p1 .loop .inv .2) (c .loop-test .left)
 
-pub reset-all-modules-spec : {M : Type 1} → statement M
-reset-all-modules-spec =
+pub reset-all-named-spec : {M : Type 1} → statement M
+reset-all-named-spec =
     tie.close
     (tie.spec
     Inv-loop
@@ -96,7 +96,7 @@ reset-all-modules-spec =
     field-requires-2
     loop-holds
     entry-address-requires
-    reset-module-requires
+    reset-named-requires
     add-index
     loop-less
     loop-again

@@ -1,7 +1,7 @@
 use borrow.Author.Needs.{needs}
-use Rattle.linker_imports.proofs.ResetLaws.{reset-entry}
-use Rattle.linker_imports.proofs.resets.reset_at.Statement.{statement}
-use Rattle.linker_imports.proofs.resets.reset_at.Tie as tie
+use Rattle.linker_resets.proofs.Laws.{reset-entry}
+use Rattle.linker_resets.proofs.reset_at.Statement.{statement}
+use Rattle.linker_resets.proofs.reset_at.Tie as tie
 
 wrapping-add-u32-requires : tie.Need-wrapping-add-u32-requires
 wrapping-add-u32-requires c κs = search needs

@@ -19,7 +19,7 @@ use Rattle.register_read.specs.declared.Symbol.the-variants.{At, Nothing}
 use Rattle.linker.specs.Relocation.{unresolvedSymbol, applyRelocationBatch, batchIsResolved}
 use Rattle.linker.specs.Resets.{reset, resetAt, exists, resetNamed, resetModule, resetImports}
 use Rattle.linker_relocation.specs.Runs.{after-reads}
-use Rattle.linker_imports.specs.Source.{resetTable, resetAllNamed, resetAllModules}
+use Rattle.linker_resets.specs.Tables.{resetTable, resetAllNamed, resetAllModules}
 
 -- one batch
 

@@ -1,8 +1,8 @@
 -- By whether there is a batch, and whether it is resolved.
 use borrow.Author.Needs.{needs}
-use Rattle.linker_imports.proofs.ResetLaws.{reset-none, reset-made, reset-left}
-use Rattle.linker_imports.proofs.resets.reset.Statement.{statement}
-use Rattle.linker_imports.proofs.resets.reset.Tie as tie
+use Rattle.linker_resets.proofs.Laws.{reset-none, reset-made, reset-left}
+use Rattle.linker_resets.proofs.reset.Statement.{statement}
+use Rattle.linker_resets.proofs.reset.Tie as tie
 
 returns : tie.Need-returns
 returns c =

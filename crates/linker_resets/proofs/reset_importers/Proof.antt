@@ -8,10 +8,11 @@ use Rattle.window.specs.Access.{run}
 use Rattle.register_read.specs.Read.{modulesOf, moduleAt}
 use Rattle.register_read.specs.Walk.{unwrapped}
 use Rattle.linker.specs.Resets.{resetImporters}
-use Rattle.linker_imports.specs.Modules.{otherThan}
-use Rattle.linker_imports.proofs.Walks.{Going, going-starts, going-fits, resetting, reset-next, reset-all}
-use Rattle.linker_imports.proofs.resets.reset_importers.Statement.{statement}
-use Rattle.linker_imports.proofs.resets.reset_importers.Tie as tie
+use Rattle.linker_resets.specs.Modules.{otherThan}
+use Rattle.linker_imports.specs.Walks.{Going, going-starts, going-fits}
+use Rattle.linker_resets.proofs.Walks.{resetting, reset-next, reset-all}
+use Rattle.linker_resets.proofs.reset_importers.Statement.{statement}
+use Rattle.linker_resets.proofs.reset_importers.Tie as tie
 
 abbrev Inv-loop : tie.InvT-loop
 Inv-loop at w₀ records names place count next₀ k₀ w next k =

@@ -1,9 +1,9 @@
 -- By whose record it is, and whether it is auto-linked.
 use borrow.Author.Needs.{needs}
 use Rattle.register_read.specs.Read.{moduleAt}
-use Rattle.linker_imports.proofs.Walks.{itself, linked, unlinked}
-use Rattle.linker_imports.proofs.resets.reset_importer.Statement.{statement}
-use Rattle.linker_imports.proofs.resets.reset_importer.Tie as tie
+use Rattle.linker_resets.proofs.Walks.{itself, linked, unlinked}
+use Rattle.linker_resets.proofs.reset_importer.Statement.{statement}
+use Rattle.linker_resets.proofs.reset_importer.Tie as tie
 
 returns : tie.Need-returns
 returns c =

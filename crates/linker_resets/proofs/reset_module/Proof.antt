@@ -1,10 +1,10 @@
 -- By whether the entry names the module.
 use borrow.Author.Needs.{needs}
 use Rattle.register_read.specs.Read.{moduleAt}
-use Rattle.linker_imports.proofs.Laws.{own-name}
-use Rattle.linker_imports.proofs.ResetLaws.{module-kept, module-reset}
-use Rattle.linker_imports.proofs.resets.reset_module.Statement.{statement}
-use Rattle.linker_imports.proofs.resets.reset_module.Tie as tie
+use Rattle.linker_imports.specs.Walks.{own-name}
+use Rattle.linker_resets.proofs.Laws.{module-kept, module-reset}
+use Rattle.linker_resets.proofs.reset_module.Statement.{statement}
+use Rattle.linker_resets.proofs.reset_module.Tie as tie
 
 read32-requires : tie.Need-read32-requires
 read32-requires c κs = search needs
