@@ -1,7 +1,7 @@
-use Rattle.linker_calls.specs.Laws.{enter-1, enter-2, enter-5, enter-0}
+use Rattle.linker_entry.proofs.Laws.{enter-1, enter-2, enter-5, enter-0}
 use borrow.Author.Needs.{needs}
-use Rattle.linker_calls.proofs.enter.Statement.{statement}
-use Rattle.linker_calls.proofs.enter.Tie as tie
+use Rattle.linker_entry.proofs.enter.Statement.{statement}
+use Rattle.linker_entry.proofs.enter.Tie as tie
 
 enum-told : tie.Need-enum-told
 enum-told c = search needs

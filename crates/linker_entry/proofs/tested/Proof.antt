@@ -1,9 +1,9 @@
-use Rattle.linker_calls.specs.Laws.{tested-3, tested-4, tested-0}
+use Rattle.linker_entry.proofs.Laws.{tested-3, tested-4, tested-0}
 use borrow.Author.Tests.{not-true, not-false}
 use mathlib.Core.Path.{sym, _∙_}
 use borrow.Author.Needs.{needs}
-use Rattle.linker_calls.proofs.tested.Statement.{statement}
-use Rattle.linker_calls.proofs.tested.Tie as tie
+use Rattle.linker_entry.proofs.tested.Statement.{statement}
+use Rattle.linker_entry.proofs.tested.Tie as tie
 
 good-window-requires : tie.Need-good-window-requires
 good-window-requires c κs = search needs
