@@ -30,8 +30,10 @@ use Rattle.linker.specs.Outcome.{Bytes, Outcome, registerAfter, settle, outcome
 use Rattle.linker.specs.Refusals.{lentRegister, answers, unload-unknown}
 use Rattle.linker.specs.Room.{fits-means}
 use Rattle.linker.specs.Reads.{readModule-yields}
-use Rattle.linker_imports.specs.Modules.{otherThan, modules-are}
-use Rattle.linker_calls.specs.Steps.{lent, left, tested, entered, unhung}
+use Rattle.linker_imports.specs.Modules.{modules-are}
+use Rattle.linker_resets.specs.Modules.{otherThan}
+use Rattle.linker_entry.specs.Entry.{tested, entered}
+use Rattle.linker_calls.specs.Steps.{lent, left, unhung}
 use Rattle.linker_calls.specs.Laws.{tests-pass, tests-refuse, In, in-now, not-now}
 use Rattle.linker_calls.specs.Stored.{crs-stored, missing-stored, used-place, register-exact, appended-kept}
 use Rattle.linker_calls.specs.Linked.{headerCrs, Links, one-more}

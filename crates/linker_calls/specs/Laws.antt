@@ -19,24 +19,11 @@ use Rattle.linker.specs.Exports.{readModule, readModule-reads}
 use Rattle.linker.specs.Calls.{Answer, NoRoom, number, value, fits, enter}
 use Rattle.linker.specs.Outcome.{Bytes, refused, registerAfter, settle, outcome}
 use Rattle.linker.specs.Refusals.{lentRegister, refuses-3, refuses-4, answers}
-use Rattle.linker_exports.specs.declared.Indexed.{Indexed}
-use Rattle.linker_exports.specs.declared.Indexed.the-variants as indexed
 use Rattle.linker_exports.specs.Exported.{exported}
-use Rattle.linker_calls.specs.Steps.{lent, left, tested, stored, entered, unhung}
+use Rattle.linker_entry.specs.Entry.{tested, stored, entered}
+use Rattle.linker_calls.specs.Steps.{lent, left, unhung}
 
 -- the tests
-
-pub tested-3 : {g : Bool} (v : Bool) → g ≡ false → 3 ≡ tested g v
-unfolding tested
-tested-3 v e = rw e
-
-pub tested-4 : {g v : Bool} → g ≡ true → v ≡ false → 4 ≡ tested g v
-unfolding tested
-tested-4 e f = rw (e, f)
-
-pub tested-0 : {g v : Bool} → g ≡ true → v ≡ true → 0 ≡ tested g v
-unfolding tested
-tested-0 e f = rw (e, f)
 
 pub tests-pass : (g v : Bool) {n : ℕ} → n ≡ tested g v → n ≡ 0 → (g ≡ true) × (v ≡ true)
 unfolding tested
@@ -58,39 +45,7 @@ tests-refuse call at b {n} e k =
     go true false eg ev e = rw e (sym (refuses-4 call at b eg ev))
     go false v eg ev e = rw e (sym (refuses-3 call at b eg))
 
--- the entry of a module, as its parts give it
-
-abbrev Now : Type 0
-Now = ℕ × List ℕ × List ℕ × List ℕ
-
-module _ (at : ℕ) (w records names : List ℕ) (r : Register) (base size : ℕ) (auto : Bool) {x : Rebased} where
-  pub enter-1 : x ≡ Rebased.NotACro → _≡_ {A = Now} (1, w, records, names) (entered at records names r base size auto x w)
-  unfolding entered
-  enter-1 e = rw e
-
-  pub enter-2 : x ≡ Rebased.BadSegment → _≡_ {A = Now} (2, w, records, names) (entered at records names r base size auto x w)
-  unfolding entered
-  enter-2 e = rw e
-
-  module _ (e : x ≡ Rebased.Done) {u rs ns : List ℕ} {i : Indexed} (ew : u ≡ run at (resetExternalRelocations base) w .1)
-      (ei : _≡_ {A = Indexed × List ℕ × List ℕ} (i, rs, ns) (exported records names r (run at (readModule base size auto) u .0))) where
-    enter-is : _≡_ {A = Now} (stored i, u, rs, ns) (entered at records names r base size auto x w)
-    unfolding entered
-    enter-is =
-        let z : _≡_ {A = Indexed × List ℕ × List ℕ} (i, rs, ns)
-        (exported records names r (run at (readModule base size auto) (run at (resetExternalRelocations base) w .1) .0)) =
-        ei ∙ ap (λ v. exported records names r (run at (readModule base size auto) v .0)) ew in
-        rw (e, ew) (ap (λ (y : Indexed × List ℕ × List ℕ). (stored (y .0), run at (resetExternalRelocations base) w .1, y .1, y .2)) z)
-
-    pub enter-5 : i ≡ indexed.NoRoom → _≡_ {A = Now} (5, u, rs, ns) (entered at records names r base size auto x w)
-    unfolding stored
-    enter-5 z = ap (λ t. (stored t, u, rs, ns)) (sym z) ∙ enter-is
-
-    pub enter-0 : i ≡ indexed.Appended → _≡_ {A = Now} (0, u, rs, ns) (entered at records names r base size auto x w)
-    unfolding stored
-    enter-0 z = ap (λ t. (stored t, u, rs, ns)) (sym z) ∙ enter-is
-
--- and what it gives a call
+-- the entry of a module
 
 module _ (at : ℕ) (b : Bytes) (base size : ℕ) (auto : Bool) (w : List ℕ) where
   abbrev r : Register

@@ -22,7 +22,8 @@ use Rattle.linker.specs.Lists.{unregister}
 use Rattle.linker.specs.Unrebase.{unrebase}
 use Rattle.linker.specs.Calls.{Answer, Done, Standing, unknown, stands, firstWithBase, unlisted, leave}
 use Rattle.linker_relocation.specs.Runs.{seq}
-use Rattle.linker_imports.specs.Modules.{otherThan, gone-is, modules-are}
+use Rattle.linker_imports.specs.Modules.{modules-are}
+use Rattle.linker_resets.specs.Modules.{otherThan, gone-is}
 use Rattle.linker_calls.specs.Stored.{after-words, crs-is}
 use Rattle.linker_calls.specs.Linked.{headerCrs}
 

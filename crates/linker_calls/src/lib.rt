@@ -2,9 +2,6 @@
 // Each answers a number, and lends its value through `value`; a call that answers 1 to 5 leaves the register as it was.
 ghost use mathlib.Core.Path.{_≡_};
 ghost use mathlib.Core.Bool.{true};
-ghost use mathlib.Core.List.{List};
-ghost use Prim.Native.Nat.{ℕ};
-ghost use Rattle.window.specs.Memory.{goodWindow};
 ghost use Rattle.window.specs.Access.{run};
 ghost use Rattle.register.specs.Decode.{registerOf, isRegister};
 ghost use Rattle.register.specs.Module.{Module, Register};
@@ -12,26 +9,23 @@ ghost use Rattle.register.specs.Change.{appended};
 ghost use Rattle.register_read.specs.Read.{placeAfter};
 ghost use Rattle.linker.specs.Calls.{listed, unlisted};
 ghost use Rattle.linker.specs.Outcome.{initializeOutcome, loadOutcome, unloadOutcome};
-ghost use Rattle.linker_calls.specs.Steps.{lent, left, toLoad, tested, entered, unhung};
+ghost use Rattle.linker_calls.specs.Steps.{lent, left, toLoad, unhung};
 ghost use Rattle.linker_calls.specs.Linked.{headerCrs, Links};
 use layout::fields::set_field;
 use layout::header::NEXT_CRO;
 use layout::header::PREVIOUS_CRO;
 use linker::rebase::Lent;
-use linker::rebase::Rebased;
-use linker_exports::Indexed;
-use linker_exports::index_exports;
+use linker_entry::enter;
+use linker_entry::tested;
 use linker_header::fix::fix;
 use linker_header::lists;
 use linker_imports::others::apply_exports_to_loaded;
 use linker_imports::own::apply_import_named_symbols;
 use linker_imports::own::apply_module_imports;
-use linker_imports::resets::reset_importers;
 use linker_rebase::rebase::rebase;
 use linker_rebase::rebase::rebase_static;
 use linker_rebase::unrebase::unrebase;
-use linker_relocation::relocation::reset_external_relocations;
-use register::check::is_register;
+use linker_resets::reset_importers;
 use register::check::used_bytes;
 use register::exports::Found;
 use register::words::Crs;
@@ -39,48 +33,6 @@ use register::words::read_crs;
 use register_change::header::set_crs;
 use register_change::remove::remove_record;
 use register_read::modules::first_with_base;
-
-// The tests that come first: 3 where the window breaks its rule, then 4 where the buffers are no register.
-fn tested(at: u32, w: &[u8], records: &[u8], names: &[u8], missing: &[u8]) -> u32
-    ensures { λ r. ⌜ r ≡ tested (goodWindow at (now (w .entry))) (isRegister (now (records .entry)) (now (names .entry)) (now (missing .entry))) ⌝ }
-{
-    if !window::good_window(at, w) {
-        return 3;
-    }
-    if !is_register(records, names, missing) {
-        return 4;
-    }
-    0
-}
-
-// Gives a rebased module its record: 0, or the number of what hinders it.
-fn enter(
-    at: u32,
-    w: &mut [u8],
-    records: &mut [u8],
-    names: &mut [u8],
-    base: u32,
-    size: u32,
-    auto_link: bool,
-    rebased: Rebased,
-) -> u32
-    ensures { λ r. ⌜ ((missing : List ℕ) → isRegister (now (records .entry)) (now (names .entry)) missing ≡ true
-        → (r, now (w .exit), now (records .exit), now (names .exit))
-        ≡ entered at (now (records .entry)) (now (names .entry)) (registerOf (now (records .entry)) (now (names .entry)) missing)
-        base size «auto_link» rebased (now (w .entry))) ⌝ }
-{
-    match rebased {
-        Rebased::NotACro => 1,
-        Rebased::BadSegment => 2,
-        Rebased::Done => {
-            reset_external_relocations(at, w, base);
-            match index_exports(at, w, records, names, base, size, auto_link) {
-                Indexed::NoRoom => 5,
-                Indexed::Appended => 0,
-            }
-        }
-    }
-}
 
 // The static module heads no list yet.
 fn unhang(at: u32, w: &mut [u8], base: u32)

@@ -180,14 +180,6 @@ module _ (at base entry : ℕ) (w : List ℕ) (new : Module) {y batch : ℕ} {t 
   unfolding run
   serve-passed e = rw (serve-is, e, run)
 
--- a record's own name
-pub own-name
-    : (records names : List ℕ) (place : ℕ) {r : Record} {n : List ℕ} → r ≡ recordAt records place
-    → n ≡ part names (r .«name_offset») (r .«name_length»)
-    → n ≡ moduleAt records names place .name
-unfolding recordAt moduleAt readModule
-own-name records names place e f = rw (f, e)
-
 module _ (at base entry : ℕ) (w : List ℕ) (new : Module) {p : ℕ} {t : Bool} {name : List ℕ} (ep : p ≡ wordAt at w entry) (en : name ≡ new .name)
     (et : t ≡ same (run at (nameAt p) w .0) name) where
   entry-is : run at (serveModule new base entry) w ≡ run at (if t then importsOf (some new) base entry else ret tt) w

@@ -1,5 +1,4 @@
 -- The laws behind the proofs of `linker_imports`.
 pub mod Laws
 pub mod Missing
-pub mod ResetLaws
 pub mod Walks

@@ -2,3 +2,4 @@
 pub mod Source
 pub mod Missing
 pub mod Modules
+pub mod Walks

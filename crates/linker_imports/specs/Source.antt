@@ -8,7 +8,6 @@ use Rattle.register.specs.Module.{Module}
 use Rattle.register_read.specs.Read.{entryOf}
 use Rattle.register_read.specs.declared.Symbol.{Symbol}
 use Rattle.linker.specs.Imports.{anonymousOf, importFrom, serveNamed, serveModule}
-use Rattle.linker.specs.Resets.{resetAt, resetNamed, resetModule}
 use Rattle.linker_imports.specs.declared.source.ImportTable.{ImportTable}
 use Rattle.linker_imports.specs.declared.source.ImportTable.the-variants.{Indexed, Anonymous}
 
@@ -33,19 +32,3 @@ serveAllModules new base = do
   table ← field base importModuleTableOffset
   count ← field base importModuleNum
   loop (λ i _. serveModule new base (entryAt table i importModuleEntrySize)) 0 count tt
-
--- and of what an unload resets in another
-unfoldable pub resetTable : ℕ → ℕ → ℕ → ℕ → Prog (Unit {0})
-resetTable base handler table count = loop (λ i _. resetAt base handler (entryAt table i importIndexedSymbolEntrySize)) 0 count tt
-
-unfoldable pub resetAllNamed : Module → ℕ → ℕ → Prog (Unit {0})
-resetAllNamed gone base handler = do
-  table ← field base importNamedSymbolTableOffset
-  count ← field base importNamedSymbolNum
-  loop (λ i _. resetNamed gone base handler (entryAt table i importNamedSymbolEntrySize)) 0 count tt
-
-unfoldable pub resetAllModules : Module → ℕ → ℕ → Prog (Unit {0})
-resetAllModules gone base handler = do
-  table ← field base importModuleTableOffset
-  count ← field base importModuleNum
-  loop (λ i _. resetModule gone base handler (entryAt table i importModuleEntrySize)) 0 count tt

@@ -9,7 +9,8 @@ use Rattle.register_read.specs.Read.{modulesOf, moduleAt}
 use Rattle.register_read.specs.Walk.{unwrapped}
 use Rattle.linker.specs.Imports.{applyExportsToLoaded}
 use Rattle.linker_imports.specs.Modules.{butLast}
-use Rattle.linker_imports.proofs.Walks.{Going, going-starts, going-fits, serving, served-turn, served-all}
+use Rattle.linker_imports.proofs.Walks.{serving, served-turn, served-all}
+use Rattle.linker_imports.specs.Walks.{Going, going-starts, going-fits}
 use Rattle.linker_imports.proofs.others.apply_exports_to_loaded.Statement.{statement}
 use Rattle.linker_imports.proofs.others.apply_exports_to_loaded.Tie as tie
 

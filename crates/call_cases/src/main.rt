@@ -1,0 +1,290 @@
+// Runs stored calls of the linker through its exported functions. Standard input is a file of whole words: the number of
+// cases, and the cases. A case is: its length in words, the call (1 initialize, 2 load, 3 unload), the window's address,
+// the lengths of window, records, names and missing list, the call's eight arguments (those it has not are 0), the number
+// and the value that it must give; then for each of the four buffers how many pieces stand in it before the call, how
+// many the call must change, and the pieces. tools/call_cases.py makes the file, and says why each case gives what it does.
+// Prints for each case `ok` or the first output that differs, and how many were ok.
+ghost use mathlib.Core.Path.{_≡_};
+ghost use Prim.Native.Nat.{_+_, _/_, _≤_};
+ghost use lib.ListN.{length};
+ghost use Rattle.register.specs.Words.{wordsIn};
+ghost use Rattle.linker_calls.specs.Steps.{lent, left};
+ghost use Rattle.call_cases.specs.Cases.{laid, called, compared};
+use case_reader::put_pieces;
+use header_text::append::Next;
+use linker_calls::initialize;
+use linker_calls::load;
+use linker_calls::unload;
+use register::exports::same_name;
+use register::words::word;
+
+// The first output of a call that is not the stored one.
+enum Verdict {
+    Same,
+    Number,
+    Value,
+    Window,
+    Records,
+    Names,
+    Missing,
+    Unreadable,
+}
+
+fn main() {
+    let mut file = [0u8; 262144];
+    let n = io::read_full(0, &mut file);
+    run_cases(&file[..n]);
+}
+
+fn run_cases(file: &[u8]) {
+    let count = word(file, 0);
+    let mut at: usize = 1;
+    let mut same: u32 = 0;
+    let mut k: u32 = 0;
+    while k < count {
+        if file.len() / 4 < at {
+            io::write_all(1, b"the file ends before the last case\n");
+            return;
+        }
+        let verdict = run_case(file, at);
+        print_verdict(k, verdict);
+        same += tally(verdict);
+        at += word(file, at) as usize;
+        k += 1;
+    }
+    print_counts(count, same);
+}
+
+// 1 for a case that is as stored.
+fn tally(verdict: Verdict) -> u32
+    ensures { λ r. ⌜ r ≤ 1 ⌝ }
+{
+    match verdict {
+        Verdict::Same => 1,
+        _ => 0,
+    }
+}
+
+// Builds the buffers of the case at place `at`, as they are before the call and as they must be after it, and tries it.
+fn run_case(file: &[u8], at: usize) -> Verdict
+    requires { ⌜ at ≤ length (now file) / 4 ⌝ }
+{
+    let mut window = [0u8; 16384];
+    let mut records = [0u8; 8192];
+    let mut names = [0u8; 8192];
+    let mut missing = [0u8; 32900];
+    let mut window_after = [0u8; 16384];
+    let mut records_after = [0u8; 8192];
+    let mut names_after = [0u8; 8192];
+    let mut missing_after = [0u8; 32900];
+    let Next::At(a) = lay(&mut window, &mut window_after, file, at + 17) else {
+        return Verdict::Unreadable;
+    };
+    let Next::At(b) = lay(&mut records, &mut records_after, file, a) else {
+        return Verdict::Unreadable;
+    };
+    let Next::At(c) = lay(&mut names, &mut names_after, file, b) else {
+        return Verdict::Unreadable;
+    };
+    let Next::At(_) = lay(&mut missing, &mut missing_after, file, c) else {
+        return Verdict::Unreadable;
+    };
+    judge(
+        file,
+        at,
+        &mut window,
+        &window_after,
+        &mut records,
+        &records_after,
+        &mut names,
+        &names_after,
+        &mut missing,
+        &missing_after,
+    )
+}
+
+// Lays the pieces at `at` that stand before the call over both buffers, and those that it must change over `after`.
+fn lay(before: &mut [u8], after: &mut [u8], file: &[u8], at: usize) -> Next
+    ensures { λ r. ⌜ (r, now (before .exit), now (after .exit))
+        ≡ laid (now (file .entry)) at (now (before .entry)) (now (after .entry)) ⌝ }
+{
+    if file.len() / 4 < at {
+        return Next::Full;
+    }
+    let standing = word(file, at);
+    let changed = word(file, at + 1);
+    let Next::At(next) = put_pieces(before, file, at + 2, standing) else {
+        return Next::Full;
+    };
+    let Next::At(_) = put_pieces(after, file, at + 2, standing) else {
+        return Next::Full;
+    };
+    put_pieces(after, file, next, changed)
+}
+
+// Makes the call and compares what it leaves; the value is 99 before.
+fn judge(
+    file: &[u8],
+    at: usize,
+    window: &mut [u8],
+    window_after: &[u8],
+    records: &mut [u8],
+    records_after: &[u8],
+    names: &mut [u8],
+    names_after: &[u8],
+    missing: &mut [u8],
+    missing_after: &[u8],
+) -> Verdict
+    requires { ⌜ at ≤ length (now file) / 4 ⌝ }
+{
+    let mut value: u32 = 99;
+    let number = call_lent(file, at, window, records, names, missing, &mut value);
+    if number != word(file, at + 15) {
+        return Verdict::Number;
+    }
+    if value != word(file, at + 16) {
+        return Verdict::Value;
+    }
+    compare(
+        window,
+        window_after,
+        records,
+        records_after,
+        names,
+        names_after,
+        missing,
+        missing_after,
+    )
+}
+
+// Lends the first bytes of the buffers to the call, as many as the case says; 99 where a buffer has not so many.
+fn call_lent(
+    file: &[u8],
+    at: usize,
+    window: &mut [u8],
+    records: &mut [u8],
+    names: &mut [u8],
+    missing: &mut [u8],
+    value: &mut u32,
+) -> u32
+    requires { ⌜ at ≤ length (now file) / 4 ⌝ }
+{
+    let w = word(file, at + 3) as usize;
+    let r = word(file, at + 4) as usize;
+    let n = word(file, at + 5) as usize;
+    let m = word(file, at + 6) as usize;
+    if window.len() < w {
+        return 99;
+    }
+    if records.len() < r {
+        return 99;
+    }
+    if names.len() < n {
+        return 99;
+    }
+    if missing.len() < m {
+        return 99;
+    }
+    call(
+        file,
+        at,
+        &mut window[..w],
+        &mut records[..r],
+        &mut names[..n],
+        &mut missing[..m],
+        value,
+    )
+}
+
+// The call that the case at place `at` stores, with its arguments.
+fn call(
+    file: &[u8],
+    at: usize,
+    window: &mut [u8],
+    records: &mut [u8],
+    names: &mut [u8],
+    missing: &mut [u8],
+    value: &mut u32,
+) -> u32
+    requires { ⌜ at ≤ length (now file) / 4 ⌝ }
+    ensures { λ r. ⌜ left r (now (value .exit)) (lent (now (window .exit)) (now (records .exit)) (now (names .exit)) (now (missing .exit)))
+        ≡ called (wordsIn (now (file .entry))) at
+        (lent (now (window .entry)) (now (records .entry)) (now (names .entry)) (now (missing .entry))) ⌝ }
+{
+    let from = word(file, at + 2);
+    let base = word(file, at + 7);
+    let size = word(file, at + 8);
+    match word(file, at + 1) {
+        1 => initialize(from, window, records, names, missing, base, size, value),
+        2 => load(
+            from,
+            window,
+            records,
+            names,
+            missing,
+            base,
+            size,
+            word(file, at + 9),
+            word(file, at + 10),
+            word(file, at + 11),
+            word(file, at + 12),
+            word(file, at + 13),
+            word(file, at + 14),
+            value,
+        ),
+        _ => unload(from, window, records, names, missing, base, value),
+    }
+}
+
+// The first buffer that is not as it must be.
+fn compare(
+    window: &[u8],
+    window_after: &[u8],
+    records: &[u8],
+    records_after: &[u8],
+    names: &[u8],
+    names_after: &[u8],
+    missing: &[u8],
+    missing_after: &[u8],
+) -> Verdict
+    ensures { λ r. ⌜ r ≡ compared (lent (now (window .entry)) (now (records .entry)) (now (names .entry)) (now (missing .entry)))
+        (lent (now («window_after» .entry)) (now («records_after» .entry)) (now («names_after» .entry)) (now («missing_after» .entry))) ⌝ }
+{
+    if !same_name(window, window_after) {
+        return Verdict::Window;
+    }
+    if !same_name(records, records_after) {
+        return Verdict::Records;
+    }
+    if !same_name(names, names_after) {
+        return Verdict::Names;
+    }
+    if !same_name(missing, missing_after) {
+        return Verdict::Missing;
+    }
+    Verdict::Same
+}
+
+// Prints the number of case k, counted from 1, and the verdict.
+fn print_verdict(k: u32, verdict: Verdict) {
+    io::print_decimal(1, (k as u64) + 1);
+    match verdict {
+        Verdict::Same => io::write_all(1, b" ok\n"),
+        Verdict::Number => io::write_all(1, b" number differs\n"),
+        Verdict::Value => io::write_all(1, b" value differs\n"),
+        Verdict::Window => io::write_all(1, b" window differs\n"),
+        Verdict::Records => io::write_all(1, b" records differ\n"),
+        Verdict::Names => io::write_all(1, b" names differ\n"),
+        Verdict::Missing => io::write_all(1, b" missing list differs\n"),
+        Verdict::Unreadable => io::write_all(1, b" unreadable\n"),
+    }
+    ;
+}
+
+fn print_counts(cases: u32, same: u32) {
+    io::write_all(1, b"cases ");
+    io::print_decimal(1, cases as u64);
+    io::write_all(1, b" ok ");
+    io::print_decimal(1, same as u64);
+    io::write_all(1, b"\n");
+}

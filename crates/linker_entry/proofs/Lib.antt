@@ -1,0 +1,2 @@
+-- The laws behind the proofs of `linker_entry`.
+pub mod Laws

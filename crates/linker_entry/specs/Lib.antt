@@ -1,0 +1,2 @@
+-- What the contracts of `linker_entry` cite.
+pub mod Entry

@@ -1,0 +1,55 @@
+// How a call begins: the two tests that all have, and a module's entry into the register.
+ghost use mathlib.Core.Path.{_≡_};
+ghost use mathlib.Core.Bool.{true};
+ghost use mathlib.Core.List.{List};
+ghost use Prim.Native.Nat.{ℕ};
+ghost use Rattle.window.specs.Memory.{goodWindow};
+ghost use Rattle.register.specs.Decode.{registerOf, isRegister};
+ghost use Rattle.linker_entry.specs.Entry.{tested, entered};
+use linker::rebase::Rebased;
+use linker_exports::Indexed;
+use linker_exports::index_exports;
+use linker_relocation::relocation::reset_external_relocations;
+use register::check::is_register;
+
+// The tests that come first: 3 where the window breaks its rule, then 4 where the buffers are no register.
+pub fn tested(at: u32, w: &[u8], records: &[u8], names: &[u8], missing: &[u8]) -> u32
+    ensures { λ r. ⌜ r ≡ tested (goodWindow at (now (w .entry))) (isRegister (now (records .entry)) (now (names .entry)) (now (missing .entry))) ⌝ }
+{
+    if !window::good_window(at, w) {
+        return 3;
+    }
+    if !is_register(records, names, missing) {
+        return 4;
+    }
+    0
+}
+
+// Gives a rebased module its record: 0, or the number of what hinders it.
+pub fn enter(
+    at: u32,
+    w: &mut [u8],
+    records: &mut [u8],
+    names: &mut [u8],
+    base: u32,
+    size: u32,
+    auto_link: bool,
+    rebased: Rebased,
+) -> u32
+    ensures { λ r. ⌜ ((missing : List ℕ) → isRegister (now (records .entry)) (now (names .entry)) missing ≡ true
+        → (r, now (w .exit), now (records .exit), now (names .exit))
+        ≡ entered at (now (records .entry)) (now (names .entry)) (registerOf (now (records .entry)) (now (names .entry)) missing)
+        base size «auto_link» rebased (now (w .entry))) ⌝ }
+{
+    match rebased {
+        Rebased::NotACro => 1,
+        Rebased::BadSegment => 2,
+        Rebased::Done => {
+            reset_external_relocations(at, w, base);
+            match index_exports(at, w, records, names, base, size, auto_link) {
+                Indexed::NoRoom => 5,
+                Indexed::Appended => 0,
+            }
+        }
+    }
+}

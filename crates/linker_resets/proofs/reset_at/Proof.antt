@@ -1,0 +1,30 @@
+use borrow.Author.Needs.{needs}
+use Rattle.linker_resets.proofs.Laws.{reset-entry}
+use Rattle.linker_resets.proofs.reset_at.Statement.{statement}
+use Rattle.linker_resets.proofs.reset_at.Tie as tie
+
+wrapping-add-u32-requires : tie.Need-wrapping-add-u32-requires
+wrapping-add-u32-requires c κs = search needs
+
+read32-requires : tie.Need-read32-requires
+read32-requires c κs = search needs
+
+reset-requires : tie.Need-reset-requires
+reset-requires c κs = search needs
+
+same-length : tie.Need-same-length
+same-length c = search needs
+
+returns : tie.Need-returns
+returns c =
+    let p2 = c .before .before in
+    let p4 = p2 .before .before in
+    let p5 = p4 .before in
+    let p8 = p5 .before .before .before in
+    let a = p8 .args in
+    reset-entry (a .at) (a .base) (a .handler) (a .entry) (a .w .now) (p5 .wrapping-add-u32 .ensures) (p4 .read32 .ensures) (p2 .reset .ensures)
+
+pub reset-at-spec : {M : Type 1} → statement M
+reset-at-spec =
+    tie.close
+    (tie.spec wrapping-add-u32-requires read32-requires reset-requires same-length returns)

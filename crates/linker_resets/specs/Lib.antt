@@ -1,0 +1,3 @@
+-- What the contracts of `linker_resets` cite.
+pub mod Modules
+pub mod Tables
