@@ -34,13 +34,13 @@ module _ (next : ℕ) (session : List ℕ) (n : ℕ) (out : List ℕ) where
 
 -- the place, past the file or not
 module _ (file : List ℕ) (at : ℕ) (out : List ℕ) where
-  pub past : length file / 4 < at → _≡_ {A = Case × List ℕ} (Unreadable, out) (caseAt file at out)
+  pub past : length file / 4 < at + 2 → _≡_ {A = Case × List ℕ} (Unreadable, out) (caseAt file at out)
   unfolding caseAt
-  past h = rw (lt-leb at (length file / 4) h)
+  past h = rw (lt-leb (at + 2) (length file / 4) h)
 
-  pub there : at ≤ length file / 4 → caseOver (replicate 49156 0) file (wordsIn file) at out ≡ caseAt file at out
+  pub there : at + 2 ≤ length file / 4 → caseOver (replicate 49156 0) file (wordsIn file) at out ≡ caseAt file at out
   unfolding caseAt
-  there h = rw (le-leb at (length file / 4) h)
+  there h = rw (le-leb (at + 2) (length file / 4) h)
 
 -- the pieces, left out or laid
 module _ (file : List ℕ) (at : ℕ) (b : List ℕ) {r : Next} {l : List ℕ} {n k : ℕ} (e : n ≡ k)
@@ -80,7 +80,7 @@ then-within (Full, b) f out h = omega arith
 
 at-within : (file : List ℕ) (at : ℕ) (out : List ℕ) → Within (caseAt file at out)
 unfolding caseAt caseOver written
-at-within file at out = go (leb at (length file / 4))
+at-within file at out = go (leb (at + 2) (length file / 4))
   where
     go
         : (b : Bool)

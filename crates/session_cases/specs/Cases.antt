@@ -33,4 +33,4 @@ caseOver b file ws at out =
 
 unfoldable pub caseAt : List ℕ → ℕ → List ℕ → Case × List ℕ
 caseAt file at out =
-    if leb at (length file / 4) then caseOver (replicate 49156 0) file (wordsIn file) at out else (Unreadable, out)
+    if leb (at + 2) (length file / 4) then caseOver (replicate 49156 0) file (wordsIn file) at out else (Unreadable, out)

@@ -47,7 +47,11 @@ fn run_case(file: &[u8], at: usize, out: &mut [u8]) -> Case
     ensures { λ r. ⌜ (r, now (out .exit)) ≡ caseAt (now (file .entry)) at (now (out .entry)) ⌝ }
 {
     let mut session = [0u8; 49156];
-    if file.len() / 4 < at {
+    let all = file.len() / 4;
+    if all < 2 {
+        return Case::Unreadable;
+    }
+    if all - 2 < at {
         return Case::Unreadable;
     }
     let n = word(file, at);

@@ -1,5 +1,6 @@
 -- The pieces, and the text of what they make.
 use mathlib.Core.Path.{_∙_}
+use native.Mathlib.Omega.{arith}
 use Rattle.session_cases.specs.Cases.{caseOver}
 use Rattle.session_cases.proofs.Laws.{past, there, stop, on}
 use borrow.Author.Needs.{needs}
@@ -7,7 +8,10 @@ use Rattle.session_cases.proofs.run_case.Statement.{statement}
 use Rattle.session_cases.proofs.run_case.Tie as tie
 
 returns : tie.Need-returns
-returns c = past _ _ _ (c .if1 .taken)
+returns c = past _ _ _ (omega arith)
+
+returns-2 : tie.Need-returns-2
+returns-2 c = past _ _ _ (omega arith)
 
 word-requires : tie.Need-word-requires
 word-requires c κs = search needs
@@ -33,12 +37,12 @@ enum-known-next c = search needs
 enum-told : tie.Need-enum-told
 enum-told c = search needs
 
-returns-2 : tie.Need-returns-2
+returns-3 : tie.Need-returns-3
 unfolding caseOver
-returns-2 c =
+returns-3 c =
     let s = c .before .before .before in
     stop _ _ _ (s .before .word2 .ensures) (s .put-pieces .ensures) _ _ (c .enum-told .given .1)
-    ∙ there _ _ _ (s .before .before .before .before .if1 .left)
+    ∙ there _ _ _ (omega arith)
 
 slice-aggregate-put-case : tie.Need-slice-aggregate-put-case
 slice-aggregate-put-case c = search needs
@@ -49,20 +53,21 @@ put-case-requires c κs = search needs
 same-length : tie.Need-same-length
 same-length c = search needs
 
-returns-3 : tie.Need-returns-3
+returns-4 : tie.Need-returns-4
 unfolding caseOver
-returns-3 c =
+returns-4 c =
     let p = c .before .before in
     let s = p .before .before .before .before .before .before .before in
     rw (s .before .before .before .word .ensures) at (p .put-case .ensures)
     ∙ on _ _ _ (s .before .word2 .ensures) (s .put-pieces .ensures) _ _ (p .before .before .before .before .next .given .1)
-    ∙ there _ _ _ (s .before .before .before .before .if1 .left)
+    ∙ there _ _ _ (omega arith)
 
 pub run-case-spec : {M : Type 1} → statement M
 run-case-spec =
     tie.close
     (tie.spec
     returns
+    returns-2
     word-requires
     slice-aggregate-put-pieces
     add-put-pieces
@@ -71,8 +76,8 @@ run-case-spec =
     put-pieces-requires
     enum-known-next
     enum-told
-    returns-2
+    returns-3
     slice-aggregate-put-case
     put-case-requires
     same-length
-    returns-3)
+    returns-4)
