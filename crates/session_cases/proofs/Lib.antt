@@ -1,0 +1,2 @@
+-- What the proofs of `session_cases` share.
+pub mod Laws
