@@ -1,0 +1,307 @@
+//! The four families of sessions. Counts are capped so that runs stay fast: a header's count stays below some thousands,
+//! unless the session itself changes it; a call that then needs too many accesses is cut.
+
+use sessions::cast::Cast;
+use sessions::image::{COUNTS, HEADER};
+use sessions::{Call, Random, Session, Step};
+
+#[derive(Debug, Clone, Copy, PartialEq, Eq)]
+pub enum Family {
+    /// Modules as they should be, loaded and unloaded.
+    WellLaid,
+    /// The same with bytes, words and arguments changed.
+    Damaged,
+    /// Images that lie over themselves and each other, at a window's edges.
+    Overlapping,
+    /// More modules, exports, names and missing names than there is room for.
+    Filling,
+}
+
+impl Family {
+    pub const ALL: [Family; 4] = [Family::WellLaid, Family::Damaged, Family::Overlapping, Family::Filling];
+
+    pub fn name(self) -> &'static str {
+        match self {
+            Family::WellLaid => "well-laid",
+            Family::Damaged => "damaged",
+            Family::Overlapping => "overlapping",
+            Family::Filling => "filling",
+        }
+    }
+
+    /// The session of a seed and a number.
+    pub fn session(self, seed: u64, number: u64) -> Session {
+        let mut random = Random::new(seed, self as u64, number);
+        match self {
+            Family::WellLaid => well_laid(&mut random),
+            Family::Damaged => damaged(&mut random),
+            Family::Overlapping => overlapping(&mut random),
+            Family::Filling => filling(&mut random),
+        }
+    }
+}
+
+fn well_laid(random: &mut Random) -> Session {
+    let count = random.from_to(2, 12);
+    let cast = Cast::new(random, count);
+    let steps = random.from_to(1, 24);
+    let steps = (0..steps).map(|index| any_step(random, &cast, index)).collect();
+    cast.session(steps)
+}
+
+/// A call on a member, mostly the static module first.
+fn any_step(random: &mut Random, cast: &Cast, index: u32) -> Step {
+    let first = index == 0 && !random.once_in(8);
+    let number = if first { 0 } else { random.below(cast.members.len() as u32) };
+    let mut step = cast.members[number as usize].step;
+    if step.call == Call::Initialize && !first && random.once_in(2) {
+        // the static module loaded like any other
+        step = Step { call: Call::Load, auto_link: 1, ..step };
+    }
+    if step.call == Call::Load {
+        step.auto_link = random.pick(&[1, 1, 1, 0, 2]);
+        step.level = random.pick(&[0, 1, 1, 1, 2, 3, 4, u32::MAX]);
+    }
+    if !first && random.below(3) == 0 {
+        step = Step::unload(step.base);
+    }
+    step
+}
+
+fn damaged(random: &mut Random) -> Session {
+    let mut session = well_laid(random);
+    for _ in 0..random.from_to(1, 8) {
+        damage(random, &mut session);
+    }
+    if random.once_in(4) {
+        damage_step(random, &mut session);
+    }
+    cap_counts(random, &mut session);
+    session
+}
+
+/// A value that is likely to mean something: small, an offset, an address, an edge.
+fn telling(random: &mut Random, session: &Session, base: u32) -> u32 {
+    let length = session.window.len() as u32;
+    match random.below(10) {
+        0 => 0,
+        1 => random.from_to(1, 20),
+        2 => random.below(0x400),
+        3 => random.below(length),
+        4 => session.at.wrapping_add(random.below(length)),
+        // becomes an address of the window, or of its edge, when rebased
+        5 => session.at.wrapping_add(random.below(length)).wrapping_sub(base),
+        6 => session.at.wrapping_add(length).wrapping_sub(base).wrapping_sub(random.below(8)),
+        7 => session.at.wrapping_sub(base).wrapping_sub(random.below(8)),
+        8 => random.pick(&[u32::MAX, 0x8000_0000, 0xFFFF_FFFC, 0xFFFF_3FF4, 0x7FFF_FFFF]),
+        _ => random.word(),
+    }
+}
+
+fn put(window: &mut [u8], place: u32, word: u32) {
+    if let Some(bytes) = window.get_mut(place as usize..place as usize + 4) {
+        bytes.copy_from_slice(&word.to_le_bytes());
+    }
+}
+
+fn some_base(random: &mut Random, session: &Session) -> u32 {
+    session.steps[random.below(session.steps.len() as u32) as usize].base
+}
+
+fn damage(random: &mut Random, session: &mut Session) {
+    let base = some_base(random, session);
+    let place = base.wrapping_sub(session.at);
+    let length = session.window.len() as u32;
+    let word = telling(random, session, base);
+    match random.below(6) {
+        // a header's word
+        0 | 1 => put(&mut session.window, place + 0x80 + 4 * random.below(46), word),
+        // a word behind the header
+        2 | 3 => put(&mut session.window, place + HEADER + 4 * random.below(200), word),
+        // a byte
+        4 => session.window[random.below(length) as usize] = random.word() as u8,
+        // a run copied
+        _ => {
+            let size = random.from_to(1, 64);
+            let (from, to) = (random.below(length - size), random.below(length - size));
+            session.window.copy_within(from as usize..(from + size) as usize, to as usize);
+        }
+    }
+}
+
+fn damage_step(random: &mut Random, session: &mut Session) {
+    let index = random.below(session.steps.len() as u32) as usize;
+    let base = session.steps[index].base;
+    let word = telling(random, session, base);
+    let step = &mut session.steps[index];
+    match (random.below(6), step.call) {
+        (0, _) => step.base = word,
+        (_, Call::Unload) => step.base = step.base.wrapping_add(4),
+        (1, _) => step.size = word,
+        (_, Call::Initialize) => step.size = 0,
+        (2, _) => step.data = word,
+        (3, _) => step.data_size = word,
+        (4, _) => step.bss = word,
+        _ => step.bss_size = word,
+    }
+}
+
+/// Makes the counts of every image that a step names small, one in 64 only middling.
+fn cap_counts(random: &mut Random, session: &mut Session) {
+    for step in session.steps.clone() {
+        for field in COUNTS {
+            let place = step.base.wrapping_sub(session.at).wrapping_add(field) as usize;
+            let Some(bytes) = session.window.get(place..place.wrapping_add(4)) else {
+                continue;
+            };
+            let count = u32::from_le_bytes(bytes.try_into().unwrap());
+            let limit = if random.once_in(64) { 4000 } else { 40 };
+            if count > limit {
+                put(&mut session.window, place as u32, count % limit);
+            }
+        }
+    }
+}
+
+fn overlapping(random: &mut Random) -> Session {
+    let length = 0x1000 * random.pick(&[1, 1, 1, 2, 4]);
+    let top = 0u32.wrapping_sub(length);
+    let anywhere = 0x1000 * random.below(0xF_FFF0);
+    let at = random.pick(&[0, 0, 0x1000, 0x1000, 0x2000, anywhere, top, top - 0x1000]);
+    let mut session =
+        Session { at, window: vec![0; length as usize], records: Session::ROOM, names: Session::ROOM, steps: Vec::new() };
+    let count = random.from_to(1, 4);
+    let mut bases = vec![soup_base(random, at, length)];
+    while (bases.len() as u32) < count {
+        let near = bases[0].wrapping_add(random.below(0x400)).wrapping_sub(0x200);
+        let fresh = soup_base(random, at, length);
+        bases.push(random.pick(&[near, fresh]));
+    }
+    for &base in &bases {
+        soup(random, &mut session, base);
+    }
+    for index in 0..random.from_to(1, 12) {
+        let base = random_base(random, &bases);
+        let step = soup_step(random, &session, base, index);
+        session.steps.push(step);
+    }
+    cap_counts(random, &mut session);
+    session
+}
+
+fn random_base(random: &mut Random, bases: &[u32]) -> u32 {
+    let base = random.pick(bases);
+    if random.once_in(30) {
+        return random.word();
+    }
+    base
+}
+
+/// Where an image may begin: inside, or so that an edge cuts it.
+fn soup_base(random: &mut Random, at: u32, length: u32) -> u32 {
+    let start = match random.below(8) {
+        0 => 0u32.wrapping_sub(random.below(0x80)),
+        1 => length - random.from_to(0x84, 0x140),
+        2 => random.below(length),
+        3 => 0,
+        _ => 4 * random.below(0x100),
+    };
+    at.wrapping_add(start)
+}
+
+/// Fills an image's bytes with small numbers and offsets into itself.
+fn soup(random: &mut Random, session: &mut Session, base: u32) {
+    let start = base.wrapping_sub(session.at);
+    for field in (0x80..0x138 + 4 * random.below(0x80)).step_by(4) {
+        let word = match random.below(10) {
+            0..=3 => random.below(0x300),
+            4 | 5 => random.below(6),
+            // a relocation's kind, end mark or symbol
+            6 => random.pick(&[2, 3, 10]) | random.below(4) << 8,
+            7 => 0,
+            _ => telling(random, session, base),
+        };
+        put_wrapped(session, start.wrapping_add(field), word);
+    }
+    let magic = random.pick(&[*b"CRO0", *b"CRO0", *b"CRS0"]);
+    put_wrapped(session, start.wrapping_add(0x80), u32::from_le_bytes(magic));
+    // most tables begin behind the magic, some of them in the header
+    for field in (0xB0..0x138).step_by(8) {
+        let offset = random.pick(&[0, 0x80, 0xB0, 0xC0, 0x100, 0x138, 0x138]) + random.below(0x80);
+        put_wrapped(session, start.wrapping_add(field), offset);
+        put_wrapped(session, start.wrapping_add(field + 4), random.below(8));
+    }
+}
+
+fn put_wrapped(session: &mut Session, place: u32, word: u32) {
+    for (index, byte) in word.to_le_bytes().into_iter().enumerate() {
+        if let Some(at) = session.window.get_mut(place.wrapping_add(index as u32) as usize) {
+            *at = byte;
+        }
+    }
+}
+
+fn soup_step(random: &mut Random, session: &Session, base: u32, index: u32) -> Step {
+    let size = random.pick(&[0x138, 0x200, 0x400, 0x1000, 0x2000]);
+    let address = |random: &mut Random| session.at.wrapping_add(random.below(session.window.len() as u32));
+    match random.below(8) {
+        0 | 1 if index > 0 => Step::unload(base),
+        2 => Step::initialize(base, size),
+        _ => Step {
+            call: Call::Load,
+            base,
+            size,
+            data: address(random),
+            data_size: random.pick(&[0, 0x10, 0x400, 0x4000, u32::MAX]),
+            bss: address(random),
+            bss_size: random.pick(&[0, 0x10, 0x400, 0x4000, u32::MAX]),
+            auto_link: random.pick(&[1, 1, 1, 0, 7]),
+            level: random.pick(&[0, 1, 1, 2, 3, 4]),
+        },
+    }
+}
+
+fn filling(random: &mut Random) -> Session {
+    let count = random.from_to(2, 10);
+    let cast = Cast::new(random, count);
+    let steps = random.pick(&[6, 12, 30, 80]);
+    let loads = (0..steps).map(|index| any_step(random, &cast, index));
+    let loads = loads.filter(|step| step.call != Call::Unload).collect();
+    let mut session = cast.session(loads);
+    for _ in 0..random.below(6) {
+        grow(random, &mut session);
+    }
+    for index in 0..session.steps.len() {
+        if random.once_in(40) {
+            session.steps[index] = Step::unload(session.steps[index].base);
+        }
+    }
+    let room = random.pick(&[32, 100, 400, 1000, 3000, 16_384]);
+    session.records = (room + random.below(room)) as usize;
+    let room = random.pick(&[0, 1, 30, 100, 400, 2000, 16_384]);
+    session.names = (room + random.below(room + 1)) as usize;
+    if random.once_in(3) {
+        (session.records, session.names) = (1 << 16, 1 << 16);
+    }
+    session
+}
+
+/// More exports, more imports or longer names than an image has.
+fn grow(random: &mut Random, session: &mut Session) {
+    let base = some_base(random, session);
+    let place = base.wrapping_sub(session.at);
+    let length = session.window.len() as u32;
+    match random.below(4) {
+        0 => put(&mut session.window, place + COUNTS[2], random.below(3000)),
+        1 => put(&mut session.window, place + COUNTS[1], random.below(100)),
+        // many named imports, most of them of names that nothing provides
+        2 => put(&mut session.window, place + COUNTS[5], random.from_to(20, 90)),
+        _ => {
+            // a long string, as long as a name may be or longer
+            let size = random.pick(&[200, 511, 512, 513, 600]);
+            let start = random.below(length - size);
+            session.window[start as usize..(start + size) as usize].fill(b'x');
+            put(&mut session.window, place + 0xC0, start.wrapping_sub(place));
+        }
+    }
+}

@@ -1,0 +1,141 @@
+//! `differential [--seed N] [--sessions M]`: M sessions of each family, compared with the Rust. With the gate's seed and
+//! number the stored answers are compared too. `--store PATH` writes them, `--file PATH` compares one session file.
+
+use differential::compare::{compare, Compared, Mismatch, Tally};
+use differential::families::Family;
+use differential::{shrink, stored};
+use sessions::Session;
+use std::process::ExitCode;
+
+/// The gate's seed, and how many sessions of each family.
+const SEED: u64 = 1;
+const SESSIONS: u64 = 200;
+const STORED: &str = concat!(env!("CARGO_MANIFEST_DIR"), "/stored.txt");
+
+struct Asked {
+    seed: u64,
+    sessions: u64,
+    store: bool,
+    file: Option<String>,
+}
+
+fn asked() -> Result<Asked, String> {
+    let mut asked = Asked { seed: SEED, sessions: SESSIONS, store: false, file: None };
+    let mut words = std::env::args().skip(1);
+    while let Some(word) = words.next() {
+        let mut value = || words.next().ok_or(format!("{word} needs a value"));
+        match word.as_str() {
+            "--seed" => asked.seed = value()?.parse().map_err(|_| "--seed needs a number")?,
+            "--sessions" => asked.sessions = value()?.parse().map_err(|_| "--sessions needs a number")?,
+            "--file" => asked.file = Some(value()?),
+            "--store" => asked.store = true,
+            _ => return Err(format!("what is {word}?")),
+        }
+    }
+    Ok(asked)
+}
+
+fn main() -> ExitCode {
+    match asked().and_then(run) {
+        Ok(()) => ExitCode::SUCCESS,
+        Err(what) => {
+            println!("{what}");
+            ExitCode::FAILURE
+        }
+    }
+}
+
+fn run(asked: Asked) -> Result<(), String> {
+    if let Some(path) = &asked.file {
+        let file = std::fs::read(path).map_err(|error| format!("{path}: {error}"))?;
+        let session = Session::from_file(&file).ok_or("no session file")?;
+        let compared = compare(&session).ok_or("the Rust's sources are not at hand")?;
+        return report(&session, compared);
+    }
+    let gate = asked.seed == SEED && asked.sessions == SESSIONS;
+    if compare(&Family::WellLaid.session(0, 0)).is_none() {
+        println!("the Rust's sources are not at hand: its stored answers are replayed");
+        return replay();
+    }
+    let answers = compare_all(&asked)?;
+    if asked.store {
+        return std::fs::write(STORED, answers).map_err(|error| format!("{STORED}: {error}"));
+    }
+    if gate && answers != std::fs::read_to_string(STORED).unwrap_or_default() {
+        return Err("the stored answers are not those of the Rust: `differential --store` writes them".into());
+    }
+    if gate { replay() } else { Ok(()) }
+}
+
+fn replay() -> Result<(), String> {
+    let answers = std::fs::read_to_string(STORED).map_err(|error| format!("{STORED}: {error}"))?;
+    let calls = stored::replay(&answers, SEED)?;
+    println!("{calls} stored answers replayed, 0 mismatches");
+    Ok(())
+}
+
+/// Compares the sessions of every family; gives the Rust's answers.
+fn compare_all(asked: &Asked) -> Result<String, String> {
+    let mut answers = String::new();
+    let mut all = Tally::default();
+    for family in Family::ALL {
+        let mut tally = Tally::default();
+        for number in 0..asked.sessions {
+            let session = family.session(asked.seed, number);
+            let compared = compare(&session).unwrap();
+            if let Some(mismatch) = compared.mismatch {
+                println!("{} session {number} of seed {}", family.name(), asked.seed);
+                return Err(smallest(&session, mismatch));
+            }
+            stored::write(&mut answers, family, number, &compared.answers);
+            tally += compared.tally;
+        }
+        show(family.name(), &tally);
+        all += tally;
+    }
+    show("all", &all);
+    println!("{} calls compared, 0 mismatches", all.compared());
+    Ok(answers)
+}
+
+fn show(name: &str, tally: &Tally) {
+    let calls = tally.calls;
+    println!("{name}: {} sessions, {} calls", tally.sessions, tally.compared());
+    println!("  by number: 0: {}, 1: {}, 2: {}, 5: {}", calls[0], calls[1], calls[2], calls[5]);
+    println!("  with a bad window or register: {}", tally.refused);
+    println!(
+        "  set apart: names {}, high batches {} equal and {} not; cut for length {}, no room and not seen {}",
+        tally.odd_names, tally.high_batches, tally.high_differences, tally.cut, tally.unseen
+    );
+}
+
+fn report(session: &Session, compared: Compared) -> Result<(), String> {
+    for (index, answer) in compared.answers.iter().enumerate() {
+        println!("{} {:?} {} {:x}", index + 1, session.steps[index].call, answer.number, answer.value);
+    }
+    show("session", &compared.tally);
+    compared.mismatch.map_or(Ok(()), |mismatch| Err(format!("step {}: {}", mismatch.step + 1, mismatch.what)))
+}
+
+/// Makes the session smaller, writes it as a session file, and says what it shows.
+fn smallest(session: &Session, found: Mismatch) -> String {
+    let (session, mismatch) = shrink::shrink(session).unwrap_or((session.clone(), found));
+    let path = std::env::temp_dir().join("mismatch.session");
+    let written = std::fs::write(&path, session.to_file());
+    let mut text = format!("step {}: {}\n", mismatch.step + 1, mismatch.what);
+    text += &format!("records {} bytes, names {} bytes, window at {:#x}\n", session.records, session.names, session.at);
+    for step in &session.steps {
+        text += &format!("{step:x?}\n");
+    }
+    for (index, word) in session.window.chunks(4).enumerate().filter(|(_, word)| word.iter().any(|&byte| byte != 0)) {
+        text += &format!("{:08x}: {}\n", session.at as usize + 4 * index, hex(word));
+    }
+    match written {
+        Ok(()) => text + &format!("session file: {}", path.display()),
+        Err(error) => text + &format!("session file not written: {error}\n{}", hex(&session.to_file())),
+    }
+}
+
+fn hex(bytes: &[u8]) -> String {
+    bytes.iter().map(|byte| format!("{byte:02x}")).collect()
+}
