@@ -3,6 +3,7 @@
 pub mod compare;
 mod encoding;
 pub mod families;
+pub mod history;
 pub mod shrink;
 pub mod stored;
 pub mod under_test;

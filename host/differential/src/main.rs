@@ -3,6 +3,7 @@
 
 use differential::compare::{compare, Compared, Mismatch, Tally};
 use differential::families::Family;
+use differential::history::{run_pair, Seen};
 use differential::{shrink, stored};
 use sessions::Session;
 use std::process::ExitCode;
@@ -52,6 +53,7 @@ fn run(asked: Asked) -> Result<(), String> {
         let compared = compare(&session).ok_or("the Rust's sources are not at hand")?;
         return report(&session, compared);
     }
+    compare_pairs(&asked)?;
     let gate = asked.seed == SEED && asked.sessions == SESSIONS;
     if compare(&Family::WellLaid.session(0, 0)).is_none() {
         println!("the Rust's sources are not at hand: its stored answers are replayed");
@@ -65,6 +67,20 @@ fn run(asked: Asked) -> Result<(), String> {
         return Err("the stored answers are not those of the Rust: `differential --store` writes them".into());
     }
     if gate { replay() } else { Ok(()) }
+}
+
+/// Demand 3 by running.
+fn compare_pairs(asked: &Asked) -> Result<(), String> {
+    let mut seen = Seen::default();
+    for number in 0..asked.sessions {
+        run_pair(asked.seed, number, &mut seen)?;
+    }
+    println!(
+        "history: {} pairs of sessions, {} calls; {} bytes of standing modules are the same with and without",
+        seen.pairs, seen.calls, seen.bytes
+    );
+    println!("  {} imports hold their address, {} of them an exporter's", seen.imports, seen.linked);
+    Ok(())
 }
 
 fn replay() -> Result<(), String> {

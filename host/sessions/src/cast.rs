@@ -5,14 +5,15 @@ use crate::image::{
 };
 use crate::{Random, Session, Step};
 
-/// An image, and the call that takes it in.
+/// An image, its bytes, and the call that takes it in.
 #[derive(Debug, Clone)]
 pub struct Placed {
     pub step: Step,
+    pub image: Image,
     pub bytes: Vec<u8>,
 }
 
-/// The first is the static module. No name comes twice.
+/// The first is the static module. No module's and no export's name comes twice.
 #[derive(Debug, Clone)]
 pub struct Cast {
     pub at: u32,
@@ -31,7 +32,9 @@ impl Cast {
     /// At most `count` members in a window of at most 32 KiB: as many as have room.
     pub fn new(random: &mut Random, count: u32) -> Cast {
         let length = 0x1000 * random.from_to(2, 8);
-        let at = 0x1000 * random.from_to(1, 0xF_0000);
+        // some stand so high that the addresses of batches come close to 2^32
+        let high = 0xFFFF_F000 - length;
+        let at = if random.once_in(16) { high } else { 0x1000 * random.from_to(1, 0xF_0000) };
         let offers: Vec<Offer> = (0..count).map(|number| Offer::new(random, number)).collect();
         let mut cast = Cast { at, length, members: Vec::new() };
         let mut next = at + 4 * random.below(16);
@@ -142,6 +145,10 @@ fn image(random: &mut Random, offers: &[Offer], number: usize) -> Image {
         let relocation = words.relocation(random);
         image.internal.push(Internal { relocation, symbol: random.below(5) as u8 });
     }
+    if number == 0 {
+        // in a static module these would be written from address 0 on
+        image.internal.retain(|internal| internal.relocation.tag % 16 != DATA_SEGMENT);
+    }
     image
 }
 
@@ -167,5 +174,5 @@ fn place(random: &mut Random, mut image: Image, is_static: bool, next: &mut u32,
     let load = Step { call: crate::Call::Load, base, size, data, data_size, bss, bss_size, auto_link, level };
     *next = bss + bss_size + random.below(64);
     let step = if is_static { Step::initialize(base, size) } else { load };
-    (*next <= end).then_some(Placed { step, bytes })
+    (*next <= end).then_some(Placed { step, image, bytes })
 }

@@ -1,0 +1,1 @@
+pub fn all() {} pub fn one(_: &str, _: &str) {}
