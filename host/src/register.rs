@@ -67,12 +67,12 @@ impl<'a> Module<'a> {
     }
 
     /// The addresses of its segments, at most 16.
-    pub fn segments(&self) -> impl Iterator<Item = u32> + 'a {
+    pub fn segments(&self) -> impl ExactSizeIterator<Item = u32> + 'a {
         self.words(Self::FIXED, self.field(5) as usize)
     }
 
     /// Its named exports, each name once, in no order that a host may rely on.
-    pub fn exports(&self) -> impl Iterator<Item = (&'a [u8], u32)> + 'a {
+    pub fn exports(&self) -> impl ExactSizeIterator<Item = (&'a [u8], u32)> + 'a {
         let module = *self;
         let first = Self::FIXED + 4 * self.field(5) as usize;
         (0..self.field(6) as usize).map(move |index| {
@@ -88,12 +88,12 @@ impl<'a> Module<'a> {
     }
 
     /// The addresses of its exports by index; 0 where there is none.
-    pub fn indexed_exports(&self) -> impl Iterator<Item = u32> + 'a {
+    pub fn indexed_exports(&self) -> impl ExactSizeIterator<Item = u32> + 'a {
         let first = Self::FIXED + 4 * self.field(5) as usize + 12 * self.field(6) as usize;
         self.words(first, self.field(7) as usize)
     }
 
-    fn words(&self, first: usize, count: usize) -> impl Iterator<Item = u32> + 'a {
+    fn words(&self, first: usize, count: usize) -> impl ExactSizeIterator<Item = u32> + 'a {
         let record = self.record;
         (0..count).map(move |index| word(record, first + 4 * index))
     }

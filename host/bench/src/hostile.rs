@@ -1,1 +1,127 @@
-pub fn all() {} pub fn one(_: &str, _: &str) {}
+//! Loads of a small module, one of whose counts is 2^32 - 1. Each side does each in a process of its own, which is ended
+//! after a minute and cannot have more than 4 GiB.
+
+use crate::work::{call, AT};
+use fillqhano::Linker;
+use oracle::Oracle;
+use sessions::image::{tag, FromModule, Image, Internal, Relocation, COUNTS};
+use sessions::{Call, Step};
+use std::process::{Child, Command, Stdio};
+use std::time::{Duration, Instant};
+
+const LIMIT: Duration = Duration::from_secs(60);
+
+/// What is 2^32 - 1.
+#[derive(Clone, Copy)]
+enum Hostile {
+    /// The count in this field of the header. What it counts reads as 0 from the window's end on.
+    Header(u32),
+    /// The segments, whose table lies outside the window.
+    Segments,
+    /// The count at this offset of the module entry.
+    Entry(u32),
+    /// Nothing, but no batch has an end mark.
+    Batch,
+}
+
+const CASES: [(&str, Hostile); 12] = [
+    ("segments", Hostile::Segments),
+    ("named exports", Hostile::Header(COUNTS[1])),
+    ("indexed exports", Hostile::Header(COUNTS[2])),
+    ("module entries", Hostile::Header(COUNTS[3])),
+    ("external relocations", Hostile::Header(COUNTS[4])),
+    ("named imports", Hostile::Header(COUNTS[5])),
+    ("indexed imports", Hostile::Header(COUNTS[6])),
+    ("anonymous imports", Hostile::Header(COUNTS[7])),
+    ("internal relocations", Hostile::Header(COUNTS[8])),
+    ("a module entry's indexed imports", Hostile::Entry(8)),
+    ("a module entry's anonymous imports", Hostile::Entry(16)),
+    ("no end mark in any batch", Hostile::Batch),
+];
+
+pub fn all() {
+    println!("{:<36} {:>18} {:>18}", "2^32 - 1 of: number and time", "linker", "Rust");
+    for (number, (name, _)) in CASES.iter().enumerate() {
+        println!("{name:<36} {:>18} {:>18}", limited("linker", number), limited("rust", number));
+    }
+}
+
+/// What a process of its own prints, or why it did not.
+fn limited(side: &str, number: usize) -> String {
+    let program = std::env::current_exe().unwrap();
+    let mut child = Command::new("sh")
+        .args(["-c", "ulimit -v 4194304; exec \"$0\" --hostile \"$@\""])
+        .arg(program)
+        .args([side, &number.to_string()])
+        .stdout(Stdio::piped())
+        .stderr(Stdio::null())
+        .spawn()
+        .unwrap();
+    if !ends(&mut child) {
+        return "over a minute".into();
+    }
+    let output = child.wait_with_output().unwrap();
+    match output.status.success() {
+        true => String::from_utf8_lossy(&output.stdout).trim().into(),
+        false => "out of memory".into(),
+    }
+}
+
+fn ends(child: &mut Child) -> bool {
+    let start = Instant::now();
+    while child.try_wait().unwrap().is_none() {
+        if start.elapsed() > LIMIT {
+            child.kill().unwrap();
+            child.wait().unwrap();
+            return false;
+        }
+        std::thread::sleep(Duration::from_millis(5));
+    }
+    true
+}
+
+/// The call itself: prints its number and time.
+pub fn one(side: &str, number: &str) {
+    let (mut window, step) = session(CASES[number.parse::<usize>().unwrap()].1);
+    let start = Instant::now();
+    let answer = match side {
+        "linker" => call(&mut Linker::new(), &mut window, &step),
+        _ => match Oracle::new(AT, window) {
+            Some(mut oracle) => oracle.call(&step),
+            None => return println!("no sources"),
+        },
+    };
+    println!("{} in {}", answer.0, crate::shown(Some(start.elapsed())));
+}
+
+fn session(hostile: Hostile) -> (Vec<u8>, Step) {
+    let mut window = image().bytes();
+    let size = window.len() as u32;
+    window.resize(0x1000, 0);
+    let word = |window: &[u8], at: u32| u32::from_le_bytes(window[at as usize..][..4].try_into().unwrap());
+    let (entry, batches) = (word(&window, 0xF0), word(&window, 0xF8));
+    let mut put = |at: u32, word: u32| window[at as usize..][..4].copy_from_slice(&word.to_le_bytes());
+    match hostile {
+        Hostile::Header(field) => put(field, u32::MAX),
+        Hostile::Segments => {
+            put(COUNTS[0] - 4, 0x1000);
+            put(COUNTS[0], u32::MAX);
+        }
+        Hostile::Entry(offset) => put(entry + offset, u32::MAX),
+        Hostile::Batch => (0..3).for_each(|index| put(batches + 12 * index + 4, 2)),
+    }
+    (window, Step { call: Call::Load, auto_link: 1, level: 1, ..Step::initialize(AT, size) })
+}
+
+/// A module that has one of each, and imports from itself.
+fn image() -> Image {
+    let mut image = Image { name: b"hostile".to_vec(), handler: tag(0, 4), sizes: [0x100, 0, 0, 0], ..Image::default() };
+    let relocation = |offset| Relocation { tag: tag(0, offset), kind: 2, addend: 0 };
+    image.exports.push((b"export".to_vec(), tag(0, 0)));
+    image.indexed.push(tag(0, 0));
+    image.imports.push((b"export".to_vec(), vec![relocation(8)]));
+    let (indexed, anonymous) = ((0, vec![relocation(12)]), (tag(0, 0), vec![relocation(16)]));
+    image.modules.push(FromModule { name: b"hostile".to_vec(), indexed: vec![indexed], anonymous: vec![anonymous] });
+    image.internal.push(Internal { relocation: relocation(20), symbol: 0 });
+    image
+}

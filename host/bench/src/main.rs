@@ -1,4 +1,5 @@
-//! `bench`: times the linker and the Rust on the same work, both in one process and in turn, the best of several runs.
+//! `bench [PART]`: times the linker and the Rust on the same work, both in one process and in turn, the best of several
+//! runs; of the rows with this part in their name.
 //! `bench --hostile`: calls with counts up to 2^32 - 1, each in a process of its own with a limit of time and memory.
 
 mod hostile;
@@ -17,15 +18,16 @@ fn main() -> ExitCode {
     match words.iter().map(String::as_str).collect::<Vec<_>>()[..] {
         ["--hostile"] => hostile::all(),
         ["--hostile", side, number] => hostile::one(side, number),
-        _ => rows(),
+        [part] => rows(part),
+        _ => rows(""),
     }
     ExitCode::SUCCESS
 }
 
-fn rows() {
+fn rows(part: &str) {
     println!("best of {RUNS} runs; window and register are fresh copies, made outside the time");
     println!("{:<44} {:>10} {:>10} {:>7}", "", "linker", "Rust", "ratio");
-    for work in Work::all() {
+    for work in Work::all().iter().filter(|work| work.name.contains(part)) {
         let (linker, rust) = work.times();
         let ratio = rust.map_or("-".into(), |rust| format!("{:.2}", linker.as_secs_f64() / rust.as_secs_f64()));
         println!("{:<44} {:>10} {:>10} {:>7}", work.name, shown(Some(linker)), shown(rust), ratio);

@@ -9,7 +9,7 @@ use std::time::{Duration, Instant};
 /// How many times each side does a row's work.
 pub const RUNS: usize = 15;
 
-const AT: u32 = 0x0010_0000;
+pub const AT: u32 = 0x0010_0000;
 
 /// A row: a window, calls that are made first, and calls that are timed.
 pub struct Work {

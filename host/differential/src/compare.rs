@@ -16,6 +16,11 @@ pub struct Tally {
     pub sessions: u64,
     /// Calls compared, by the number that they gave. Those set apart and found equal are among them.
     pub calls: [u64; 6],
+    /// The same calls by kind: initialize, load, unload.
+    pub kinds: [u64; 3],
+    /// Of them those after which 64 modules stand, and 64 names are missing.
+    pub most_modules: u64,
+    pub most_missing: u64,
     /// Set apart: calls from the first name on that is not valid UTF-8, compared with names kept as raw bytes.
     pub odd_names: u64,
     /// Set apart: calls that may have walked a batch from 0xFFFF3FF4 up, and were equal; and those that differed.
@@ -38,9 +43,12 @@ impl Tally {
 impl AddAssign for Tally {
     fn add_assign(&mut self, other: Tally) {
         self.sessions += other.sessions;
-        for (sum, count) in self.calls.iter_mut().zip(other.calls) {
+        let sums = self.calls.iter_mut().chain(&mut self.kinds);
+        for (sum, count) in sums.zip(other.calls.into_iter().chain(other.kinds)) {
             *sum += count;
         }
+        self.most_modules += other.most_modules;
+        self.most_missing += other.most_missing;
         self.odd_names += other.odd_names;
         self.high_batches += other.high_batches;
         self.high_differences += other.high_differences;
@@ -171,14 +179,24 @@ impl<'a> Run<'a> {
                 false
             }
             None => {
-                self.done.tally.calls[number as usize] += 1;
-                self.done.tally.high_batches += self.oracle.watch().high_batch as u64;
+                self.count(index, number, &state);
                 let digest = state.digest(self.oracle.window());
                 self.done.answers.push(Answer { number, value, digest });
                 self.before = state;
                 true
             }
         }
+    }
+}
+
+impl Run<'_> {
+    fn count(&mut self, index: usize, number: u32, state: &State) {
+        let tally = &mut self.done.tally;
+        tally.calls[number as usize] += 1;
+        tally.kinds[self.session.steps[index].call as usize] += 1;
+        tally.most_modules += (state.modules.len() == 64) as u64;
+        tally.most_missing += (state.missing.len() == 64) as u64;
+        tally.high_batches += self.oracle.watch().high_batch as u64;
     }
 }
 
@@ -209,10 +227,7 @@ fn differs(
     let Some(linker) = new.linker() else {
         return Some("the buffers are no register".into());
     };
-    if let Some(what) = register_differs(expected, state, old, new, &linker) {
-        return Some(what);
-    }
-    None
+    register_differs(expected, state, old, new, &linker)
 }
 
 fn register_differs(answer: (u32, u32), state: &State, old: &Buffers, new: &Buffers, linker: &Linker) -> Option<String> {

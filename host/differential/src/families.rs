@@ -264,7 +264,8 @@ fn soup_step(random: &mut Random, session: &Session, base: u32, index: u32) -> S
 fn filling(random: &mut Random) -> Session {
     let count = random.from_to(2, 10);
     let cast = Cast::new(random, count);
-    let steps = random.pick(&[6, 12, 30, 80]);
+    let long = random.once_in(6);
+    let steps = if long { 120 } else { random.pick(&[6, 12, 30]) };
     let loads = (0..steps).map(|index| any_step(random, &cast, index));
     let loads = loads.filter(|step| step.call != Call::Unload).collect();
     let mut session = cast.session(loads);
@@ -276,13 +277,14 @@ fn filling(random: &mut Random) -> Session {
             session.steps[index] = Step::unload(session.steps[index].base);
         }
     }
+    if long || random.once_in(4) {
+        (session.records, session.names) = (1 << 16, 1 << 16);
+        return session;
+    }
     let room = random.pick(&[32, 100, 400, 1000, 3000, 16_384]);
     session.records = (room + random.below(room)) as usize;
     let room = random.pick(&[0, 1, 30, 100, 400, 2000, 16_384]);
     session.names = (room + random.below(room + 1)) as usize;
-    if random.once_in(3) {
-        (session.records, session.names) = (1 << 16, 1 << 16);
-    }
     session
 }
 

@@ -10,7 +10,7 @@ use std::process::ExitCode;
 
 /// The gate's seed, and how many sessions of each family.
 const SEED: u64 = 1;
-const SESSIONS: u64 = 200;
+const SESSIONS: u64 = 150;
 const STORED: &str = concat!(env!("CARGO_MANIFEST_DIR"), "/stored.txt");
 
 struct Asked {
@@ -115,14 +115,13 @@ fn compare_all(asked: &Asked) -> Result<String, String> {
 }
 
 fn show(name: &str, tally: &Tally) {
-    let calls = tally.calls;
+    let ([done, no_cro, bad_segment, _, _, full], [initialize, load, unload]) = (tally.calls, tally.kinds);
     println!("{name}: {} sessions, {} calls", tally.sessions, tally.compared());
-    println!("  by number: 0: {}, 1: {}, 2: {}, 5: {}", calls[0], calls[1], calls[2], calls[5]);
-    println!("  with a bad window or register: {}", tally.refused);
-    println!(
-        "  set apart: names {}, high batches {} equal and {} not; cut for length {}, no room and not seen {}",
-        tally.odd_names, tally.high_batches, tally.high_differences, tally.cut, tally.unseen
-    );
+    println!("  initialize {initialize}, load {load}, unload {unload}");
+    println!("  number 0: {done}, 1: {no_cro}, 2: {bad_segment}, 5: {full}; bad windows and registers besides: {}", tally.refused);
+    println!("  with 64 modules {}, with 64 missing names {}", tally.most_modules, tally.most_missing);
+    println!("  set apart: odd names {}, high batches {} equal and {} not", tally.odd_names, tally.high_batches, tally.high_differences);
+    println!("  not compared: too long {}, no room and no window seen {}", tally.cut, tally.unseen);
 }
 
 fn report(session: &Session, compared: Compared) -> Result<(), String> {

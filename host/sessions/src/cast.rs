@@ -128,7 +128,8 @@ fn image(random: &mut Random, offers: &[Offer], number: usize) -> Image {
         image.exports.push((export.clone(), any_tag(random, sizes)));
     }
     image.indexed = (0..random.below(5)).map(|_| any_tag(random, sizes)).collect();
-    for _ in 0..random.below(6) {
+    let imports = if random.once_in(24) { 70 } else { random.below(6) };
+    for _ in 0..imports {
         let from = &offers[random.below(offers.len() as u32) as usize].exports;
         let missing = || b"nobody".to_vec();
         let export = if from.is_empty() { missing() } else { from[random.below(from.len() as u32) as usize].clone() };
