@@ -28,6 +28,8 @@
 pub mod calls;
 mod register;
 
+use calls::Lent;
+
 pub use register::{Module, Modules, MISSING_LENGTH};
 
 /// Why a call was refused. The register is then as it was.
@@ -46,18 +48,19 @@ pub enum Error {
     Full,
 }
 
-impl Error {
-    fn of(number: u32) -> Option<Error> {
-        match number {
-            0 => None,
-            1 => Some(Error::NotACro),
-            2 => Some(Error::BadSegment),
-            3 => Some(Error::BadWindow),
-            4 => Some(Error::BadRegister),
-            _ => Some(Error::Full),
-        }
+/// A call's value, or the refusal that its number says.
+fn value_of((number, value): (u32, u32)) -> Result<u32, Error> {
+    match number {
+        0 => Ok(value),
+        1 => Err(Error::NotACro),
+        2 => Err(Error::BadSegment),
+        3 => Err(Error::BadWindow),
+        4 => Err(Error::BadRegister),
+        _ => Err(Error::Full),
     }
+}
 
+impl Error {
     /// The number of this refusal.
     pub fn number(self) -> u32 {
         match self {
@@ -134,27 +137,13 @@ impl Linker {
         self.names.resize(self.names.len() + names, 0);
     }
 
+    fn lent<'a>(&'a mut self, at: u32, window: &'a mut [u8]) -> Lent<'a> {
+        Lent { at, window, records: &mut self.records, names: &mut self.names, missing: &mut self.missing }
+    }
+
     /// Takes in the static module, whose exports every other module links against.
     pub fn initialize(&mut self, at: u32, window: &mut [u8], base: u32, size: u32) -> Result<(), Error> {
-        let mut value = 0;
-        // SAFETY: the pointers and lengths are those of four vectors and slices that do not overlap, and of a local.
-        let number = unsafe {
-            calls::initialize(
-                at,
-                window.as_mut_ptr(),
-                window.len(),
-                self.records.as_mut_ptr(),
-                self.records.len(),
-                self.names.as_mut_ptr(),
-                self.names.len(),
-                self.missing.as_mut_ptr(),
-                self.missing.len(),
-                base,
-                size,
-                &mut value,
-            )
-        };
-        Error::of(number).map_or(Ok(()), Err)
+        value_of(calls::initialize(self.lent(at, window), base, size)).map(|_| ())
     }
 
     /// Rebases, relocates and links a module. Gives how much of it is left after fixing, 0 where the level fixes nothing.
@@ -172,53 +161,22 @@ impl Linker {
         auto_link: bool,
         fix_level: u32,
     ) -> Result<u32, Error> {
-        let mut value = 0;
-        // SAFETY: as in `initialize`.
-        let number = unsafe {
-            calls::load(
-                at,
-                window.as_mut_ptr(),
-                window.len(),
-                self.records.as_mut_ptr(),
-                self.records.len(),
-                self.names.as_mut_ptr(),
-                self.names.len(),
-                self.missing.as_mut_ptr(),
-                self.missing.len(),
-                base,
-                size,
-                data_segment,
-                data_segment_size,
-                bss_segment,
-                bss_segment_size,
-                auto_link as u32,
-                fix_level,
-                &mut value,
-            )
-        };
-        Error::of(number).map_or(Ok(value), Err)
+        value_of(calls::load(
+            self.lent(at, window),
+            base,
+            size,
+            data_segment,
+            data_segment_size,
+            bss_segment,
+            bss_segment_size,
+            auto_link as u32,
+            fix_level,
+        ))
     }
 
     /// Takes out the first module at this base. Gives whether there was one.
     pub fn unload(&mut self, at: u32, window: &mut [u8], base: u32) -> Result<bool, Error> {
-        let mut value = 0;
-        // SAFETY: as in `initialize`.
-        let number = unsafe {
-            calls::unload(
-                at,
-                window.as_mut_ptr(),
-                window.len(),
-                self.records.as_mut_ptr(),
-                self.records.len(),
-                self.names.as_mut_ptr(),
-                self.names.len(),
-                self.missing.as_mut_ptr(),
-                self.missing.len(),
-                base,
-                &mut value,
-            )
-        };
-        Error::of(number).map_or(Ok(value != 0), Err)
+        value_of(calls::unload(self.lent(at, window), base)).map(|value| value != 0)
     }
 
     /// The static module's base, if there is one.

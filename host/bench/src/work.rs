@@ -114,17 +114,9 @@ impl Stage {
         let lent = (image.sizes[2], image.sizes[3]);
         self.steps.push(match is_static {
             true => Step::initialize(base, size),
-            false => Step {
-                call: Call::Load,
-                base,
-                size,
-                data,
-                data_size: lent.0,
-                bss,
-                bss_size: lent.1,
-                auto_link: 1,
-                level: 1,
-            },
+            false => {
+                Step { call: Call::Load, base, size, data, data_size: lent.0, bss, bss_size: lent.1, auto_link: 1, level: 1 }
+            }
         });
     }
 

@@ -187,9 +187,7 @@ impl<'a> Run<'a> {
             }
         }
     }
-}
 
-impl Run<'_> {
     fn count(&mut self, index: usize, number: u32, state: &State) {
         let tally = &mut self.done.tally;
         tally.calls[number as usize] += 1;

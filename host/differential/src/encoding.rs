@@ -38,7 +38,9 @@ pub fn encoded(linker: &Linker) -> (Vec<u8>, Vec<u8>, Vec<u8>) {
     let mut header = Vec::new();
     let crs = linker.crs();
     let used = 32 + records.len();
-    for word in [linker.len(), crs.is_some() as usize, crs.unwrap_or(0) as usize, used, names.len(), linker.missing().count(), 0, 0] {
+    for word in
+        [linker.len(), crs.is_some() as usize, crs.unwrap_or(0) as usize, used, names.len(), linker.missing().count(), 0, 0]
+    {
         put(&mut header, word);
     }
     header.extend(records);

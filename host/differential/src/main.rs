@@ -66,7 +66,11 @@ fn run(asked: Asked) -> Result<(), String> {
     if gate && answers != std::fs::read_to_string(STORED).unwrap_or_default() {
         return Err("the stored answers are not those of the Rust: `differential --store` writes them".into());
     }
-    if gate { replay() } else { Ok(()) }
+    if gate {
+        replay()
+    } else {
+        Ok(())
+    }
 }
 
 /// Demand 3 by running.
@@ -118,9 +122,15 @@ fn show(name: &str, tally: &Tally) {
     let ([done, no_cro, bad_segment, _, _, full], [initialize, load, unload]) = (tally.calls, tally.kinds);
     println!("{name}: {} sessions, {} calls", tally.sessions, tally.compared());
     println!("  initialize {initialize}, load {load}, unload {unload}");
-    println!("  number 0: {done}, 1: {no_cro}, 2: {bad_segment}, 5: {full}; bad windows and registers besides: {}", tally.refused);
+    println!(
+        "  number 0: {done}, 1: {no_cro}, 2: {bad_segment}, 5: {full}; bad windows and registers besides: {}",
+        tally.refused
+    );
     println!("  with 64 modules {}, with 64 missing names {}", tally.most_modules, tally.most_missing);
-    println!("  set apart: odd names {}, high batches {} equal and {} not", tally.odd_names, tally.high_batches, tally.high_differences);
+    println!(
+        "  set apart: odd names {}, high batches {} equal and {} not",
+        tally.odd_names, tally.high_batches, tally.high_differences
+    );
     println!("  not compared: too long {}, no room and no window seen {}", tally.cut, tally.unseen);
 }
 

@@ -1,6 +1,6 @@
 //! The linker under test: the three calls over a window and a register, by the library's own functions.
 
-use fillqhano::calls;
+use fillqhano::calls::{self, Lent};
 use fillqhano::{Linker, MISSING_LENGTH};
 use sessions::{Call, Module, State, Step};
 
@@ -19,32 +19,21 @@ impl Buffers {
         Buffers { at, window, records: vec![0; records], names: vec![0; names], missing: vec![0; MISSING_LENGTH] }
     }
 
-    /// Makes the call; gives the number and the value. The value's place holds something else before.
+    /// Makes the call; gives the number and the value.
     pub fn call(&mut self, step: &Step) -> (u32, u32) {
-        let mut value = 0xAAAA_AAAA;
-        let (window, window_length) = (self.window.as_mut_ptr(), self.window.len());
-        let (records, records_length) = (self.records.as_mut_ptr(), self.records.len());
-        let (names, names_length) = (self.names.as_mut_ptr(), self.names.len());
-        let (missing, missing_length) = (self.missing.as_mut_ptr(), self.missing.len());
-        // SAFETY: the pointers and lengths are those of four vectors that do not overlap, and of a local.
-        let number = unsafe {
-            match step.call {
-                Call::Initialize => calls::initialize(
-                    self.at, window, window_length, records, records_length, names, names_length, missing, missing_length,
-                    step.base, step.size, &mut value,
-                ),
-                Call::Load => calls::load(
-                    self.at, window, window_length, records, records_length, names, names_length, missing, missing_length,
-                    step.base, step.size, step.data, step.data_size, step.bss, step.bss_size, step.auto_link, step.level,
-                    &mut value,
-                ),
-                Call::Unload => calls::unload(
-                    self.at, window, window_length, records, records_length, names, names_length, missing, missing_length,
-                    step.base, &mut value,
-                ),
-            }
+        let lent = Lent {
+            at: self.at,
+            window: &mut self.window,
+            records: &mut self.records,
+            names: &mut self.names,
+            missing: &mut self.missing,
         };
-        (number, value)
+        let &Step { base, size, data, data_size, bss, bss_size, auto_link, level, .. } = step;
+        match step.call {
+            Call::Initialize => calls::initialize(lent, base, size),
+            Call::Load => calls::load(lent, base, size, data, data_size, bss, bss_size, auto_link, level),
+            Call::Unload => calls::unload(lent, base),
+        }
     }
 
     pub fn register(&self) -> (&[u8], &[u8], &[u8]) {
@@ -73,9 +62,5 @@ pub fn state(linker: &Linker) -> State {
         exports: module.exports().map(|(name, address)| (name.to_vec(), address)).collect(),
         indexed_exports: module.indexed_exports().collect(),
     });
-    State {
-        crs: linker.crs(),
-        modules: modules.collect(),
-        missing: linker.missing().map(<[u8]>::to_vec).collect(),
-    }
+    State { crs: linker.crs(), modules: modules.collect(), missing: linker.missing().map(<[u8]>::to_vec).collect() }
 }

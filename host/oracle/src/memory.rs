@@ -50,7 +50,7 @@ impl Memory {
 
     fn note_byte(&mut self, addr: u32) {
         self.access();
-        if addr >= 0xFFFF_3FF4 + 6 || addr < 6 {
+        if !(6..0xFFFF_3FF4 + 6).contains(&addr) {
             self.watch.high_batch = true;
         }
     }

@@ -1,8 +1,6 @@
 //! A static module and modules that import from each other, well laid and apart from each other in one window.
 
-use crate::image::{
-    tag, FromModule, Image, Internal, Relocation, BSS_SEGMENT, CODE_SEGMENT, DATA_SEGMENT, READ_ONLY_SEGMENT,
-};
+use crate::image::{tag, FromModule, Image, Internal, Relocation, BSS_SEGMENT, CODE_SEGMENT, DATA_SEGMENT, READ_ONLY_SEGMENT};
 use crate::{Random, Session, Step};
 
 /// An image, its bytes, and the call that takes it in.
@@ -116,12 +114,7 @@ impl Words {
 }
 
 fn image(random: &mut Random, offers: &[Offer], number: usize) -> Image {
-    let sizes = [
-        4 * random.from_to(12, 40),
-        4 * random.below(10),
-        4 * random.below(10),
-        4 * random.below(10),
-    ];
+    let sizes = [4 * random.from_to(12, 40), 4 * random.below(10), 4 * random.below(10), 4 * random.below(10)];
     let mut words = Words { sizes, next: [8, 0, 0, 0] };
     let mut image = Image { name: offers[number].name.clone(), handler: tag(CODE_SEGMENT, 4), sizes, ..Image::default() };
     for export in &offers[number].exports {

@@ -6,12 +6,12 @@ impl Random {
     /// The generator of one session: of a seed, a family and the session's number.
     pub fn new(seed: u64, family: u64, number: u64) -> Random {
         let mut random = Random(seed);
-        random.0 = random.next() ^ family;
-        random.0 = random.next() ^ number;
+        random.0 = random.long() ^ family;
+        random.0 = random.long() ^ number;
         random
     }
 
-    pub fn next(&mut self) -> u64 {
+    fn long(&mut self) -> u64 {
         self.0 = self.0.wrapping_add(0x9E37_79B9_7F4A_7C15);
         let mut z = self.0;
         z = (z ^ (z >> 30)).wrapping_mul(0xBF58_476D_1CE4_E5B9);
@@ -20,12 +20,12 @@ impl Random {
     }
 
     pub fn word(&mut self) -> u32 {
-        self.next() as u32
+        self.long() as u32
     }
 
     /// A number below `end`.
     pub fn below(&mut self, end: u32) -> u32 {
-        ((self.next() >> 32) * end as u64 >> 32) as u32
+        (((self.long() >> 32) * end as u64) >> 32) as u32
     }
 
     /// A number from `first` to `last`.

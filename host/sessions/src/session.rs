@@ -35,9 +35,7 @@ impl Step {
             Call::Load => 2,
             Call::Unload => 3,
         };
-        [
-            call, self.base, self.size, self.data, self.data_size, self.bss, self.bss_size, self.auto_link, self.level,
-        ]
+        [call, self.base, self.size, self.data, self.data_size, self.bss, self.bss_size, self.auto_link, self.level]
     }
 
     fn of(words: [u32; 9]) -> Option<Step> {
