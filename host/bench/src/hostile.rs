@@ -1,17 +1,17 @@
-//! Loads of a small module, one of whose counts is 2^32 - 1. Each side does each in a process of its own, which is ended
-//! after a minute and cannot have more than 4 GiB.
+//! Loads of a small module, one of whose counts is 2^24 or 2^32 - 1. Each side does each in a process of its own, which
+//! may use a minute and 4 GiB.
 
 use crate::work::{call, AT};
 use fillqhano::Linker;
 use oracle::Oracle;
 use sessions::image::{tag, FromModule, Image, Internal, Relocation, COUNTS};
 use sessions::{Call, Step};
-use std::process::{Child, Command, Stdio};
-use std::time::{Duration, Instant};
+use std::os::unix::process::ExitStatusExt;
+use std::process::Command;
 
-const LIMIT: Duration = Duration::from_secs(60);
+const COUNTS_TRIED: [u32; 2] = [1 << 24, u32::MAX];
 
-/// What is 2^32 - 1.
+/// What is so many.
 #[derive(Clone, Copy)]
 enum Hostile {
     /// The count in this field of the header. What it counts reads as 0 from the window's end on.
@@ -40,50 +40,39 @@ const CASES: [(&str, Hostile); 12] = [
 ];
 
 pub fn all() {
-    println!("{:<36} {:>18} {:>18}", "2^32 - 1 of: number and time", "linker", "Rust");
-    for (number, (name, _)) in CASES.iter().enumerate() {
-        println!("{name:<36} {:>18} {:>18}", limited("linker", number), limited("rust", number));
+    for count in COUNTS_TRIED {
+        println!("{:<36} {:>18} {:>18}", format!("{count:#x}: number and time"), "linker", "Rust");
+        for (case, (name, _)) in CASES.iter().enumerate() {
+            println!("{name:<36} {:>18} {:>18}", limited("linker", case, count), limited("rust", case, count));
+        }
     }
 }
 
 /// What a process of its own prints, or why it did not.
-fn limited(side: &str, number: usize) -> String {
+fn limited(side: &str, case: usize, count: u32) -> String {
     let program = std::env::current_exe().unwrap();
-    let mut child = Command::new("sh")
-        .args(["-c", "ulimit -v 4194304; exec \"$0\" --hostile \"$@\""])
+    let output = Command::new("sh")
+        .args(["-c", "ulimit -v 4194304; ulimit -t 60; exec \"$0\" --hostile \"$@\""])
         .arg(program)
-        .args([side, &number.to_string()])
-        .stdout(Stdio::piped())
-        .stderr(Stdio::null())
-        .spawn()
+        .args([side, &case.to_string(), &count.to_string()])
+        .output()
         .unwrap();
-    if !ends(&mut child) {
-        return "over a minute".into();
-    }
-    let output = child.wait_with_output().unwrap();
-    match output.status.success() {
-        true => String::from_utf8_lossy(&output.stdout).trim().into(),
-        false => "out of memory".into(),
+    // a process that has used its time is killed; one without memory ends itself
+    match (output.status.code(), output.status.signal()) {
+        (Some(0), _) => String::from_utf8_lossy(&output.stdout).trim().into(),
+        (_, Some(KILLED | NO_TIME)) => "over a minute".into(),
+        _ => "out of memory".into(),
     }
 }
 
-fn ends(child: &mut Child) -> bool {
-    let start = Instant::now();
-    while child.try_wait().unwrap().is_none() {
-        if start.elapsed() > LIMIT {
-            child.kill().unwrap();
-            child.wait().unwrap();
-            return false;
-        }
-        std::thread::sleep(Duration::from_millis(5));
-    }
-    true
-}
+const KILLED: i32 = 9;
+const NO_TIME: i32 = 24;
 
 /// The call itself: prints its number and time.
-pub fn one(side: &str, number: &str) {
-    let (mut window, step) = session(CASES[number.parse::<usize>().unwrap()].1);
-    let start = Instant::now();
+pub fn one(side: &str, case: &str, count: &str) {
+    let case = CASES[case.parse::<usize>().unwrap()].1;
+    let (mut window, step) = session(case, count.parse().unwrap());
+    let start = crate::clock::now();
     let answer = match side {
         "linker" => call(&mut Linker::new(), &mut window, &step),
         _ => match Oracle::new(AT, window) {
@@ -91,10 +80,10 @@ pub fn one(side: &str, number: &str) {
             None => return println!("no sources"),
         },
     };
-    println!("{} in {}", answer.0, crate::shown(Some(start.elapsed())));
+    println!("{} in {}", answer.0, crate::shown(Some(crate::clock::now() - start)));
 }
 
-fn session(hostile: Hostile) -> (Vec<u8>, Step) {
+fn session(hostile: Hostile, count: u32) -> (Vec<u8>, Step) {
     let mut window = image().bytes();
     let size = window.len() as u32;
     window.resize(0x1000, 0);
@@ -102,12 +91,12 @@ fn session(hostile: Hostile) -> (Vec<u8>, Step) {
     let (entry, batches) = (word(&window, 0xF0), word(&window, 0xF8));
     let mut put = |at: u32, word: u32| window[at as usize..][..4].copy_from_slice(&word.to_le_bytes());
     match hostile {
-        Hostile::Header(field) => put(field, u32::MAX),
+        Hostile::Header(field) => put(field, count),
         Hostile::Segments => {
             put(COUNTS[0] - 4, 0x1000);
-            put(COUNTS[0], u32::MAX);
+            put(COUNTS[0], count);
         }
-        Hostile::Entry(offset) => put(entry + offset, u32::MAX),
+        Hostile::Entry(offset) => put(entry + offset, count),
         Hostile::Batch => (0..3).for_each(|index| put(batches + 12 * index + 4, 2)),
     }
     (window, Step { call: Call::Load, auto_link: 1, level: 1, ..Step::initialize(AT, size) })

@@ -1,7 +1,8 @@
 //! `bench [PART]`: times the linker and the Rust on the same work, both in one process and in turn, the best of several
 //! runs; of the rows with this part in their name.
-//! `bench --hostile`: calls with counts up to 2^32 - 1, each in a process of its own with a limit of time and memory.
+//! `bench --hostile`: calls with counts of 2^24 and 2^32 - 1, each in a process of its own with a limit of time and memory.
 
+mod clock;
 mod hostile;
 mod work;
 
@@ -17,7 +18,7 @@ fn main() -> ExitCode {
     let words: Vec<String> = std::env::args().skip(1).collect();
     match words.iter().map(String::as_str).collect::<Vec<_>>()[..] {
         ["--hostile"] => hostile::all(),
-        ["--hostile", side, number] => hostile::one(side, number),
+        ["--hostile", side, case, count] => hostile::one(side, case, count),
         [part] => rows(part),
         _ => rows(""),
     }
@@ -25,7 +26,7 @@ fn main() -> ExitCode {
 }
 
 fn rows(part: &str) {
-    println!("best of {RUNS} runs; window and register are fresh copies, made outside the time");
+    println!("processor time, best of {RUNS} runs; window and register are fresh copies, made outside the time");
     println!("{:<44} {:>10} {:>10} {:>7}", "", "linker", "Rust", "ratio");
     for work in Work::all().iter().filter(|work| work.name.contains(part)) {
         let (linker, rust) = work.times();

@@ -1,10 +1,11 @@
 //! The rows of the benchmark: what stands before, and the calls that are timed.
 
+use crate::clock::now;
 use fillqhano::Linker;
 use oracle::Oracle;
 use sessions::image::{tag, FromModule, Image, Internal, Relocation, BSS_SEGMENT, CODE_SEGMENT};
 use sessions::{Call, Step};
-use std::time::{Duration, Instant};
+use std::time::Duration;
 
 /// How many times each side does a row's work.
 pub const RUNS: usize = 15;
@@ -49,11 +50,11 @@ impl Work {
 
     fn time_linker(&self, ready: &(Linker, Vec<u8>)) -> Duration {
         let (mut linker, mut window) = ready.clone();
-        let start = Instant::now();
+        let start = now();
         for step in &self.timed {
             std::hint::black_box(call(&mut linker, &mut window, step));
         }
-        start.elapsed()
+        now() - start
     }
 
     fn time_rust(&self) -> Option<Duration> {
@@ -61,11 +62,11 @@ impl Work {
         for step in &self.first {
             oracle.call(step);
         }
-        let start = Instant::now();
+        let start = now();
         for step in &self.timed {
             std::hint::black_box(oracle.call(step));
         }
-        Some(start.elapsed())
+        Some(now() - start)
     }
 }
 

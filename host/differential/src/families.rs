@@ -104,6 +104,11 @@ fn put(window: &mut [u8], place: u32, word: u32) {
     }
 }
 
+fn word(window: &[u8], place: u32) -> u32 {
+    let bytes = window.get(place as usize..place as usize + 4);
+    bytes.map_or(0, |bytes| u32::from_le_bytes(bytes.try_into().unwrap()))
+}
+
 fn some_base(random: &mut Random, session: &Session) -> u32 {
     session.steps[random.below(session.steps.len() as u32) as usize].base
 }
@@ -113,7 +118,9 @@ fn damage(random: &mut Random, session: &mut Session) {
     let place = base.wrapping_sub(session.at);
     let length = session.window.len() as u32;
     let word = telling(random, session, base);
-    match random.below(6) {
+    match random.below(8) {
+        6 => damage_segment(random, &mut session.window, place),
+        7 => far_batch(random, session, base),
         // a header's word
         0 | 1 => put(&mut session.window, place + 0x80 + 4 * random.below(46), word),
         // a word behind the header
@@ -127,6 +134,26 @@ fn damage(random: &mut Random, session: &mut Session) {
             session.window.copy_within(from as usize..(from + size) as usize, to as usize);
         }
     }
+}
+
+/// Changes a segment: its offset, its size or its kind.
+fn damage_segment(random: &mut Random, window: &mut [u8], place: u32) {
+    let entry = place.wrapping_add(word(window, place + 0xC8)).wrapping_add(12 * random.below(4));
+    match random.below(4) {
+        0 => put(window, entry, random.below(0x200)),
+        1 => put(window, entry + 4, random.below(0x80)),
+        _ => put(window, entry + 8, random.pick(&[0, 1, 2, 2, 3, 7])),
+    }
+}
+
+/// Lets the first named import's batch begin so far below a relocation of the image that the walk's last entry is that one.
+fn far_batch(random: &mut Random, session: &mut Session, base: u32) {
+    let place = base.wrapping_sub(session.at);
+    let (relocations, imports) = (word(&session.window, place + 0xF8), word(&session.window, place + 0x100));
+    let entry = relocations.wrapping_add(12 * random.below(4));
+    // the 0x1001st, or the one after it, which is not walked
+    let walked = 12 * random.from_to(0x1000, 0x1001);
+    put(&mut session.window, place.wrapping_add(imports).wrapping_add(4), entry.wrapping_sub(walked));
 }
 
 fn damage_step(random: &mut Random, session: &mut Session) {
@@ -177,6 +204,8 @@ fn overlapping(random: &mut Random) -> Session {
         let fresh = soup_base(random, at, length);
         bases.push(random.pick(&[near, fresh]));
     }
+    // where the window has address 0, something stands there
+    session.window[..8].fill_with(|| random.below(4) as u8 * 0x21);
     for &base in &bases {
         soup(random, &mut session, base);
     }

@@ -102,9 +102,11 @@ impl Words {
 
     fn relocation(&mut self, random: &mut Random) -> Relocation {
         let kind = random.pick(&[2, 2, 2, 3, 3, 10, 0, 4, 5, 6, 42, 7]);
-        // a tag past its segment's end is not usable, and does no harm
+        // a tag at its segment's end or past it, or of no segment, is not usable and does no harm
         let usable = if random.once_in(12) { None } else { self.tag(random) };
-        let tag = usable.unwrap_or(tag(random.below(6), 0x2000));
+        let segment = random.below(6);
+        let end = self.sizes.get(segment as usize).copied().unwrap_or(0);
+        let tag = usable.unwrap_or(tag(segment, random.pick(&[end, end, 0x2000])));
         Relocation { tag, kind, addend: random.pick(&[0, 0, 4, 0x20, 0xFFFF_FFFC]) }
     }
 
@@ -149,8 +151,9 @@ fn image(random: &mut Random, offers: &[Offer], number: usize) -> Image {
 /// A tag of an export, now and then of no place.
 fn any_tag(random: &mut Random, sizes: [u32; 4]) -> u32 {
     let segment = random.below(4);
-    let end = if random.once_in(8) { 0x1000 } else { sizes[segment as usize].max(1) };
-    tag(segment, random.below(end))
+    let size = sizes[segment as usize];
+    let inside = random.below(size.max(1));
+    tag(segment, random.pick(&[inside, inside, inside, inside, size, size + 0x1000]))
 }
 
 /// Puts the image at the next free address, its lent segments behind it; none if the window ends before.
