@@ -73,10 +73,11 @@ pub struct Answer {
     pub digest: u64,
 }
 
-/// What a session came to: what was compared, the Rust's answers, and the first mismatch.
+/// What a session came to: what was compared, the Rust's answers, what stood after the last of them, and the first mismatch.
 pub struct Compared {
     pub tally: Tally,
     pub answers: Vec<Answer>,
+    pub state: State,
     pub mismatch: Option<Mismatch>,
 }
 
@@ -108,8 +109,6 @@ struct Run<'a> {
     session: &'a Session,
     oracle: Oracle,
     buffers: Buffers,
-    /// What stood before the call.
-    before: State,
     done: Compared,
 }
 
@@ -124,8 +123,8 @@ impl<'a> Run<'a> {
     fn new(session: &'a Session) -> Option<Run<'a>> {
         let oracle = Oracle::new(session.at, session.window.clone())?;
         let buffers = Buffers::new(session.at, session.window.clone(), session.records, session.names);
-        let done = Compared { tally: Tally::default(), answers: Vec::new(), mismatch: None };
-        Some(Run { session, oracle, buffers, before: State::default(), done })
+        let done = Compared { tally: Tally::default(), answers: Vec::new(), state: State::default(), mismatch: None };
+        Some(Run { session, oracle, buffers, done })
     }
 
     /// Makes a step on both sides; false where the session ends there.
@@ -157,7 +156,8 @@ impl<'a> Run<'a> {
         if number != 0 || step.call == Call::Unload || has_room(&after, self.session) {
             return Expected::Answer(number, value);
         }
-        match self.oracle.refuse_last(self.before.crs, self.before.missing.len()) {
+        let before = &self.done.state;
+        match self.oracle.refuse_last(before.crs, before.missing.len()) {
             Some(()) => Expected::Answer(5, 0),
             None => Expected::Unseen,
         }
@@ -182,7 +182,7 @@ impl<'a> Run<'a> {
                 self.count(index, number, &state);
                 let digest = state.digest(self.oracle.window());
                 self.done.answers.push(Answer { number, value, digest });
-                self.before = state;
+                self.done.state = state;
                 true
             }
         }

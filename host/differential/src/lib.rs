@@ -6,4 +6,5 @@ pub mod families;
 pub mod history;
 pub mod shrink;
 pub mod stored;
+pub mod text;
 pub mod under_test;

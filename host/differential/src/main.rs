@@ -1,11 +1,13 @@
 //! `differential [--seed N] [--sessions M]`: M sessions of each family, compared with the Rust. With the gate's seed and
-//! number the stored answers are compared too. `--store PATH` writes them, `--file PATH` compares one session file.
+//! number the stored answers are compared too, and `--store` writes them. `--file PATH` compares one session file and prints
+//! what the session program should. `--keep FOLDER` writes the sessions that it takes, and what it should print, to files.
 
 use differential::compare::{compare, Compared, Mismatch, Tally};
 use differential::families::Family;
 use differential::history::{run_pair, Seen};
-use differential::{shrink, stored};
+use differential::{shrink, stored, text};
 use sessions::Session;
+use std::path::{Path, PathBuf};
 use std::process::ExitCode;
 
 /// The gate's seed, and how many sessions of each family.
@@ -18,10 +20,11 @@ struct Asked {
     sessions: u64,
     store: bool,
     file: Option<String>,
+    keep: Option<PathBuf>,
 }
 
 fn asked() -> Result<Asked, String> {
-    let mut asked = Asked { seed: SEED, sessions: SESSIONS, store: false, file: None };
+    let mut asked = Asked { seed: SEED, sessions: SESSIONS, store: false, file: None, keep: None };
     let mut words = std::env::args().skip(1);
     while let Some(word) = words.next() {
         let mut value = || words.next().ok_or(format!("{word} needs a value"));
@@ -29,6 +32,7 @@ fn asked() -> Result<Asked, String> {
             "--seed" => asked.seed = value()?.parse().map_err(|_| "--seed needs a number")?,
             "--sessions" => asked.sessions = value()?.parse().map_err(|_| "--sessions needs a number")?,
             "--file" => asked.file = Some(value()?),
+            "--keep" => asked.keep = Some(value()?.into()),
             "--store" => asked.store = true,
             _ => return Err(format!("what is {word}?")),
         }
@@ -108,6 +112,9 @@ fn compare_all(asked: &Asked) -> Result<String, String> {
                 return Err(smallest(&session, mismatch));
             }
             stored::write(&mut answers, family, number, &compared.answers);
+            if let Some(folder) = &asked.keep {
+                keep(&folder.join(format!("{}-{number}", family.name())), &session, &compared)?;
+            }
             tally += compared.tally;
         }
         show(family.name(), &tally);
@@ -134,12 +141,25 @@ fn show(name: &str, tally: &Tally) {
     println!("  not compared: too long {}, no room and no window seen {}", tally.cut, tally.unseen);
 }
 
-fn report(session: &Session, compared: Compared) -> Result<(), String> {
-    for (index, answer) in compared.answers.iter().enumerate() {
-        println!("{} {:?} {} {:x}", index + 1, session.steps[index].call, answer.number, answer.value);
+/// Writes a session that the session program takes, and what it should print.
+fn keep(path: &Path, session: &Session, compared: &Compared) -> Result<(), String> {
+    let printed = if text::is_taken(session) { text::printed(session, compared) } else { None };
+    let Some(printed) = printed else {
+        return Ok(());
+    };
+    let files = [("session", session.to_file()), ("expected", printed.into_bytes())];
+    for (kind, bytes) in files {
+        std::fs::write(path.with_extension(kind), bytes).map_err(|error| format!("{}: {error}", path.display()))?;
     }
-    show("session", &compared.tally);
-    compared.mismatch.map_or(Ok(()), |mismatch| Err(format!("step {}: {}", mismatch.step + 1, mismatch.what)))
+    Ok(())
+}
+
+fn report(session: &Session, compared: Compared) -> Result<(), String> {
+    if let Some(mismatch) = compared.mismatch {
+        return Err(format!("step {}: {}", mismatch.step + 1, mismatch.what));
+    }
+    print!("{}", text::printed(session, &compared).ok_or("a call was not compared")?);
+    Ok(())
 }
 
 /// Makes the session smaller, writes it as a session file, and says what it shows.
@@ -153,14 +173,10 @@ fn smallest(session: &Session, found: Mismatch) -> String {
         text += &format!("{step:x?}\n");
     }
     for (index, word) in session.window.chunks(4).enumerate().filter(|(_, word)| word.iter().any(|&byte| byte != 0)) {
-        text += &format!("{:08x}: {}\n", session.at as usize + 4 * index, hex(word));
+        text += &format!("{:08x}: {}\n", session.at as usize + 4 * index, text::hex(word));
     }
     match written {
         Ok(()) => text + &format!("session file: {}", path.display()),
-        Err(error) => text + &format!("session file not written: {error}\n{}", hex(&session.to_file())),
+        Err(error) => text + &format!("session file not written: {error}\n{}", text::hex(&session.to_file())),
     }
-}
-
-fn hex(bytes: &[u8]) -> String {
-    bytes.iter().map(|byte| format!("{byte:02x}")).collect()
 }
