@@ -118,7 +118,8 @@ fn damage(random: &mut Random, session: &mut Session) {
     let place = base.wrapping_sub(session.at);
     let length = session.window.len() as u32;
     let word = telling(random, session, base);
-    match random.below(8) {
+    match random.below(9) {
+        8 => many_segments(random, &mut session.window, place),
         6 => damage_segment(random, &mut session.window, place),
         7 => far_batch(random, session, base),
         // a header's word
@@ -143,6 +144,18 @@ fn damage_segment(random: &mut Random, window: &mut [u8], place: u32) {
         0 => put(window, entry, random.below(0x200)),
         1 => put(window, entry + 4, random.below(0x80)),
         _ => put(window, entry + 8, random.pick(&[0, 1, 2, 2, 3, 7])),
+    }
+}
+
+/// Gives the image a table of 18 segments, more than a tag can reach, at the window's end.
+fn many_segments(random: &mut Random, window: &mut [u8], place: u32) {
+    let table = window.len() as u32 - 12 * 18;
+    put(window, place + 0xC8, table.wrapping_sub(place));
+    put(window, place + 0xCC, 18);
+    for entry in (table..table + 12 * 18).step_by(12) {
+        put(window, entry, random.below(0x140));
+        put(window, entry + 4, random.below(0x40));
+        put(window, entry + 8, random.pick(&[0, 0, 1, 2]));
     }
 }
 
