@@ -221,6 +221,11 @@ fn overlapping(random: &mut Random) -> Session {
     session.window[..8].fill_with(|| random.below(4) as u8 * 0x21);
     for &base in &bases {
         soup(random, &mut session, base);
+        match random.below(4) {
+            0 => rewriting(random, &mut session, base),
+            1 => segments_over_header(random, &mut session, base),
+            _ => {}
+        }
     }
     for index in 0..random.from_to(1, 12) {
         let base = random_base(random, &bases);
@@ -272,6 +277,39 @@ fn soup(random: &mut Random, session: &mut Session, base: u32) {
         let offset = random.pick(&[0, 0x80, 0xB0, 0xC0, 0x100, 0x138, 0x138]) + random.below(0x80);
         put_wrapped(session, start.wrapping_add(field), offset);
         put_wrapped(session, start.wrapping_add(field + 4), random.below(8));
+    }
+}
+
+/// Lets the segment table lie over its own place and count in the header.
+fn segments_over_header(random: &mut Random, session: &mut Session, base: u32) {
+    let start = base.wrapping_sub(session.at);
+    put_wrapped(session, start.wrapping_add(0xC8), 0xCC - 4 * random.below(12));
+    put_wrapped(session, start.wrapping_add(0xCC), random.from_to(1, 6));
+}
+
+/// An image whose relocations, internal ones and those of its import, write small numbers over words of its own header.
+fn rewriting(random: &mut Random, session: &mut Session, base: u32) {
+    let field = random.pick(&COUNTS) - random.pick(&[0, 0, 0, 4, 8]);
+    let (segments, internal, external, imports, exports, name) = (0x140, 0x180, 0x1C0, 0x200, 0x230, 0x220);
+    let mut image = vec![(0x80, u32::from_le_bytes(*b"CRO0")), (0xAC, random.pick(&[1, 0x41])), (name, 0x66)];
+    let tables = [(0xC8, segments, 2), (0x128, internal, random.from_to(1, 5)), (0xF8, external, random.below(4))];
+    let linked = [(0x100, imports, 2), (0xD0, exports, 1), (0xF0, 0, 0), (0xC0, name, 2)];
+    for (at, table, count) in tables.into_iter().chain(linked) {
+        image.extend([(at, table), (at + 4, count)]);
+    }
+    image.extend([(segments, field), (segments + 4, 0x40), (segments + 8, 0)]);
+    image.extend([(segments + 12, 0x138), (segments + 16, 0x200), (segments + 20, 0)]);
+    image.extend([(imports, name), (imports + 4, external), (imports + 8, name), (imports + 12, external + 12)]);
+    image.extend([(exports, name), (exports + 4, 0x81)]);
+    for entry in (internal..internal + 60).chain(external..external + 48).step_by(12) {
+        let symbol = base.wrapping_add(if entry < external { field } else { 0x140 });
+        let small = random.pick(&[0, 1, 3, 6, 20, 0x180, 0x240]);
+        let kind = random.pick(&[2, 2, 3]) | if entry < external { 0 } else { random.below(2) << 8 };
+        image.extend([(entry, random.below(4) << 6), (entry + 4, kind), (entry + 8, (small as u32).wrapping_sub(symbol))]);
+    }
+    let start = base.wrapping_sub(session.at);
+    for (offset, word) in image {
+        put_wrapped(session, start.wrapping_add(offset), word);
     }
 }
 
