@@ -120,7 +120,7 @@ fn damage(random: &mut Random, session: &mut Session) {
     let word = telling(random, session, base);
     match random.below(9) {
         8 => many_segments(random, &mut session.window, place),
-        6 => damage_segment(random, &mut session.window, place),
+        6 => damage_segment(random, session, base),
         7 => far_batch(random, session, base),
         // a header's word
         0 | 1 => put(&mut session.window, place + 0x80 + 4 * random.below(46), word),
@@ -137,8 +137,13 @@ fn damage(random: &mut Random, session: &mut Session) {
     }
 }
 
-/// Changes a segment: its offset, its size or its kind.
-fn damage_segment(random: &mut Random, window: &mut [u8], place: u32) {
+/// Changes a segment: its offset, its size or its kind. Enough is lent for whatever comes of it.
+fn damage_segment(random: &mut Random, session: &mut Session, base: u32) {
+    for step in session.steps.iter_mut().filter(|step| step.call == Call::Load && step.base == base) {
+        (step.data_size, step.bss_size) = (0x1000, 0x1000);
+    }
+    let place = base.wrapping_sub(session.at);
+    let window = &mut session.window;
     let entry = place.wrapping_add(word(window, place + 0xC8)).wrapping_add(12 * random.below(4));
     match random.below(4) {
         0 => put(window, entry, random.below(0x200)),
@@ -159,14 +164,16 @@ fn many_segments(random: &mut Random, window: &mut [u8], place: u32) {
     }
 }
 
-/// Lets the first named import's batch begin so far below a relocation of the image that the walk's last entry is that one.
+/// Lets the first named import's batch begin so far below the window that the walk's last entry is the window's first.
 fn far_batch(random: &mut Random, session: &mut Session, base: u32) {
     let place = base.wrapping_sub(session.at);
-    let (relocations, imports) = (word(&session.window, place + 0xF8), word(&session.window, place + 0x100));
-    let entry = relocations.wrapping_add(12 * random.below(4));
+    let imports = word(&session.window, place + 0x100);
     // the 0x1001st, or the one after it, which is not walked
     let walked = 12 * random.from_to(0x1000, 0x1001);
-    put(&mut session.window, place.wrapping_add(imports).wrapping_add(4), entry.wrapping_sub(walked));
+    put(&mut session.window, place.wrapping_add(imports).wrapping_add(4), session.at.wrapping_sub(base).wrapping_sub(walked));
+    for (offset, word) in [(0, 8 << 4), (4, 2), (8, random.below(0x100))] {
+        put(&mut session.window, offset, word);
+    }
 }
 
 fn damage_step(random: &mut Random, session: &mut Session) {
@@ -280,11 +287,13 @@ fn soup(random: &mut Random, session: &mut Session, base: u32) {
     }
 }
 
-/// Lets the segment table lie over its own place and count in the header.
+/// Lets the offset of a segment lie over the count of segments.
 fn segments_over_header(random: &mut Random, session: &mut Session, base: u32) {
     let start = base.wrapping_sub(session.at);
-    put_wrapped(session, start.wrapping_add(0xC8), 0xCC - 4 * random.below(12));
-    put_wrapped(session, start.wrapping_add(0xCC), random.from_to(1, 6));
+    let before = random.below(4);
+    put_wrapped(session, start.wrapping_add(0xC8), 0xCC - 12 * before);
+    put_wrapped(session, start.wrapping_add(0xCC), before + random.from_to(1, 3));
+    put_wrapped(session, start.wrapping_add(0xD4), random.below(3));
 }
 
 /// An image whose relocations, internal ones and those of its import, write small numbers over words of its own header.

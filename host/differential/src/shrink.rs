@@ -2,6 +2,10 @@
 
 use crate::compare::{compare, Mismatch};
 use sessions::Session;
+use std::time::{Duration, Instant};
+
+/// How long it may take.
+const LIMIT: Duration = Duration::from_secs(20);
 
 fn mismatch(session: &Session) -> Option<Mismatch> {
     compare(session)?.mismatch
@@ -13,9 +17,10 @@ pub fn shrink(session: &Session) -> Option<(Session, Mismatch)> {
     session.steps.truncate(mismatch(&session)?.step + 1);
     drop_steps(&mut session);
     drop_pages(&mut session);
+    let end = Instant::now() + LIMIT;
     let mut size = session.window.len() / 2;
     while size > 0 {
-        clear(&mut session, size);
+        clear(&mut session, size, end);
         size /= 2;
     }
     drop_steps(&mut session);
@@ -44,11 +49,11 @@ fn drop_pages(session: &mut Session) {
     }
 }
 
-/// Clears blocks of this size.
-fn clear(session: &mut Session, size: usize) {
+/// Clears blocks of this size, as long as there is time.
+fn clear(session: &mut Session, size: usize, end: Instant) {
     for start in (0..session.window.len()).step_by(size) {
         let block = start..(start + size).min(session.window.len());
-        if session.window[block.clone()].iter().all(|&byte| byte == 0) {
+        if Instant::now() > end || session.window[block.clone()].iter().all(|&byte| byte == 0) {
             continue;
         }
         let mut smaller = session.clone();

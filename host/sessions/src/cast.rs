@@ -30,12 +30,16 @@ impl Cast {
     /// At most `count` members in a window of at most 32 KiB: as many as have room.
     pub fn new(random: &mut Random, count: u32) -> Cast {
         let length = 0x1000 * random.from_to(2, 8);
-        // some stand so high that the addresses of batches come close to 2^32
-        let high = 0xFFFF_F000 - length;
-        let at = if random.once_in(16) { high } else { 0x1000 * random.from_to(1, 0xF_0000) };
+        // some stand so high that the addresses of batches come close to 2^32, and some have address 0
+        let anywhere = 0x1000 * random.from_to(1, 0xF_0000);
+        let at = match random.below(16) {
+            0 => 0xFFFF_F000 - length,
+            1 => 0,
+            _ => anywhere,
+        };
         let offers: Vec<Offer> = (0..count).map(|number| Offer::new(random, number)).collect();
         let mut cast = Cast { at, length, members: Vec::new() };
-        let mut next = at + 4 * random.below(16);
+        let mut next = at + 4 * random.from_to(1, 16);
         for number in 0..count {
             let image = image(random, &offers, number as usize);
             let Some(placed) = place(random, image, number == 0, &mut next, at + length) else {
@@ -46,9 +50,10 @@ impl Cast {
         cast
     }
 
-    /// The window with every image at its place.
+    /// The window with every image at its place, and something that is no name at its beginning.
     pub fn window(&self) -> Vec<u8> {
         let mut window = vec![0; self.length as usize];
+        window[..3].fill(b'z');
         for member in &self.members {
             let start = (member.step.base - self.at) as usize;
             window[start..start + member.bytes.len()].copy_from_slice(&member.bytes);
