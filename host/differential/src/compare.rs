@@ -28,7 +28,7 @@ pub struct Tally {
     pub high_differences: u64,
     /// Calls that need too many accesses, which end their session.
     pub cut: u64,
-    /// Refusals for want of room whose window cannot be told from the Rust, which end their session.
+    /// Refusals for want of room of a module without names, whose window cannot be told from the Rust; they end their session.
     pub unseen: u64,
     /// Calls with a bad window or register, compared with document 01.
     pub refused: u64,
@@ -156,10 +156,13 @@ impl<'a> Run<'a> {
         if number != 0 || step.call == Call::Unload || has_room(&after, self.session) {
             return Expected::Answer(number, value);
         }
+        let named = after.modules.last().is_some_and(|module| module.room().1 > 0);
         let before = &self.done.state;
-        match self.oracle.refuse_last(before.crs, before.missing.len()) {
-            Some(()) => Expected::Answer(5, 0),
-            None => Expected::Unseen,
+        let window = self.oracle.refuse_last(before.crs, before.missing.len());
+        // a name was surely read before the lists were written if there is one, or a pointer to one
+        match window {
+            Some(window) if named || points_to_name(window, step.base.wrapping_sub(self.session.at)) => Expected::Answer(5, 0),
+            _ => Expected::Unseen,
         }
     }
 
@@ -196,6 +199,11 @@ impl<'a> Run<'a> {
         tally.most_missing += (state.missing.len() == 64) as u64;
         tally.high_batches += self.oracle.watch().high_batch as u64;
     }
+}
+
+/// Whether the image at this place has a pointer to the module's name.
+fn points_to_name(window: &[u8], place: u32) -> bool {
+    (0xC0..0xC4).any(|offset| window.get(place.wrapping_add(offset) as usize).is_some_and(|&byte| byte != 0))
 }
 
 /// Whether the register has room for the last module, by document 01.

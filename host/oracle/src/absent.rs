@@ -36,7 +36,7 @@ impl Oracle {
         match *self {}
     }
 
-    pub fn refuse_last(&mut self, _: Option<u32>, _: usize) -> Option<()> {
+    pub fn refuse_last(&mut self, _: Option<u32>, _: usize) -> Option<&[u8]> {
         match *self {}
     }
 }

@@ -111,13 +111,13 @@ mod watched {
         }
 
         /// Takes back the module that the last call added, as a refusal for want of room leaves it: the window as after
-        /// the external reset, all else as it was. None if that window was not noted.
-        pub fn refuse_last(&mut self, crs: Option<u32>, missing: usize) -> Option<()> {
+        /// the external reset, all else as it was. Gives that window, none if it was not noted.
+        pub fn refuse_last(&mut self, crs: Option<u32>, missing: usize) -> Option<&[u8]> {
             self.memory.bytes = self.memory.watch.after_reset.take()?;
             self.manager.modules.pop();
             self.manager.crs = crs;
             self.manager.unresolved.truncate(missing);
-            Some(())
+            Some(&self.memory.bytes)
         }
     }
 }

@@ -230,7 +230,11 @@ impl Writer {
         self.bytes.resize(self.bytes.len().next_multiple_of(4), 0);
     }
 
+    /// A string with its zero; the empty one is at 0.
     fn string(&mut self, text: &[u8]) -> u32 {
+        if text.is_empty() {
+            return 0;
+        }
         let start = self.end();
         self.bytes.extend_from_slice(text);
         self.bytes.push(0);
