@@ -28,7 +28,7 @@ pub struct Watch {
     pub left: u64,
     /// A name was not valid UTF-8.
     pub odd_name: bool,
-    /// A byte was read where the mark of a batch from 0xFFFF3FF4 up would be.
+    /// A byte, not of a name, was read where the mark of a batch from 0xFFFF3FF4 up would be.
     pub high_batch: bool,
     /// The window when the first name was read. A load reads its exports' names and its own first, and nothing is written
     /// between the external reset and them.
@@ -48,8 +48,7 @@ impl Memory {
         self.watch.left -= 1;
     }
 
-    fn note_byte(&mut self, addr: u32) {
-        self.access();
+    fn note_mark(&mut self, addr: u32) {
         if !(6..0xFFFF_3FF4 + 6).contains(&addr) {
             self.watch.high_batch = true;
         }
@@ -76,7 +75,7 @@ impl Memory {
     fn access(&mut self) {}
 
     #[inline(always)]
-    fn note_byte(&mut self, _: u32) {}
+    fn note_mark(&mut self, _: u32) {}
 
     #[inline(always)]
     fn note_name(&mut self) {}
@@ -113,6 +112,12 @@ impl Memory {
         self.bytes.get_mut(place)
     }
 
+    #[inline(always)]
+    fn read_byte(&mut self, addr: u32) -> u8 {
+        self.access();
+        self.byte(addr).map_or(0, |byte| *byte)
+    }
+
     pub fn read_bytes(&mut self, vaddr: u32, out: &mut [u8]) {
         for (i, byte) in out.iter_mut().enumerate() {
             *byte = self.byte(vaddr.wrapping_add(i as u32)).map_or(0, |byte| *byte);
@@ -123,7 +128,7 @@ impl Memory {
         self.note_name();
         let mut bytes = Vec::new();
         for i in 0..max {
-            let b = self.read8(vaddr.wrapping_add(i as u32));
+            let b = self.read_byte(vaddr.wrapping_add(i as u32));
             if b == 0 {
                 break;
             }
@@ -151,8 +156,8 @@ impl Memory {
 impl Bus for Memory {
     #[inline(always)]
     fn read8(&mut self, addr: u32) -> u8 {
-        self.note_byte(addr);
-        self.byte(addr).map_or(0, |byte| *byte)
+        self.note_mark(addr);
+        self.read_byte(addr)
     }
 
     #[inline(always)]
