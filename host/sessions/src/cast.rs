@@ -42,9 +42,10 @@ impl Cast {
         let mut next = at + 4 * random.from_to(1, 16);
         for number in 0..count {
             let image = image(random, &offers, number as usize);
-            let Some(placed) = place(random, image, number == 0, &mut next, at + length) else {
+            let placed = place(random, image, number == 0, &mut next);
+            if next.wrapping_sub(at) > length {
                 break;
-            };
+            }
             cast.members.push(placed);
         }
         cast
@@ -164,8 +165,8 @@ fn any_tag(random: &mut Random, sizes: [u32; 4]) -> u32 {
     tag(segment, random.pick(&[inside, inside, inside, inside, size, size + 0x1000]))
 }
 
-/// Puts the image at the next free address, its lent segments behind it; none if the window ends before.
-fn place(random: &mut Random, mut image: Image, is_static: bool, next: &mut u32, end: u32) -> Option<Placed> {
+/// Puts the image at the next free address, its lent segments behind it.
+fn place(random: &mut Random, mut image: Image, is_static: bool, next: &mut u32) -> Placed {
     let base = *next;
     image.static_base = is_static.then_some(base);
     let bytes = image.bytes();
@@ -179,5 +180,5 @@ fn place(random: &mut Random, mut image: Image, is_static: bool, next: &mut u32,
     let load = Step { call: crate::Call::Load, base, size, data, data_size, bss, bss_size, auto_link, level };
     *next = bss + bss_size + random.below(64);
     let step = if is_static { Step::initialize(base, size) } else { load };
-    (*next <= end).then_some(Placed { step, image, bytes })
+    Placed { step, image, bytes }
 }
