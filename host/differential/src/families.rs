@@ -358,6 +358,9 @@ fn filling(random: &mut Random) -> Session {
     let loads = (0..steps).map(|index| any_step(random, &cast, index));
     let loads = loads.filter(|step| step.call != Call::Unload).collect();
     let mut session = cast.session(loads);
+    if session.steps.is_empty() {
+        session.steps.push(cast.members[0].step);
+    }
     for _ in 0..random.below(6) {
         grow(random, &mut session);
     }
