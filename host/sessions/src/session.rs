@@ -90,3 +90,21 @@ impl Session {
         Some(Session { at, window, records: Session::ROOM, names: Session::ROOM, steps })
     }
 }
+
+#[cfg(test)]
+mod tests {
+    use super::*;
+
+    #[test]
+    fn a_session_is_read_back() {
+        let load = Step { call: Call::Load, base: 0x10_0000, size: 0x1000, level: 1, auto_link: 1, ..Step::initialize(0, 0) };
+        let steps = vec![Step::unload(0x10_0000), load];
+        let window = (0..0x1000).map(|at| at as u8).collect();
+        let session = Session { at: 0x10_0000, window, records: Session::ROOM, names: Session::ROOM, steps };
+        let file = session.to_file();
+        assert_eq!(file.len(), 20 + 2 * 36 + 0x1000);
+        assert_eq!(file[..8], [2, 0, 0, 0, 20, 0, 0, 0]);
+        assert_eq!(Session::from_file(&file), Some(session));
+        assert_eq!(Session::from_file(&file[..file.len() - 1]), None);
+    }
+}
