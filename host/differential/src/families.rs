@@ -118,7 +118,9 @@ fn damage(random: &mut Random, session: &mut Session) {
     let place = base.wrapping_sub(session.at);
     let length = session.window.len() as u32;
     let word = telling(random, session, base);
-    match random.below(9) {
+    match random.below(10) {
+        // no handler
+        9 => put(&mut session.window, place + 0xAC, 0xF),
         8 => many_segments(random, &mut session.window, place),
         6 => damage_segment(random, session, base),
         7 => far_batch(random, session, base),
