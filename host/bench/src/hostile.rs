@@ -20,7 +20,7 @@ enum Hostile {
     Segments,
     /// The count at this offset of the module entry.
     Entry(u32),
-    /// Nothing, but no batch has an end mark.
+    /// Nothing, but a batch begins where no end mark comes.
     Batch,
 }
 
@@ -36,7 +36,7 @@ const CASES: [(&str, Hostile); 12] = [
     ("internal relocations", Hostile::Header(COUNTS[8])),
     ("a module entry's indexed imports", Hostile::Entry(8)),
     ("a module entry's anonymous imports", Hostile::Entry(16)),
-    ("no end mark in any batch", Hostile::Batch),
+    ("a batch without an end mark", Hostile::Batch),
 ];
 
 pub fn all() {
@@ -88,7 +88,7 @@ fn session(hostile: Hostile, count: u32) -> (Vec<u8>, Step) {
     let size = window.len() as u32;
     window.resize(0x1000, 0);
     let word = |window: &[u8], at: u32| u32::from_le_bytes(window[at as usize..][..4].try_into().unwrap());
-    let (entry, batches) = (word(&window, 0xF0), word(&window, 0xF8));
+    let (entry, import) = (word(&window, 0xF0), word(&window, 0x100));
     let mut put = |at: u32, word: u32| window[at as usize..][..4].copy_from_slice(&word.to_le_bytes());
     match hostile {
         Hostile::Header(field) => put(field, count),
@@ -97,7 +97,7 @@ fn session(hostile: Hostile, count: u32) -> (Vec<u8>, Step) {
             put(COUNTS[0], count);
         }
         Hostile::Entry(offset) => put(entry + offset, count),
-        Hostile::Batch => (0..3).for_each(|index| put(batches + 12 * index + 4, 2)),
+        Hostile::Batch => put(import + 4, 0xF00),
     }
     (window, Step { call: Call::Load, auto_link: 1, level: 1, ..Step::initialize(AT, size) })
 }
