@@ -1,0 +1,248 @@
+//! The rows of the benchmark: what stands before, and the calls that are timed.
+
+use crate::clock::now;
+use fillqhano::Linker;
+use oracle::Oracle;
+use sessions::image::{tag, FromModule, Image, Internal, Relocation, BSS_SEGMENT, CODE_SEGMENT};
+use sessions::{Call, Step};
+use std::time::Duration;
+
+/// How many times each side does a row's work.
+pub const RUNS: usize = 15;
+
+pub const AT: u32 = 0x0010_0000;
+
+/// A row: a window, calls that are made first, and calls that are timed.
+pub struct Work {
+    pub name: &'static str,
+    window: Vec<u8>,
+    /// The bytes of the records, and of the names.
+    room: usize,
+    first: Vec<Step>,
+    timed: Vec<Step>,
+}
+
+impl Work {
+    pub fn all() -> Vec<Work> {
+        vec![large_module(), scene_swap(), many_small(), register_test(), table_moves(), batch_walks()]
+    }
+
+    /// The best time of each side, which take turns.
+    pub fn times(&self) -> (Duration, Option<Duration>) {
+        let linker = self.linker();
+        let mut best = (Duration::MAX, None);
+        for _ in 0..RUNS {
+            best.0 = best.0.min(self.time_linker(&linker));
+            best.1 = self.time_rust().map(|time| time.min(best.1.unwrap_or(time)));
+        }
+        best
+    }
+
+    /// The linker and the window after the calls that come first.
+    fn linker(&self) -> (Linker, Vec<u8>) {
+        let mut linker = Linker::with_room(self.room, self.room);
+        let mut window = self.window.clone();
+        for step in &self.first {
+            assert_eq!(call(&mut linker, &mut window, step).0, 0, "{}: {step:x?}", self.name);
+        }
+        (linker, window)
+    }
+
+    fn time_linker(&self, ready: &(Linker, Vec<u8>)) -> Duration {
+        let (mut linker, mut window) = ready.clone();
+        let start = now();
+        for step in &self.timed {
+            std::hint::black_box(call(&mut linker, &mut window, step));
+        }
+        now() - start
+    }
+
+    fn time_rust(&self) -> Option<Duration> {
+        let mut oracle = Oracle::new(AT, self.window.clone())?;
+        for step in &self.first {
+            oracle.call(step);
+        }
+        let start = now();
+        for step in &self.timed {
+            std::hint::black_box(oracle.call(step));
+        }
+        Some(now() - start)
+    }
+}
+
+pub fn call(linker: &mut Linker, window: &mut [u8], step: &Step) -> (u32, u32) {
+    let answer = match step.call {
+        Call::Initialize => linker.initialize(AT, window, step.base, step.size).map(|()| 0),
+        Call::Load => linker.load(
+            AT,
+            window,
+            step.base,
+            step.size,
+            step.data,
+            step.data_size,
+            step.bss,
+            step.bss_size,
+            step.auto_link != 0,
+            step.level,
+        ),
+        Call::Unload => linker.unload(AT, window, step.base).map(|left| left as u32),
+    };
+    answer.map_or_else(|error| (error.number(), 0), |value| (0, value))
+}
+
+/// Images in a window, one after the other, each with the call that takes it in.
+struct Stage {
+    window: Vec<u8>,
+    steps: Vec<Step>,
+}
+
+impl Stage {
+    fn new() -> Stage {
+        Stage { window: Vec::new(), steps: Vec::new() }
+    }
+
+    /// Adds an image; the first is the static module. Lent data and bss come behind it.
+    fn add(&mut self, mut image: Image) {
+        let base = AT + self.window.len() as u32;
+        let is_static = self.steps.is_empty();
+        image.static_base = is_static.then_some(base);
+        let bytes = image.bytes();
+        let size = bytes.len().next_multiple_of(0x1000) as u32;
+        let (data, bss) = (base + size, base + size + image.sizes[2]);
+        self.window.extend(bytes);
+        let end = self.window.len().next_multiple_of(0x1000) + (image.sizes[2] + image.sizes[3]) as usize;
+        self.window.resize(end.next_multiple_of(0x1000), 0);
+        let lent = (image.sizes[2], image.sizes[3]);
+        self.steps.push(match is_static {
+            true => Step::initialize(base, size),
+            false => {
+                Step { call: Call::Load, base, size, data, data_size: lent.0, bss, bss_size: lent.1, auto_link: 1, level: 1 }
+            }
+        });
+    }
+
+    fn work(self, name: &'static str, room: usize, first: usize, timed: Vec<Step>) -> Work {
+        let first = self.steps[..first].to_vec();
+        Work { name, window: self.window, room, first, timed }
+    }
+}
+
+/// Export names as C++ has them: long, with a common beginning. Their order in the table is not that of the bytes.
+fn export(module: u32, index: u32) -> Vec<u8> {
+    format!("_ZN2gf{module:02}Module9component{:04}EPKcj", index.wrapping_mul(7919) % 10_000).into_bytes()
+}
+
+fn relocations(next: &mut u32, count: u32) -> Vec<Relocation> {
+    let batch = (0..count).map(|index| Relocation { tag: tag(CODE_SEGMENT, *next + 4 * index), kind: 2, addend: 0 }).collect();
+    *next += 4 * count;
+    batch
+}
+
+fn empty(name: &str, code: u32) -> Image {
+    Image { name: name.into(), handler: tag(CODE_SEGMENT, 4), sizes: [code, 0, 0, 0], ..Image::default() }
+}
+
+fn with_exports(mut image: Image, module: u32, count: u32) -> Image {
+    image.exports = (0..count).map(|index| (export(module, index), tag(CODE_SEGMENT, 4 * index))).collect();
+    image
+}
+
+/// 2,000 named exports, 2,000 named imports of two relocations each, 6,000 internal relocations, 3 MiB of code.
+fn large_module() -> Work {
+    let mut stage = Stage::new();
+    stage.add(with_exports(empty("static", 0x4000), 0, 2000));
+    let mut image = with_exports(empty("large", 0x30_0000), 1, 2000);
+    let mut next = 0x100;
+    image.imports = (0..2000).map(|index| (export(0, index), relocations(&mut next, 2))).collect();
+    let internal = relocations(&mut next, 6000);
+    image.internal = internal.into_iter().map(|relocation| Internal { relocation, symbol: 0 }).collect();
+    stage.add(image);
+    let timed = vec![stage.steps[1]];
+    stage.work("load of a large module", 0x40000, 1, timed)
+}
+
+/// A module of a scene: exports, imports from its neighbour and from the static module, by name, index and tag.
+fn scene_module(number: u32, count: u32) -> Image {
+    let mut image = with_exports(empty(&format!("scene{number}"), 0x8000), number, count);
+    image.indexed = (0..count / 2).map(|index| tag(CODE_SEGMENT, 4 * index)).collect();
+    image.sizes[3] = 0x100;
+    let mut next = 0x400;
+    let before = number.saturating_sub(1);
+    image.imports = (0..count).map(|index| (export(index % 2 * before, index), relocations(&mut next, 2))).collect();
+    let mut from = FromModule { name: format!("scene{before}").into(), ..Default::default() };
+    from.indexed = (0..count / 4).map(|index| (index, relocations(&mut next, 1))).collect();
+    from.anonymous = (0..count / 4).map(|index| (tag(BSS_SEGMENT, index), relocations(&mut next, 1))).collect();
+    image.modules.push(from);
+    let internal = relocations(&mut next, 2 * count);
+    image.internal = internal.into_iter().map(|relocation| Internal { relocation, symbol: 0 }).collect();
+    image
+}
+
+/// An unload and a load among 24 standing modules, ten times, each of another module.
+fn scene_swap() -> Work {
+    let mut stage = Stage::new();
+    for number in 0..25 {
+        stage.add(scene_module(number, 100));
+    }
+    let swaps = (0..10).flat_map(|swap| {
+        let step = stage.steps[1 + 2 * swap];
+        [Step::unload(step.base), Step { level: 0, ..step }]
+    });
+    let timed = swaps.collect();
+    // level 0 keeps the tables, so that a module that was unloaded can be loaded again
+    stage.steps.iter_mut().for_each(|step| step.level = 0);
+    stage.work("ten scene swaps among 24 modules", 0x40000, 25, timed)
+}
+
+/// 64 modules of 16 exports and 16 imports, the static one among them.
+fn many_small() -> Work {
+    let mut stage = Stage::new();
+    for number in 0..64 {
+        stage.add(scene_module(number, 16));
+    }
+    let timed = stage.steps[1..].to_vec();
+    stage.work("63 loads of small modules", 0x40000, 1, timed)
+}
+
+/// A call that is refused for its magic: all the linker does is to test the register. The Rust has no such test.
+fn register_test() -> Work {
+    let mut stage = Stage::new();
+    for number in 0..25 {
+        stage.add(scene_module(number, 100));
+    }
+    let timed = vec![Step::initialize(stage.steps[1].base + 0x1000, 0)];
+    stage.work("the register's test alone, 25 modules", 0x40000, 25, timed)
+}
+
+/// 100,000 entries of import tables whose pointers move, and that no module entry uses.
+fn table_moves() -> Work {
+    let mut stage = Stage::new();
+    stage.add(empty("static", 0x100));
+    let mut image = empty("tables", 0x1000);
+    let entries = 50_000;
+    let mut from = FromModule { name: b"static".to_vec(), ..Default::default() };
+    from.indexed = (0..entries).map(|index| (index, Vec::new())).collect();
+    from.anonymous = from.indexed.clone();
+    image.modules.push(from);
+    stage.add(image);
+    // the entries stand in the tables, but the module entry that has their runs does not
+    let header = (stage.steps[1].base - AT) as usize;
+    stage.window[header + 0xF4..header + 0xF8].fill(0);
+    let timed = vec![stage.steps[1]];
+    stage.work("moves of 100,000 table entries", 0x40000, 1, timed)
+}
+
+/// A module leaves and comes from which another imports 50 symbols, each in 4,000 places.
+fn batch_walks() -> Work {
+    let mut stage = Stage::new();
+    stage.add(empty("static", 0x100));
+    let mut image = empty("importer", 4 * 4000 * 50 + 0x100);
+    let mut next = 0x100;
+    image.imports = (0..50).map(|index| (export(2, index), relocations(&mut next, 4000))).collect();
+    stage.add(image);
+    stage.add(with_exports(empty("exporter", 0x1000), 2, 50));
+    stage.steps.iter_mut().for_each(|step| step.level = 0);
+    let exporter = stage.steps[2];
+    let timed = vec![Step::unload(exporter.base), exporter];
+    stage.work("100 walks of batches of 4,000 entries", 0x40000, 3, timed)
+}

@@ -1,0 +1,10 @@
+//! The linker and the Rust on the same sessions, all that they leave compared call by call.
+
+pub mod compare;
+mod encoding;
+pub mod families;
+pub mod history;
+pub mod shrink;
+pub mod stored;
+pub mod text;
+pub mod under_test;

@@ -1,0 +1,182 @@
+//! `differential [--seed N] [--sessions M]`: M sessions of each family, compared with the Rust. With the gate's seed and
+//! number the stored answers are compared too, and `--store` writes them. `--file PATH` compares one session file and prints
+//! what the session program should. `--keep FOLDER` writes the sessions that it takes, and what it should print, to files.
+
+use differential::compare::{compare, Compared, Mismatch, Tally};
+use differential::families::Family;
+use differential::history::{run_pair, Seen};
+use differential::{shrink, stored, text};
+use sessions::Session;
+use std::path::{Path, PathBuf};
+use std::process::ExitCode;
+
+/// The gate's seed, and how many sessions of each family.
+const SEED: u64 = 1;
+const SESSIONS: u64 = 150;
+const STORED: &str = concat!(env!("CARGO_MANIFEST_DIR"), "/stored.txt");
+
+struct Asked {
+    seed: u64,
+    sessions: u64,
+    store: bool,
+    file: Option<String>,
+    keep: Option<PathBuf>,
+}
+
+fn asked() -> Result<Asked, String> {
+    let mut asked = Asked { seed: SEED, sessions: SESSIONS, store: false, file: None, keep: None };
+    let mut words = std::env::args().skip(1);
+    while let Some(word) = words.next() {
+        let mut value = || words.next().ok_or(format!("{word} needs a value"));
+        match word.as_str() {
+            "--seed" => asked.seed = value()?.parse().map_err(|_| "--seed needs a number")?,
+            "--sessions" => asked.sessions = value()?.parse().map_err(|_| "--sessions needs a number")?,
+            "--file" => asked.file = Some(value()?),
+            "--keep" => asked.keep = Some(value()?.into()),
+            "--store" => asked.store = true,
+            _ => return Err(format!("what is {word}?")),
+        }
+    }
+    Ok(asked)
+}
+
+fn main() -> ExitCode {
+    match asked().and_then(run) {
+        Ok(()) => ExitCode::SUCCESS,
+        Err(what) => {
+            println!("{what}");
+            ExitCode::FAILURE
+        }
+    }
+}
+
+fn run(asked: Asked) -> Result<(), String> {
+    if let Some(path) = &asked.file {
+        let file = std::fs::read(path).map_err(|error| format!("{path}: {error}"))?;
+        let session = Session::from_file(&file).ok_or("no session file")?;
+        let compared = compare(&session).ok_or("the Rust's sources are not at hand")?;
+        return report(&session, compared);
+    }
+    compare_pairs(&asked)?;
+    let gate = asked.seed == SEED && asked.sessions == SESSIONS;
+    if compare(&Family::WellLaid.session(0, 0)).is_none() {
+        println!("the Rust's sources are not at hand: its stored answers are replayed");
+        return replay();
+    }
+    let answers = compare_all(&asked)?;
+    if asked.store {
+        return std::fs::write(STORED, answers).map_err(|error| format!("{STORED}: {error}"));
+    }
+    if gate && answers != std::fs::read_to_string(STORED).unwrap_or_default() {
+        return Err("the stored answers are not those of the Rust: `differential --store` writes them".into());
+    }
+    if gate {
+        replay()
+    } else {
+        Ok(())
+    }
+}
+
+/// Demand 3 by running.
+fn compare_pairs(asked: &Asked) -> Result<(), String> {
+    let mut seen = Seen::default();
+    for number in 0..asked.sessions {
+        run_pair(asked.seed, number, &mut seen)?;
+    }
+    println!(
+        "history: {} pairs of sessions, {} calls; {} bytes of standing modules are the same with and without",
+        seen.pairs, seen.calls, seen.bytes
+    );
+    println!("  {} imports hold their address, {} of them an exporter's", seen.imports, seen.linked);
+    Ok(())
+}
+
+fn replay() -> Result<(), String> {
+    let answers = std::fs::read_to_string(STORED).map_err(|error| format!("{STORED}: {error}"))?;
+    let calls = stored::replay(&answers, SEED)?;
+    println!("{calls} stored answers replayed, 0 mismatches");
+    Ok(())
+}
+
+/// Compares the sessions of every family; gives the Rust's answers.
+fn compare_all(asked: &Asked) -> Result<String, String> {
+    let mut answers = String::new();
+    let mut all = Tally::default();
+    for family in Family::ALL {
+        let mut tally = Tally::default();
+        for number in 0..asked.sessions {
+            let session = family.session(asked.seed, number);
+            let compared = compare(&session).unwrap();
+            if let Some(mismatch) = compared.mismatch {
+                println!("{} session {number} of seed {}", family.name(), asked.seed);
+                return Err(smallest(&session, mismatch));
+            }
+            stored::write(&mut answers, family, number, &compared.answers);
+            if let Some(folder) = &asked.keep {
+                keep(&folder.join(format!("{}-{number}", family.name())), &session, &compared)?;
+            }
+            tally += compared.tally;
+        }
+        show(family.name(), &tally);
+        all += tally;
+    }
+    show("all", &all);
+    println!("{} calls compared, 0 mismatches", all.compared());
+    Ok(answers)
+}
+
+fn show(name: &str, tally: &Tally) {
+    let ([done, no_cro, bad_segment, _, _, full], [initialize, load, unload]) = (tally.calls, tally.kinds);
+    println!("{name}: {} sessions, {} calls", tally.sessions, tally.compared());
+    println!("  initialize {initialize}, load {load}, unload {unload}");
+    println!(
+        "  number 0: {done}, 1: {no_cro}, 2: {bad_segment}, 5: {full}; bad windows and registers besides: {}",
+        tally.refused
+    );
+    println!("  with 64 modules {}, with 64 missing names {}", tally.most_modules, tally.most_missing);
+    println!(
+        "  set apart: odd names {}, high batches {} equal and {} not",
+        tally.odd_names, tally.high_batches, tally.high_differences
+    );
+    println!("  not compared: too long {}, no room and no window seen {}", tally.cut, tally.unseen);
+}
+
+/// Writes a session that the session program takes, and what it should print.
+fn keep(path: &Path, session: &Session, compared: &Compared) -> Result<(), String> {
+    let printed = if text::is_taken(session) { text::printed(session, compared) } else { None };
+    let Some(printed) = printed else {
+        return Ok(());
+    };
+    let files = [("session", session.to_file()), ("expected", printed.into_bytes())];
+    for (kind, bytes) in files {
+        std::fs::write(path.with_extension(kind), bytes).map_err(|error| format!("{}: {error}", path.display()))?;
+    }
+    Ok(())
+}
+
+fn report(session: &Session, compared: Compared) -> Result<(), String> {
+    if let Some(mismatch) = compared.mismatch {
+        return Err(format!("step {}: {}", mismatch.step + 1, mismatch.what));
+    }
+    print!("{}", text::printed(session, &compared).ok_or("a call was not compared")?);
+    Ok(())
+}
+
+/// Makes the session smaller, writes it as a session file, and says what it shows.
+fn smallest(session: &Session, found: Mismatch) -> String {
+    let (session, mismatch) = shrink::shrink(session).unwrap_or((session.clone(), found));
+    let path = std::env::temp_dir().join("mismatch.session");
+    let written = std::fs::write(&path, session.to_file());
+    let mut text = format!("step {}: {}\n", mismatch.step + 1, mismatch.what);
+    text += &format!("records {} bytes, names {} bytes, window at {:#x}\n", session.records, session.names, session.at);
+    for step in &session.steps {
+        text += &format!("{step:x?}\n");
+    }
+    for (index, word) in session.window.chunks(4).enumerate().filter(|(_, word)| word.iter().any(|&byte| byte != 0)) {
+        text += &format!("{:08x}: {}\n", session.at as usize + 4 * index, text::hex(word));
+    }
+    match written {
+        Ok(()) => text + &format!("session file: {}", path.display()),
+        Err(error) => text + &format!("session file not written: {error}\n{}", text::hex(&session.to_file())),
+    }
+}

@@ -1,0 +1,195 @@
+//! Memory by document 01's rules of the window: a flat run of readable and writable pages. Bytes outside read as 0, an
+//! ordinary write drops them, a privileged one stops at the first.
+
+use crate::Bus;
+
+pub mod physical {
+    #[derive(Debug, Clone, Copy, PartialEq, Eq)]
+    pub struct PhysicalBlock {
+        pub addr: u32,
+        pub size: u32,
+    }
+}
+
+pub struct Memory {
+    at: u32,
+    pub(crate) bytes: Vec<u8>,
+    #[cfg(feature = "watched")]
+    pub(crate) watch: Watch,
+}
+
+/// What is noted of a call.
+#[cfg(feature = "watched")]
+#[derive(Default)]
+pub struct Watch {
+    /// Names are kept as raw bytes, a character a byte, as document 01 has them.
+    pub raw_names: bool,
+    /// How many accesses are left before the call is cut.
+    pub left: u64,
+    /// A name was not valid UTF-8.
+    pub odd_name: bool,
+    /// A byte, not of a name, was read where the mark of a batch from 0xFFFF3FF4 up would be.
+    pub high_batch: bool,
+    /// The window when the first name was read. A load reads its exports' names and its own first, and nothing is written
+    /// between the external reset and them.
+    pub after_reset: Option<Vec<u8>>,
+}
+
+/// What a call is ended with when no access is left.
+#[cfg(feature = "watched")]
+pub struct Cut;
+
+#[cfg(feature = "watched")]
+impl Memory {
+    fn access(&mut self) {
+        if self.watch.left == 0 {
+            std::panic::resume_unwind(Box::new(Cut));
+        }
+        self.watch.left -= 1;
+    }
+
+    fn note_mark(&mut self, addr: u32) {
+        if !(6..0xFFFF_3FF4 + 6).contains(&addr) {
+            self.watch.high_batch = true;
+        }
+    }
+
+    fn note_name(&mut self) {
+        if self.watch.after_reset.is_none() {
+            self.watch.after_reset = Some(self.bytes.clone());
+        }
+    }
+
+    fn text(&mut self, bytes: &[u8]) -> String {
+        self.watch.odd_name |= std::str::from_utf8(bytes).is_err();
+        if self.watch.raw_names {
+            return bytes.iter().map(|&byte| byte as char).collect();
+        }
+        String::from_utf8_lossy(bytes).into_owned()
+    }
+}
+
+#[cfg(not(feature = "watched"))]
+impl Memory {
+    #[inline(always)]
+    fn access(&mut self) {}
+
+    #[inline(always)]
+    fn note_mark(&mut self, _: u32) {}
+
+    #[inline(always)]
+    fn note_name(&mut self) {}
+
+    fn text(&mut self, bytes: &[u8]) -> String {
+        String::from_utf8_lossy(bytes).into_owned()
+    }
+}
+
+impl Memory {
+    pub fn new(at: u32, bytes: Vec<u8>) -> Memory {
+        Memory {
+            at,
+            bytes,
+            #[cfg(feature = "watched")]
+            watch: Watch::default(),
+        }
+    }
+
+    #[inline(always)]
+    fn place(&self, addr: u32) -> usize {
+        addr.wrapping_sub(self.at) as usize
+    }
+
+    /// The four bytes of a word that lies inside.
+    #[inline(always)]
+    fn whole(&mut self, addr: u32) -> Option<&mut [u8; 4]> {
+        let place = self.place(addr);
+        self.bytes.get_mut(place..place + 4)?.try_into().ok()
+    }
+
+    fn byte(&mut self, addr: u32) -> Option<&mut u8> {
+        let place = self.place(addr);
+        self.bytes.get_mut(place)
+    }
+
+    #[inline(always)]
+    fn read_byte(&mut self, addr: u32) -> u8 {
+        self.access();
+        self.byte(addr).map_or(0, |byte| *byte)
+    }
+
+    pub fn read_bytes(&mut self, vaddr: u32, out: &mut [u8]) {
+        for (i, byte) in out.iter_mut().enumerate() {
+            *byte = self.byte(vaddr.wrapping_add(i as u32)).map_or(0, |byte| *byte);
+        }
+    }
+
+    pub fn read_cstring(&mut self, vaddr: u32, max: usize) -> String {
+        self.note_name();
+        let mut bytes = Vec::new();
+        for i in 0..max {
+            let b = self.read_byte(vaddr.wrapping_add(i as u32));
+            if b == 0 {
+                break;
+            }
+            bytes.push(b);
+        }
+        self.text(&bytes)
+    }
+
+    pub fn write32_privileged(&mut self, vaddr: u32, value: u32) -> bool {
+        self.access();
+        if let Some(word) = self.whole(vaddr) {
+            *word = value.to_le_bytes();
+            return true;
+        }
+        for (i, byte) in value.to_le_bytes().into_iter().enumerate() {
+            let Some(place) = self.byte(vaddr.wrapping_add(i as u32)) else {
+                return false;
+            };
+            *place = byte;
+        }
+        true
+    }
+}
+
+impl Bus for Memory {
+    #[inline(always)]
+    fn read8(&mut self, addr: u32) -> u8 {
+        self.note_mark(addr);
+        self.read_byte(addr)
+    }
+
+    #[inline(always)]
+    fn read32(&mut self, addr: u32) -> u32 {
+        self.access();
+        if let Some(word) = self.whole(addr) {
+            return u32::from_le_bytes(*word);
+        }
+        let mut bytes = [0; 4];
+        self.read_bytes(addr, &mut bytes);
+        u32::from_le_bytes(bytes)
+    }
+
+    #[inline(always)]
+    fn write8(&mut self, addr: u32, value: u8) {
+        self.access();
+        if let Some(byte) = self.byte(addr) {
+            *byte = value;
+        }
+    }
+
+    #[inline(always)]
+    fn write32(&mut self, addr: u32, value: u32) {
+        self.access();
+        if let Some(word) = self.whole(addr) {
+            *word = value.to_le_bytes();
+            return;
+        }
+        for (i, byte) in value.to_le_bytes().into_iter().enumerate() {
+            if let Some(place) = self.byte(addr.wrapping_add(i as u32)) {
+                *place = byte;
+            }
+        }
+    }
+}

@@ -1,0 +1,123 @@
+//! The oracle where the sources are at hand.
+
+use crate::cro::{CroError, CroManager};
+use crate::memory::Memory;
+use sessions::{Call, Module, State, Step};
+
+pub struct Oracle {
+    manager: CroManager,
+    memory: Memory,
+}
+
+impl Oracle {
+    /// An oracle over a window, or none without the sources.
+    pub fn new(at: u32, window: Vec<u8>) -> Option<Oracle> {
+        Some(Oracle { manager: CroManager::default(), memory: Memory::new(at, window) })
+    }
+
+    /// Makes the call; gives the number and the value. An unload's value is told from the number of modules.
+    pub fn call(&mut self, step: &Step) -> (u32, u32) {
+        let (manager, memory) = (&mut self.manager, &mut self.memory);
+        let modules = manager.len();
+        let done = match step.call {
+            Call::Initialize => manager.initialize(memory, step.base, step.size).map(|()| 0),
+            Call::Load => manager.load(
+                memory,
+                step.base,
+                step.size,
+                step.data,
+                step.data_size,
+                step.bss,
+                step.bss_size,
+                step.auto_link != 0,
+                step.level,
+            ),
+            Call::Unload => {
+                manager.unload(memory, step.base);
+                Ok((modules - manager.len()) as u32)
+            }
+        };
+        match done {
+            Ok(value) => (0, value),
+            Err(CroError::NotACro) => (1, 0),
+            Err(CroError::BadSegment) => (2, 0),
+            Err(CroError::Truncated) => unreachable!("the Rust never gives it"),
+        }
+    }
+
+    pub fn window(&mut self) -> &mut Vec<u8> {
+        &mut self.memory.bytes
+    }
+
+    /// What stands, the names by `name`.
+    fn state_by(&self, name: impl Fn(&str) -> Vec<u8>) -> State {
+        let module = |module: &crate::cro::Module| Module {
+            name: name(&module.name),
+            base: module.base,
+            size: module.size,
+            auto_link: module.auto_link,
+            segments: module.segments.iter().copied().take(16).collect(),
+            exports: module.exports.iter().map(|(export, &address)| (name(export), address)).collect(),
+            indexed_exports: module.indexed_exports.clone(),
+        };
+        State {
+            crs: self.manager.crs,
+            modules: self.manager.modules.iter().map(module).collect(),
+            missing: self.manager.unresolved.iter().map(|missing| name(missing)).collect(),
+        }
+    }
+}
+
+#[cfg(not(feature = "watched"))]
+impl Oracle {
+    pub fn state(&self) -> State {
+        self.state_by(|name| name.as_bytes().to_vec())
+    }
+}
+
+#[cfg(feature = "watched")]
+mod watched {
+    use super::*;
+    use crate::memory::{Cut, Watch};
+    use std::panic::{catch_unwind, resume_unwind, AssertUnwindSafe};
+
+    impl Oracle {
+        /// Makes the call with at most so many accesses; none if it needs more. The oracle is then of no more use.
+        pub fn call_within(&mut self, step: &Step, accesses: u64) -> Option<(u32, u32)> {
+            let watch = &mut self.memory.watch;
+            *watch = Watch { raw_names: watch.raw_names, left: accesses, ..Watch::default() };
+            match catch_unwind(AssertUnwindSafe(|| self.call(step))) {
+                Ok(answer) => Some(answer),
+                Err(cause) if cause.is::<Cut>() => None,
+                Err(cause) => resume_unwind(cause),
+            }
+        }
+
+        /// Names are raw bytes from here on.
+        pub fn keep_raw_names(&mut self) {
+            self.memory.watch.raw_names = true;
+        }
+
+        /// What was noted of the last call.
+        pub fn watch(&self) -> &Watch {
+            &self.memory.watch
+        }
+
+        pub fn state(&self) -> State {
+            match self.memory.watch.raw_names {
+                true => self.state_by(|name| name.chars().map(|char| char as u8).collect()),
+                false => self.state_by(|name| name.as_bytes().to_vec()),
+            }
+        }
+
+        /// Takes back the module that the last call added, as a refusal for want of room leaves it: the window as after
+        /// the external reset, all else as it was. Gives that window, none if it was not noted.
+        pub fn refuse_last(&mut self, crs: Option<u32>, missing: usize) -> Option<&[u8]> {
+            self.memory.bytes = self.memory.watch.after_reset.take()?;
+            self.manager.modules.pop();
+            self.manager.crs = crs;
+            self.manager.unresolved.truncate(missing);
+            Some(&self.memory.bytes)
+        }
+    }
+}

@@ -1,0 +1,114 @@
+//! The three calls of the static library, as include/fillqhano.h declares them, over slices. A call answers a number, 0 to 5,
+//! and a value.
+
+mod library {
+    unsafe extern "C" {
+        pub fn initialize(
+            at: u32,
+            window: *mut u8,
+            window_length: usize,
+            records: *mut u8,
+            records_length: usize,
+            names: *mut u8,
+            names_length: usize,
+            missing: *mut u8,
+            missing_length: usize,
+            base: u32,
+            size: u32,
+            value: *mut u32,
+        ) -> u32;
+
+        pub fn load(
+            at: u32,
+            window: *mut u8,
+            window_length: usize,
+            records: *mut u8,
+            records_length: usize,
+            names: *mut u8,
+            names_length: usize,
+            missing: *mut u8,
+            missing_length: usize,
+            base: u32,
+            size: u32,
+            data_at: u32,
+            data_size: u32,
+            bss_at: u32,
+            bss_size: u32,
+            auto_link: u32,
+            level: u32,
+            value: *mut u32,
+        ) -> u32;
+
+        pub fn unload(
+            at: u32,
+            window: *mut u8,
+            window_length: usize,
+            records: *mut u8,
+            records_length: usize,
+            names: *mut u8,
+            names_length: usize,
+            missing: *mut u8,
+            missing_length: usize,
+            base: u32,
+            value: *mut u32,
+        ) -> u32;
+    }
+}
+
+/// What a call is lent: the window with its address, and the register's three buffers. Any bytes will do.
+pub struct Lent<'a> {
+    pub at: u32,
+    pub window: &'a mut [u8],
+    pub records: &'a mut [u8],
+    pub names: &'a mut [u8],
+    pub missing: &'a mut [u8],
+}
+
+/// Calls a function of the library on what is lent and further arguments.
+macro_rules! call {
+    ($function:ident, $lent:ident, $($argument:expr),*) => {{
+        let Lent { at, window, records, names, missing } = $lent;
+        let mut value = u32::MAX;
+        // SAFETY: the pointers and lengths are those of four slices, which do not overlap as they are all mutable, and of a
+        // local. The library keeps no pointer.
+        let number = unsafe {
+            library::$function(
+                at,
+                window.as_mut_ptr(),
+                window.len(),
+                records.as_mut_ptr(),
+                records.len(),
+                names.as_mut_ptr(),
+                names.len(),
+                missing.as_mut_ptr(),
+                missing.len(),
+                $($argument,)*
+                &mut value,
+            )
+        };
+        (number, value)
+    }};
+}
+
+pub fn initialize(lent: Lent, base: u32, size: u32) -> (u32, u32) {
+    call!(initialize, lent, base, size)
+}
+
+#[allow(clippy::too_many_arguments)]
+pub fn load(
+    lent: Lent,
+    base: u32,
+    size: u32,
+    data_at: u32,
+    data_size: u32,
+    bss_at: u32,
+    bss_size: u32,
+    auto_link: u32,
+    level: u32,
+) -> (u32, u32) {
+    call!(load, lent, base, size, data_at, data_size, bss_at, bss_size, auto_link, level)
+}
+
+pub fn unload(lent: Lent, base: u32) -> (u32, u32) {
+    call!(unload, lent, base)
+}
