@@ -21,7 +21,7 @@ same-length c = search needs
 
 returns-2 : tie.Need-returns-2
 returns-2 c =
-    enough _ _ _ _ (c .before .before .before .before .before .if1 .left) (c .before .before .session-text .ensures)
+    enough _ _ _ _ (c .before .before .before .before .before .if1 .left) (c .before .before .session-text .ensures .0)
 
 pub put-case-spec : {M : Type 1} → statement M
 put-case-spec =
