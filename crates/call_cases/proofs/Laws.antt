@@ -1,12 +1,10 @@
 -- From the branches to the definitions of `Cases`.
 use Prim.Native.Nat.{ℕ, _+_, _/_, _≤_, _<_}
-use mathlib.Core.Path.{_≡_, refl, sym, ap, _∙_}
+use mathlib.Core.Path.{_≡_, sym, ap, _∙_}
 use mathlib.Core.List.{List}
 use mathlib.Core.Bool.{Bool, true, false, not}
 use lib.ListN.{length, getD}
-use lib.Dec.{eqb, leb}
 use borrow.Author.Tests.{le-leb, lt-leb, ne-eqb, not-true, not-false}
-use Rattle.window.specs.Memory.{if_then_else_}
 use Rattle.register.specs.Words.{wordsIn, same}
 use Rattle.header_text.specs.declared.append.Next.{Next}
 use Rattle.header_text.specs.declared.append.Next.the-variants.{At, Full}
@@ -14,7 +12,6 @@ use Rattle.case_reader.specs.Pieces.{pieces}
 use Rattle.linker.specs.Outcome.{Bytes, Outcome, initializeOutcome, loadOutcome, unloadOutcome}
 use Rattle.linker_calls.specs.Steps.{toLoad}
 use Rattle.call_cases.specs.Cases.{change, lays, laid, called, compared}
-use Rattle.call_cases.specs.declared.Verdict.{Verdict}
 use Rattle.call_cases.specs.declared.Verdict.the-variants.{Same, Window, Records, Names, Missing}
 
 -- the pieces of two buffers

@@ -1,7 +1,6 @@
 -- What a stored case says: its buffers, made of pieces over zeros, its call, and how what is left compares.
 use Prim.Native.Nat.{ℕ, _+_, _/_}
 use mathlib.Core.List.{List}
-use mathlib.Core.Bool.{Bool, true, false}
 use lib.ListN.{length, getD}
 use lib.Dec.{eqb, leb}
 use Rattle.window.specs.Memory.{if_then_else_}

@@ -2,11 +2,11 @@
 use Prim.Native.Nat.{ℕ, _^_, _<_}
 use mathlib.Core.Path.{_≡_, refl, sym, ap, _∙_, subst}
 use mathlib.Core.List.{List}
-use mathlib.Core.Bool.{Bool, true, false, not}
+use mathlib.Core.Bool.{Bool, true, not}
 use lib.ListN.{length, getD}
 use lib.Dec.{eqb}
 use Rattle.window.specs.Memory.{goodWindow}
-use Rattle.window.specs.Access.{Prog, ret, _>>=_, run, run-bind}
+use Rattle.window.specs.Access.{Prog, _>>=_, run, run-bind}
 use Rattle.window.specs.Small.{run-bytes}
 use Rattle.layout.specs.Segments.{setField}
 use Rattle.register.specs.declared.exports.Found.{Found}
@@ -26,7 +26,7 @@ use Rattle.linker.specs.Exports.{readModule}
 use Rattle.linker.specs.Resets.{resetImporters}
 use Rattle.linker.specs.Unrebase.{unrebase}
 use Rattle.linker.specs.Calls.{Answer, Done, number, value, rebase, rebaseStatic, enter, initialized, initialize, missingNow, linked, load, unknown, firstWithBase, unlisted, unload}
-use Rattle.linker.specs.Outcome.{Bytes, Outcome, registerAfter, settle, outcome, initializeOutcome, loadOutcome, unloadOutcome}
+use Rattle.linker.specs.Outcome.{Bytes, registerAfter, settle, outcome, initializeOutcome, loadOutcome, unloadOutcome}
 use Rattle.linker.specs.Refusals.{lentRegister, answers, unload-unknown}
 use Rattle.linker.specs.Room.{fits-means}
 use Rattle.linker.specs.Reads.{readModule-yields}

@@ -1,6 +1,6 @@
 -- What a call has passed when a part of it answers 0, and what it leaves when one does not.
-use Prim.Native.Nat.{ℕ, _+_, _*_, _^_, _≤_, _<_}
-use mathlib.Core.Path.{_≡_, refl, sym, ap, _∙_, subst}
+use Prim.Native.Nat.{ℕ}
+use mathlib.Core.Path.{_≡_, refl, sym, ap, _∙_}
 use mathlib.Core.List.{List}
 use mathlib.Core.Bool.{Bool, true, false}
 use native.Mathlib.Omega.{arith}
@@ -10,15 +10,15 @@ use Rattle.window.specs.Access.{Prog, ret, _>>=_, run, run-bind, reads-same}
 use Rattle.layout.specs.Header.{nextCro, previousCro}
 use Rattle.layout.specs.Segments.{setField}
 use Rattle.register.specs.Module.{Module, Register}
-use Rattle.register.specs.Decode.{registerOf, isRegister}
+use Rattle.register.specs.Decode.{isRegister}
 use Rattle.register.specs.Change.{appended}
 use Rattle.register.specs.Buffers.{encodeRecords, encodeNames}
 use Rattle.linker.specs.declared.rebase.Rebased.{Rebased}
 use Rattle.linker.specs.Relocation.{resetExternalRelocations}
 use Rattle.linker.specs.Exports.{readModule, readModule-reads}
 use Rattle.linker.specs.Calls.{Answer, NoRoom, number, value, fits, enter}
-use Rattle.linker.specs.Outcome.{Bytes, refused, registerAfter, settle, outcome}
-use Rattle.linker.specs.Refusals.{lentRegister, refuses-3, refuses-4, answers}
+use Rattle.linker.specs.Outcome.{Bytes, registerAfter, settle, outcome}
+use Rattle.linker.specs.Refusals.{lentRegister, refuses-3, refuses-4}
 use Rattle.linker_exports.specs.Exported.{exported}
 use Rattle.linker_entry.specs.Entry.{tested, stored, entered}
 use Rattle.linker_calls.specs.Steps.{lent, left, unhung}

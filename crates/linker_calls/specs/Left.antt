@@ -7,7 +7,7 @@ use native.Mathlib.Omega.{arith}
 use lib.ListN.{length, take}
 use lib.Dec.{eqb}
 use Rattle.window.specs.Memory.{if_then_else_}
-use Rattle.window.specs.Access.{Prog, ret, _>>=_, _>>_, run}
+use Rattle.window.specs.Access.{ret, _>>=_, _>>_, run}
 use Rattle.register.specs.declared.words.Crs.{Crs}
 use Rattle.register.specs.declared.words.Crs.the-variants.{Unknown, Known}
 use Rattle.register.specs.declared.exports.Found.the-variants as found
@@ -15,12 +15,12 @@ use Rattle.register.specs.Module.{Module, Register}
 use Rattle.register.specs.Encode.{recordWords}
 use Rattle.register.specs.Decode.{registerOf, isRegister}
 use Rattle.register.specs.Change.{without, removed}
-use Rattle.register_read.specs.Read.{Encoded, modulesOf, moduleBytes, moduleAt, placeFrom, placeAfter, hasBase}
+use Rattle.register_read.specs.Read.{modulesOf, moduleBytes, moduleAt, placeFrom, placeAfter, hasBase}
 use Rattle.register_change.specs.Remove.{Stands}
 use Rattle.linker.specs.Resets.{resetImporters}
 use Rattle.linker.specs.Lists.{unregister}
 use Rattle.linker.specs.Unrebase.{unrebase}
-use Rattle.linker.specs.Calls.{Answer, Done, Standing, unknown, stands, firstWithBase, unlisted, leave}
+use Rattle.linker.specs.Calls.{Answer, Done, unknown, stands, firstWithBase, unlisted, leave}
 use Rattle.linker_relocation.specs.Runs.{seq}
 use Rattle.linker_imports.specs.Modules.{modules-are}
 use Rattle.linker_resets.specs.Modules.{otherThan, gone-is}

@@ -1,16 +1,16 @@
 -- A module that has its record: what linking it leaves.
 use Prim.Native.Nat.{ℕ, _<_}
-use mathlib.Core.Path.{_≡_, refl, sym, ap, _∙_, subst}
+use mathlib.Core.Path.{_≡_, sym, ap, _∙_, subst}
 use mathlib.Core.List.{List, [], _∷_, _++_}
-use mathlib.Core.Bool.{Bool, true}
+use mathlib.Core.Bool.{Bool}
 use native.Mathlib.Omega.{arith}
 use lib.ListN.{length, getD, length-append}
-use Rattle.window.specs.Access.{Prog, ret, _>>=_, _>>_, run}
+use Rattle.window.specs.Access.{ret, _>>=_, _>>_, run}
 use Rattle.register.specs.declared.words.Crs.{Crs}
 use Rattle.register.specs.declared.words.Crs.the-variants.{Unknown, Known}
 use Rattle.register.specs.Words.{wordsIn}
 use Rattle.register.specs.Module.{Module, Register}
-use Rattle.register.specs.Decode.{readCrs, registerOf, isRegister}
+use Rattle.register.specs.Decode.{readCrs, registerOf}
 use Rattle.register.specs.Change.{appended}
 use Rattle.register_read.specs.Read.{Encoded, modulesOf, moduleAt, placeAfter}
 use Rattle.linker.specs.declared.rebase.Lent.{Lent}

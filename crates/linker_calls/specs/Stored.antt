@@ -1,18 +1,17 @@
 -- The bytes of a register that a call has changed.
 use Prim.Native.Nat.{ℕ, _+_, _-_, _*_, _^_, _≤_, _<_}
-use mathlib.Core.Path.{_≡_, refl, sym, ap, _∙_, subst}
+use mathlib.Core.Path.{_≡_, refl, sym, _∙_, subst}
 use mathlib.Core.List.{List, [], _∷_}
-use mathlib.Core.Bool.{Bool, true, false}
+use mathlib.Core.Bool.{true}
 use native.Mathlib.Omega.{arith}
 use lib.ListN.{length, getD, replicate, length-append}
 use borrow.Author.Tests.{le-ltb}
-use Rattle.window.specs.Memory.{if_then_else_}
 use Rattle.window.specs.Word.{setWordIn}
 use Rattle.window.specs.Bytes.{byteOf}
 use Rattle.register.specs.Words.{bytesOf, flat, wordsIn}
 use Rattle.register.specs.Module.{Module, Register, proper, properModule}
 use Rattle.register.specs.Proper.{proper-parts}
-use Rattle.register.specs.Encode.{moduleNames, moduleWords, encodeWords, recordWords, slots, crsKnown, crsBase}
+use Rattle.register.specs.Encode.{moduleNames, moduleWords, encodeWords, recordWords, crsKnown, crsBase}
 use Rattle.register.specs.Decode.{settled, settled-other, readCrs, readRegister, encodes, registerOf, isRegister}
 use Rattle.register.specs.Change.{appended, withCrs}
 use Rattle.register.specs.Slots.{length-slots}

@@ -3,7 +3,6 @@ use Prim.Native.Nat.{ℕ}
 use mathlib.Core.Path.{_≡_, sym, ap, _∙_}
 use mathlib.Core.List.{List}
 use mathlib.Core.Bool.{Bool, true, false}
-use Rattle.window.specs.Memory.{if_then_else_}
 use Rattle.window.specs.Access.{run}
 use Rattle.register.specs.Module.{Register}
 use Rattle.linker.specs.declared.rebase.Rebased.{Rebased}

@@ -16,14 +16,12 @@ use Rattle.window.specs.Name.{nameAt, nameAt-reads, laidOver}
 use Rattle.layout.specs.Header.{importNamedSymbolTableOffset, importNamedSymbolNum, importNamedSymbolEntrySize, importModuleTableOffset, importModuleNum, importModuleEntrySize, importIndexedSymbolEntrySize}
 use Rattle.layout.specs.Format.{tagSegment, tagOffset}
 use Rattle.layout.specs.Segments.{field, entryAt, reads-if}
-use Rattle.register.specs.Words.{part, same}
+use Rattle.register.specs.Words.{same}
 use Rattle.register.specs.Module.{Module}
-use Rattle.register.specs.Decode.{readModule}
 use Rattle.register.specs.declared.exports.Found.{Found}
 use Rattle.register.specs.declared.exports.Found.the-variants as found
 use Rattle.register_read.specs.Encoded.{first-placed}
-use Rattle.register_read.specs.Read.{Encoded, modulesOf, moduleBytes, placeFrom, hasName, entryOf, exportOf, recordAt, moduleAt}
-use Rattle.register_read.specs.declared.Record.{Record}
+use Rattle.register_read.specs.Read.{Encoded, modulesOf, moduleBytes, placeFrom, hasName, entryOf, exportOf, moduleAt}
 use Rattle.register_read.specs.declared.Symbol.{Symbol}
 use Rattle.register_read.specs.declared.Symbol.the-variants.{At, Nothing}
 use Rattle.linker.specs.Relocation.{applyRelocationBatch, batchIsResolved}

@@ -1,12 +1,11 @@
 -- The text of a session, from what its parts print.
-use Prim.Native.Nat.{ℕ, _+_, _-_, _≤_, min}
-use mathlib.Core.Path.{_≡_, refl, sym, ap, subst, _∙_}
-use mathlib.Core.Bool.{Bool, true, false}
+use Prim.Native.Nat.{ℕ, _+_, _-_, _≤_}
+use mathlib.Core.Path.{_≡_, ap, subst, _∙_}
+use mathlib.Core.Bool.{true, false}
 use mathlib.Core.List.{List, _++_}
 use native.Mathlib.Omega.{arith}
-use lib.ListN.{length, take, drop, replicate, length-take, length-drop, length-replicate}
+use lib.ListN.{length, take, drop, replicate, length-take, length-replicate}
 use lib.Seq.{take-all, take-append-seam}
-use Rattle.window.specs.Memory.{if_then_else_}
 use Rattle.register.specs.Words.{part}
 use Rattle.register.specs.Module.{proper}
 use Rattle.register.specs.Decode.{registerOf}
@@ -43,8 +42,9 @@ window-laid file first {n} {w} s e h =
     let b : length first ≤ 32768 = omega (arith, ap length e, length-take l (drop o file), a .1) in
     let f = h ∙ put-whole first (replicate 32768 0) in
     let g : n ≡ length first = ap (λ (p : ℕ × List ℕ). p .0) f ∙ omega (arith, z) in
+    let fits : take (length (replicate {A = ℕ} 32768 0)) first ≡ first = take-all _ first (omega (arith, z)) in
     let i : w ≡ first ++ drop (length first) (replicate 32768 0) =
-    ap (λ (p : ℕ × List ℕ). p .1) f ∙ ap (λ t. t ++ drop (length first) (replicate 32768 0)) (take-all (length (replicate {A = ℕ} 32768 0)) first (omega (arith, z))) in
+    ap (λ (p : ℕ × List ℕ). p .1) f ∙ ap (λ t. t ++ drop (length first) (replicate 32768 0)) fits in
     rw (i, g) (take-append-seam first _ ∙ e)
 
 -- the heading, the step lines and the register's lines, one after another
@@ -58,6 +58,7 @@ pub text-good
 unfolding sessionText registerLines start ahead
 text-good file q {w₀} {p₁ = p₁} {p₃ = p₃} {p₄ = p₄} s ew e₁ ec e₂ e₃ ran e₅ =
     let ends = steps file (stepCount file) 0 (start file) in
+    let head = bytes "session " ++ decimalOf (stepCount file) in
     let lines : Bytes → List ℕ = λ b. moduleLines (lentRegister b .modules) ++ missingLines (lentRegister b .missing) in
     let r = ran .0 ∙ ap (λ x. ahead file (stepCount file) 0 (p₃, lent x (replicate 16384 0) (replicate 16384 0) (replicate 32896 0))) ew in
     let e₄ : p₄ ≡ put (ends .0) p₃ = ap (λ (x : Placed). x .0) r in
@@ -65,7 +66,7 @@ text-good file q {w₀} {p₁ = p₁} {p₃ = p₃} {p₄ = p₄} s ew e₁ ec e
     let f₅ = e₅ ∙ ap (λ b. put (lines b) p₄) (ap (λ (x : Placed). x .1) r) in
     let proper-now : proper (lentRegister (ends .1)) ≡ true =
     subst (λ (x : Placed). proper (lentRegister (x .1)) ≡ true) r (register-parts _ _ _ (ran .1) .0) in (
-      rw (s, put-append (bytes "session " ++ decimalOf (stepCount file) ++ bytes "\n" ++ ends .0), put-append (bytes "session " ++ decimalOf (stepCount file) ++ bytes "\n"), put-append (bytes "session " ++ decimalOf (stepCount file)), put-append (bytes "session "))
+      rw (s, put-append (head ++ bytes "\n" ++ ends .0), put-append (head ++ bytes "\n"), put-append head, put-append (bytes "session "))
           (f₅ ∙ ap (put (lines (ends .1))) (e₄ ∙ ap (put (ends .0)) (e₃ ∙ ap (put (bytes "\n")) (f₂ ∙ ap (put (decimalOf (stepCount file))) e₁)))),
       text-fits file s proper-now,
     )

@@ -1,6 +1,6 @@
 -- No text is longer than 139,264 bytes: that much the session program lends.
-use Prim.Native.Nat.{ℕ, zero, suc, _+_, _*_, _/_, _%_, _≤_, _<_, _^_}
-use mathlib.Core.Path.{_≡_, refl, sym, ap, _∙_}
+use Prim.Native.Nat.{ℕ, zero, suc, _+_, _*_, _/_, _%_, _≤_}
+use mathlib.Core.Path.{_≡_, refl}
 use mathlib.Core.Bool.{Bool, true, false, _&&_}
 use mathlib.Core.List.{List, [], _∷_, _++_}
 use native.Mathlib.Omega.{arith}
@@ -11,6 +11,7 @@ use Rattle.window.specs.Memory.{if_then_else_}
 use Rattle.window.specs.Tests.{both}
 use Rattle.window.specs.Name.{isName}
 use Rattle.register.specs.Module.{Module, Register, proper, properModule, properModules, properNames, named-ok, distinct}
+use Rattle.register.specs.Encode.{flag}
 use Rattle.register.specs.Proper.{proper-parts}
 use Rattle.linker.specs.Outcome.{Bytes}
 use Rattle.linker.specs.Refusals.{lentRegister}
@@ -19,7 +20,7 @@ use Rattle.session_file.specs.declared.Step.{Step}
 use Rattle.session_file.specs.declared.Step.the-variants.{Initialize, Load, Unload, Bad}
 use Rattle.session_file.specs.File.{stepCount, stepAt, isSession}
 use Rattle.session_file.specs.Parts.{session-parts}
-use Rattle.session_lines.specs.Lines.{callName, stepLine, nameText, moduleLine, moduleLines, nameLines, missingLines, bit}
+use Rattle.session_lines.specs.Lines.{callName, stepLine, nameText, moduleLine, moduleLines, nameLines, missingLines}
 use Rattle.session.specs.Run.{start}
 use Rattle.session.specs.Session.{outcomeAt, steps, registerLines, sessionText}
 
@@ -84,7 +85,7 @@ module-most m e =
       arith,
       hex-most (m .base),
       hex-most (m .size),
-      decimal-most (bit (m .auto)),
+      decimal-most (flag (m .auto)),
       decimal-most (length (m .named)),
       decimal-most (length (m .indexed)),
       name-most (m .name) e,

@@ -3,7 +3,6 @@ use Prim.Native.Nat.{ℕ, zero, suc, _+_}
 use mathlib.Core.List.{List, [], _++_}
 use Rattle.window.specs.Memory.{if_then_else_}
 use Rattle.register.specs.Module.{Register}
-use Rattle.register.specs.Decode.{registerOf}
 use Rattle.linker.specs.Outcome.{Bytes, Outcome}
 use Rattle.linker.specs.Refusals.{lentRegister}
 use Rattle.text.specs.Text.{bytes, decimalOf}

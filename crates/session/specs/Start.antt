@@ -22,8 +22,8 @@ header rest =
 header-only
     : (rest names missing : List ℕ) → allZero rest ≡ true → allZero names ≡ true → allZero missing ≡ true → length missing ≡ 32896
     → isRegister (header rest) names missing ≡ true
-unfolding isRegister registerOf readRegister settled body readModules readCrs readSlots encodes encodeWords recordWords recordNames slots crsKnown crsBase
-    wordsIn part same holds proper properModules properNames
+unfolding isRegister registerOf readRegister settled body readModules readCrs readSlots encodes encodeWords recordWords
+    recordNames slots crsKnown crsBase wordsIn part same holds proper properModules properNames
 header-only rest names missing a b c l = rw (a, b, c, l) refl
 
 pub zeroed : isRegister (replicate 16384 0) (replicate 16384 0) (replicate 32896 0) ≡ true

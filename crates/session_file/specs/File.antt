@@ -7,9 +7,9 @@ use lib.ListN.{length, getD}
 use lib.Dec.{eqb, leb}
 use Rattle.window.specs.Memory.{if_then_else_}
 use Rattle.register.specs.Words.{part, wordsIn, allZero}
-use Rattle.linker.specs.declared.rebase.Lent.{Lent}
 use Rattle.session_file.specs.declared.Step.{Step}
 use Rattle.session_file.specs.declared.Step.the-variants.{Initialize, Load, Unload, Bad}
+use Rattle.linker.specs.declared.rebase.Lent.{Lent}
 
 unfoldable pub headWord : List ℕ → ℕ → ℕ
 headWord file i = getD (wordsIn file) i 0

@@ -2,7 +2,7 @@
 use Prim.Native.Nat.{ℕ, _+_, _*_, _%_, _^_, _<_, _≤_}
 use mathlib.Core.Path.{_≡_, refl, sym, ap, _∙_}
 use mathlib.Core.Logic.{_≢_}
-use mathlib.Core.Bool.{Bool, true, false, _&&_}
+use mathlib.Core.Bool.{true, _&&_}
 use mathlib.Core.List.{List, [], _∷_, _++_}
 use native.Mathlib.Omega.{arith}
 use lib.ListN.{length, drop, getD, length-take, length-drop, drop-of-length-le}
@@ -24,7 +24,7 @@ use Rattle.register_read.specs.Walk.{Turn, turn, unwrapped}
 use Rattle.text.specs.Text.{bytes, hexOf, decimalOf, pairsOf, put}
 use Rattle.text.specs.Laws.{put-append, put-then, put-then-two}
 use Rattle.session_file.specs.declared.Step.{Step}
-use Rattle.session_lines.specs.Lines.{callName, stepLine, nameText, bit, moduleLine, moduleLines, nameLines, missingLines}
+use Rattle.session_lines.specs.Lines.{callName, stepLine, nameText, moduleLine, moduleLines, nameLines, missingLines}
 
 -- a step
 
@@ -56,16 +56,11 @@ name-bytes (b ∷ s) o h e f g = put-then _ _ o (put-then _ _ o e f) g
 
 -- a module
 
-bit-flag : (b : Bool) → flag b ≡ bit b
-unfolding flag bit
-bit-flag true = refl
-bit-flag false = refl
-
 module-pieces
     : (m : Module) (o : ℕ × List ℕ) {p₁ p₂ p₃ p₄ p₅ p₆ p₇ p₈ : ℕ × List ℕ}
     → p₁ ≡ put (bytes "module " ++ hexOf (m .base)) o
     → p₂ ≡ put (bytes " " ++ hexOf (m .size)) p₁
-    → p₃ ≡ put (bytes " " ++ decimalOf (bit (m .auto))) p₂
+    → p₃ ≡ put (bytes " " ++ decimalOf (flag (m .auto))) p₂
     → p₄ ≡ put (bytes " " ++ decimalOf (length (m .named))) p₃
     → p₅ ≡ put (bytes " " ++ decimalOf (length (m .indexed))) p₄
     → p₆ ≡ put (bytes " ") p₅
@@ -108,7 +103,7 @@ module _ (records names : List ℕ) (place : ℕ) (m : Module) (s : Stands recor
       → p₈ ≡ put (moduleLine (moduleAt records names place)) o
   module-line o e₁ e₂ e₃ e₄ e₅ e₆ e₇ e₈ =
       rw (s .back)
-      (module-pieces m o (rw its-record at e₁) (rw its-record at e₂) (rw (its-record, bit-flag) at e₃) (rw its-record at e₄)
+      (module-pieces m o (rw its-record at e₁) (rw its-record at e₂) (rw its-record at e₃) (rw its-record at e₄)
       (rw its-record at e₅) e₆ (rw its-name at e₇) e₈)
 
 -- the modules that are left: their records, and their lines

@@ -1,12 +1,13 @@
 -- The lines of document 01's example, and a name.
 use mathlib.Core.Path.{_≡_, refl}
-use mathlib.Core.List.{List, [], _∷_}
+use mathlib.Core.List.{[]}
 use mathlib.Core.Bool.{true}
 use Rattle.register.specs.Module.{Module}
 use Rattle.linker.specs.declared.rebase.Lent.{Lent}
 use Rattle.text.specs.Text.{bytes, hexOf, decimalOf, pairsOf, digitsIn, digitOf}
 use Rattle.session_file.specs.declared.Step.the-variants.{Load, Unload}
-use Rattle.session_lines.specs.Lines.{callName, stepLine, nameText, bit, moduleLine, nameLines, missingLines}
+use Rattle.register.specs.Encode.{flag}
+use Rattle.session_lines.specs.Lines.{callName, stepLine, nameText, moduleLine, nameLines, missingLines}
 
 step-1 : stepLine 1 (Unload 0x100000) 0 0 ≡ bytes "1 unload 0 0\n"
 unfolding stepLine callName decimalOf hexOf digitsIn digitOf bytes
@@ -20,7 +21,7 @@ one : Module
 one = record { base = 0x100000; size = 0x1000; auto = true; name = []; segments = []; named = []; indexed = [] }
 
 module-1 : moduleLine one ≡ bytes "module 100000 1000 1 0 0 0\n"
-unfolding moduleLine one nameText bit decimalOf hexOf digitsIn digitOf bytes
+unfolding moduleLine one nameText flag decimalOf hexOf digitsIn digitOf bytes
 module-1 = refl
 
 missing-0 : missingLines [] ≡ bytes "missing 0\n"

@@ -1,10 +1,9 @@
 -- The lines that a session prints. Document 01, "The session program".
-use Prim.Native.Nat.{ℕ, _+_}
+use Prim.Native.Nat.{ℕ}
 use mathlib.Core.List.{List, [], _∷_, _++_}
-use mathlib.Core.Bool.{Bool, true, false}
 use lib.ListN.{length}
-use Rattle.window.specs.Memory.{if_then_else_}
-use Rattle.register.specs.Module.{Module, Register}
+use Rattle.register.specs.Module.{Module}
+use Rattle.register.specs.Encode.{flag}
 use Rattle.text.specs.Text.{bytes, hexOf, decimalOf, pairsOf}
 use Rattle.session_file.specs.declared.Step.{Step}
 use Rattle.session_file.specs.declared.Step.the-variants.{Initialize, Load, Unload, Bad}
@@ -26,14 +25,10 @@ unfoldable pub nameText : List ℕ → List ℕ
 nameText [] = decimalOf 0
 nameText (b ∷ s) = decimalOf (length (b ∷ s)) ++ bytes " " ++ pairsOf (b ∷ s)
 
-unfoldable pub bit : Bool → ℕ
-bit true = 1
-bit false = 0
-
 -- "Module lines: base, size, auto-link, named, indexed, name length, then the name's bytes"
 unfoldable pub moduleLine : Module → List ℕ
 moduleLine m =
-    bytes "module " ++ hexOf (m .base) ++ bytes " " ++ hexOf (m .size) ++ bytes " " ++ decimalOf (bit (m .auto)) ++ bytes " "
+    bytes "module " ++ hexOf (m .base) ++ bytes " " ++ hexOf (m .size) ++ bytes " " ++ decimalOf (flag (m .auto)) ++ bytes " "
     ++ decimalOf (length (m .named)) ++ bytes " " ++ decimalOf (length (m .indexed)) ++ bytes " " ++ nameText (m .name) ++ bytes "\n"
 
 unfoldable pub moduleLines : List Module → List ℕ

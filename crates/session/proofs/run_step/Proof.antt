@@ -1,5 +1,6 @@
 use native.Mathlib.Omega.{arith}
 use mathlib.Core.Path.{refl}
+use Rattle.linker.specs.Valid.{AreBytes}
 use Rattle.linker_calls.specs.Steps.{lent}
 use Rattle.session.proofs.Laws.{is-initialize, is-load, is-unload, is-bad, initialize-keeps, load-keeps, unload-keeps}
 use borrow.Author.Needs.{needs}
@@ -54,7 +55,7 @@ returns c =
     let a = p20 .before .args in
     let b = lent (a .window .now) (a .records .now) (a .names .now) (a .missing .now) in (
       is-initialize (a .at) b _ _ (p15 .step .given .1) (p8 .initialize .ensures),
-      λ v. initialize-keeps (a .at) b v (λ i. omega (arith, p20 .slice-known .given i), λ i. omega (arith, p19 .slice-known2 .given i)) _ _ (p14 .known-told .given .0 .1) (p14 .known-told .given .1 .0 .1) (p8 .initialize .ensures),
+      λ v. initialize-keeps (a .at) b v t _ _ (p14 .known-told .given .0 .1) (p14 .known-told .given .1 .0 .1) (p8 .initialize .ensures),
     )
 
 same-length-5 : tie.Need-same-length-5
@@ -79,7 +80,7 @@ returns-2 c =
     let a = p20 .before .args in
     let b = lent (a .window .now) (a .records .now) (a .names .now) (a .missing .now) in (
       is-load (a .at) b _ _ _ (p15 .step2 .given .1) (p8 .load .ensures),
-      λ v. load-keeps (a .at) b v (λ i. omega (arith, p20 .slice-known .given i), λ i. omega (arith, p19 .slice-known2 .given i)) _ _ _ (p14 .known-told2 .given .0 .1 .1 .0 .1) (p14 .known-told2 .given .0 .1 .1 .1 .0 .1) (p8 .load .ensures),
+      λ v. load-keeps (a .at) b v t _ _ _ (p14 .known-told2 .given .0 .1 .1 .0 .1) (p14 .known-told2 .given .0 .1 .1 .1 .0 .1) (p8 .load .ensures),
     )
 
 same-length-9 : tie.Need-same-length-9
@@ -104,7 +105,7 @@ returns-3 c =
     let a = p20 .before .args in
     let b = lent (a .window .now) (a .records .now) (a .names .now) (a .missing .now) in (
       is-unload (a .at) b _ (p15 .step3 .given .1) (p8 .unload .ensures),
-      λ v. unload-keeps (a .at) b v (λ i. omega (arith, p20 .slice-known .given i), λ i. omega (arith, p19 .slice-known2 .given i)) _ (p8 .unload .ensures),
+      λ v. unload-keeps (a .at) b v t _ (p8 .unload .ensures),
     )
 
 returns-4 : tie.Need-returns-4

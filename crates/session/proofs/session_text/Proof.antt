@@ -34,9 +34,11 @@ same-length c = search needs
 returns : tie.Need-returns
 unfolding bytes
 returns c =
-    let p6 = c .before .before .before .before .before .before in
+    let p2 = c .before .before in
+    let p5 = p2 .before .before .before in
+    let p6 = p5 .before in
     let a = p6 .before .before .before .args in
-    text-bad (a .file .now) (0, a .out .now) (sym (p6 .is-session .ensures) ∙ not-true _ (c .before .before .before .before .before .if1 .taken)) (c .before .before .put-text .ensures)
+    text-bad (a .file .now) (0, a .out .now) (sym (p6 .is-session .ensures) ∙ not-true _ (p5 .if1 .taken)) (p2 .put-text .ensures)
 
 slice-aggregate-put-text-2 : tie.Need-slice-aggregate-put-text-2
 slice-aggregate-put-text-2 c = search needs
@@ -66,10 +68,14 @@ put-text-requires-4 : tie.Need-put-text-requires-4
 put-text-requires-4 c κs = search needs
 
 array-borrow-prefix-window : tie.Need-array-borrow-prefix-window
-array-borrow-prefix-window c = put-within _ 0 _ (omega arith) (c .before .before .before .before .before .before .before .before .before .before .before .before .before .before .before .before .put-text2 .ensures) .0
+array-borrow-prefix-window c =
+    let p8 = c .before .before .before .before .before .before .before .before in
+    put-within _ 0 _ (omega arith) (p8 .before .before .before .before .before .before .before .before .put-text2 .ensures) .0
 
 slice-aggregate-run-steps : tie.Need-slice-aggregate-run-steps
-slice-aggregate-run-steps c = put-within _ 0 _ (omega arith) (c .before .before .before .before .before .before .before .before .before .before .before .before .before .before .before .before .before .put-text2 .ensures) .1
+slice-aggregate-run-steps c =
+    let p9 = c .before .before .before .before .before .before .before .before .before in
+    put-within _ 0 _ (omega arith) (p9 .before .before .before .before .before .before .before .before .put-text2 .ensures) .1
 
 slice-aggregate-run-steps-2 : tie.Need-slice-aggregate-run-steps-2
 slice-aggregate-run-steps-2 c = search needs
@@ -82,9 +88,11 @@ slice-aggregate-run-steps-4 c = search needs
 
 run-steps-requires : tie.Need-run-steps-requires
 run-steps-requires c κs =
-    let p25 = c .before .before .before .before .before .before .before .before .before .before .before .before .before .before .before .before .before .before .before .before .before .before .before .before .before in
+    let p12 = c .before .before .before .before .before .before .before .before .before .before .before .before in
+    let p24 = p12 .before .before .before .before .before .before .before .before .before .before .before .before in
+    let p25 = p24 .before in
     let a = p25 .before .before .before .args in
-    (session-parts (a .file .now) (sym (p25 .is-session .ensures) ∙ not-false _ (c .before .before .before .before .before .before .before .before .before .before .before .before .before .before .before .before .before .before .before .before .before .before .before .before .if1 .left)) .0, zeroed)
+    (session-parts (a .file .now) (sym (p25 .is-session .ensures) ∙ not-false _ (p24 .if1 .left)) .0, zeroed)
 
 slice-aggregate-put-register : tie.Need-slice-aggregate-put-register
 slice-aggregate-put-register c = search needs

@@ -1,7 +1,6 @@
 -- One case less is left at each turn.
 use Prim.Native.Nat.{_-_, _≤_}
 use mathlib.Core.Path.{_≡_}
-use native.Mathlib.Omega.{arith}
 use lib.ListN.{length}
 use borrow.Author.Needs.{needs}
 use Rattle.session_cases.proofs.Laws.{within}
