@@ -42,7 +42,8 @@ window-laid file first {n} {w} s e h =
     let b : length first ≤ 32768 = omega (arith, ap length e, length-take l (drop o file), a .1) in
     let f = h ∙ put-whole first (replicate 32768 0) in
     let g : n ≡ length first = ap (λ (p : ℕ × List ℕ). p .0) f ∙ omega (arith, z) in
-    let fits : take (length (replicate {A = ℕ} 32768 0)) first ≡ first = take-all _ first (omega (arith, z)) in
+    let fits : take (length (replicate {A = ℕ} 32768 0)) first ≡ first =
+    take-all (length (replicate {A = ℕ} 32768 0)) first (omega (arith, z)) in
     let i : w ≡ first ++ drop (length first) (replicate 32768 0) =
     ap (λ (p : ℕ × List ℕ). p .1) f ∙ ap (λ t. t ++ drop (length first) (replicate 32768 0)) fits in
     rw (i, g) (take-append-seam first _ ∙ e)

@@ -53,7 +53,8 @@ returns c =
     let p19 = p15 .before .before .before .before in
     let p20 = p19 .before in
     let a = p20 .before .args in
-    let b = lent (a .window .now) (a .records .now) (a .names .now) (a .missing .now) in (
+    let b = lent (a .window .now) (a .records .now) (a .names .now) (a .missing .now) in
+    let t : AreBytes b = (λ i. omega (arith, p20 .slice-known .given i), λ i. omega (arith, p19 .slice-known2 .given i)) in (
       is-initialize (a .at) b _ _ (p15 .step .given .1) (p8 .initialize .ensures),
       λ v. initialize-keeps (a .at) b v t _ _ (p14 .known-told .given .0 .1) (p14 .known-told .given .1 .0 .1) (p8 .initialize .ensures),
     )
@@ -78,7 +79,8 @@ returns-2 c =
     let p19 = p15 .before .before .before .before in
     let p20 = p19 .before in
     let a = p20 .before .args in
-    let b = lent (a .window .now) (a .records .now) (a .names .now) (a .missing .now) in (
+    let b = lent (a .window .now) (a .records .now) (a .names .now) (a .missing .now) in
+    let t : AreBytes b = (λ i. omega (arith, p20 .slice-known .given i), λ i. omega (arith, p19 .slice-known2 .given i)) in (
       is-load (a .at) b _ _ _ (p15 .step2 .given .1) (p8 .load .ensures),
       λ v. load-keeps (a .at) b v t _ _ _ (p14 .known-told2 .given .0 .1 .1 .0 .1) (p14 .known-told2 .given .0 .1 .1 .1 .0 .1) (p8 .load .ensures),
     )
@@ -103,7 +105,8 @@ returns-3 c =
     let p19 = p15 .before .before .before .before in
     let p20 = p19 .before in
     let a = p20 .before .args in
-    let b = lent (a .window .now) (a .records .now) (a .names .now) (a .missing .now) in (
+    let b = lent (a .window .now) (a .records .now) (a .names .now) (a .missing .now) in
+    let t : AreBytes b = (λ i. omega (arith, p20 .slice-known .given i), λ i. omega (arith, p19 .slice-known2 .given i)) in (
       is-unload (a .at) b _ (p15 .step3 .given .1) (p8 .unload .ensures),
       λ v. unload-keeps (a .at) b v t _ (p8 .unload .ensures),
     )
