@@ -22,9 +22,11 @@ steps file (suc n) k b =
     let rest = steps file n (k + 1) (o .left) in
     (stepLine (k + 1) (stepAt file k) (o .number) (o .value) ++ rest .0, rest .1)
 
+-- then module lines, in load order, and the missing names
 unfoldable pub registerLines : Register → List ℕ
 registerLines r = moduleLines (r .modules) ++ missingLines (r .missing)
 
+-- the step count and all lines; of a bad file "it prints `session bad` alone"
 unfoldable pub sessionText : List ℕ → List ℕ
 sessionText file =
     if isSession file
