@@ -12,7 +12,7 @@ use lib.Dec.{eqb, ltb, lit<, lit≤}
 use borrow.Author.Tests.{eq-eqb, ne-eqb, lt-ltb, le-ltb}
 use Rattle.window.specs.Memory.{if_then_else_, _⊕_}
 use Rattle.window.specs.Access.{Prog, ret, _>>=_, get8, get32}
-use Rattle.window.specs.Name.{nameAt, nameFrom}
+use Rattle.name.specs.Name.{nameAt, nameFrom}
 use Rattle.window.specs.Within.{In, Four, Low}
 use Rattle.window.specs.Mirror.{word, runM}
 use Rattle.layout.specs.Header.{segmentNum, segmentTableOffset, segmentEntrySize, onUnresolvedSegmentTag}

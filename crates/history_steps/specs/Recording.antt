@@ -11,7 +11,7 @@ use borrow.Author.Tests.{lt-ltb, le-ltb}
 use Rattle.window.specs.Memory.{if_then_else_, _⊕_}
 use Rattle.window.specs.Access.{Prog, ret, _>>=_, get32}
 use Rattle.window.specs.Loop.{loop}
-use Rattle.window.specs.Name.{nameAt}
+use Rattle.name.specs.Name.{nameAt}
 use Rattle.window.specs.Within.{Low}
 use Rattle.window.specs.Mirror.{word}
 use Rattle.layout.specs.Header.{moduleNameOffset}

@@ -8,7 +8,7 @@ use lib.Dec.{lit<}
 use Rattle.window.specs.Memory.{if_then_else_, _⊕_}
 use Rattle.window.specs.Access.{Prog, ret, _>>=_, _>>_, get32}
 use Rattle.window.specs.Loop.{loop}
-use Rattle.window.specs.Name.{nameAt}
+use Rattle.name.specs.Name.{nameAt}
 use Rattle.window.specs.Within.{Low}
 use Rattle.window.specs.Mirror.{word}
 use Rattle.layout.specs.Segments.{field, entryAt}

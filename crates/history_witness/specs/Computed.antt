@@ -11,7 +11,7 @@ use Rattle.linker.specs.Valid.{Valid}
 use Rattle.window.specs.Memory as windowMemory
 use Rattle.window.specs.Access as windowAccess
 use Rattle.window.specs.Loop as windowLoop
-use Rattle.window.specs.Name as windowName
+use Rattle.name.specs.Name as windowName
 use Rattle.window.specs.Bytes as windowBytes
 use Rattle.layout.specs.Tables as layoutTables
 use Rattle.layout.specs.Segments as layoutSegments

@@ -12,7 +12,7 @@ use borrow.Author.Tests.{lt-ltb, le-ltb}
 use Rattle.window.specs.Memory.{if_then_else_, place, byteAt}
 use Rattle.window.specs.Mirror.{word, runM}
 use Rattle.window.specs.Access.{_>>=_}
-use Rattle.window.specs.Name.{nameAt, nameFrom}
+use Rattle.name.specs.Name.{nameAt, nameFrom}
 use Rattle.window.specs.Within.{In}
 use Rattle.layout.specs.Segments.{addressIn}
 use Rattle.layout.specs.Format.{segmentType}

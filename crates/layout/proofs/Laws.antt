@@ -15,6 +15,7 @@ use Rattle.layout.specs.Relocation.{relocatedWord, applyRelocation, relo
 use Rattle.layout.specs.Segments.{field, segment, setSegment, entryAt, segmentPlace, field-word, segment-found, setSegment-words, tagToAddress, tag-at}
 use Rattle.layout.specs.declared.format.Segment.{Segment}
 use Rattle.layout.specs.declared.format.SegmentType.{SegmentType}
+use Rattle.layout.specs.declared.segments.FoundSegment.{FoundSegment}
 use Rattle.layout.specs.declared.segments.FoundSegment.the-variants.{Found}
 use Rattle.layout.specs.declared.segments.Address.the-variants.{At}
 use Rattle.layout.specs.declared.format.RelocationType.{RelocationType}
@@ -48,7 +49,11 @@ module _ (at base i : ℕ) (w : List ℕ) {table entry p₄ p₈ : ℕ} (et : ta
       → word ≡ segmentTypeNumber (s .kind) → w₃ ≡ putWord at w₂ p₈ word → w₃ ≡ run at (setSegment base i s) w .1
   set-in-words s f₁ f₂ ew f₃ = rw (f₃, ew, f₂, f₁, e₄, e₈, place) (sym (setSegment-words at base i w s))
 
--- an address inside a segment, and a relocated word, as the code finds them
+-- the segment of a tag, an address inside it, and a relocated word, as the code finds them
+
+pub tag-segment
+    : (at base : ℕ) (w : List ℕ) {i j : ℕ} {r s : FoundSegment} → i ≡ j → r ≡ run at (segment base i) w .0 → r ≡ s → run at (segment base j) w .0 ≡ s
+tag-segment at base w e f g = rw (← e) (sym f ∙ g)
 
 pub tag-found
     : (at base tag : ℕ) (w : List ℕ) (s : Segment) {a x : ℕ} → run at (segment base (tagSegment tag)) w .0 ≡ Found s → x ≡ tagOffset tag → x < s .size

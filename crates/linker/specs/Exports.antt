@@ -6,7 +6,7 @@ use lib.ListN.{take}
 use Rattle.window.specs.Memory.{_⊕_}
 use Rattle.window.specs.Access.{Prog, ret, _>>=_, get32, Reads, reads-bind}
 use Rattle.window.specs.Loop.{loop, loop-reads}
-use Rattle.window.specs.Name.{nameAt, nameAt-reads}
+use Rattle.name.specs.Name.{nameAt, nameAt-reads}
 use Rattle.layout.specs.Header.{exportNamedSymbolTableOffset, exportNamedSymbolNum, exportNamedSymbolEntrySize, exportIndexedSymbolTableOffset, exportIndexedSymbolNum, exportIndexedSymbolEntrySize, segmentNum, moduleNameOffset}
 use Rattle.layout.specs.Segments.{field, entryAt, segment, segment-reads, tagToAddress, tagToAddress-reads}
 use Rattle.layout.specs.declared.segments.FoundSegment.{FoundSegment}

@@ -10,7 +10,7 @@ use lib.Dec.{ltb}
 use borrow.Author.Tests.{le-leb}
 use Rattle.window.specs.Memory.{if_then_else_, _⊕_}
 use Rattle.window.specs.Access.{get32, run}
-use Rattle.window.specs.Name.{isName, nameAt, nameAt-isName}
+use Rattle.name.specs.Name.{isName, nameAt, nameAt-isName}
 use Rattle.window.specs.Small.{wordAt-small}
 use Rattle.window.specs.Tests.{both, also}
 use Rattle.layout.specs.Header.{exportNamedSymbolTableOffset, exportNamedSymbolNum, exportNamedSymbolEntrySize, exportIndexedSymbolTableOffset, exportIndexedSymbolNum, exportIndexedSymbolEntrySize, segmentNum, segmentTableOffset, segmentEntrySize, moduleNameOffset}

@@ -9,7 +9,7 @@ use lib.Dec.{eqb, ltb}
 use borrow.Author.Tests.{ltb-true}
 use Rattle.window.specs.Memory.{if_then_else_, _⊕_, goodWindow}
 use Rattle.window.specs.Access.{Prog, get32, run, length-run}
-use Rattle.window.specs.Name.{isName, nameAt}
+use Rattle.name.specs.Name.{isName, nameAt}
 use Rattle.window.specs.Small.{run-bytes}
 use Rattle.window.specs.Tests.{both, also}
 use Rattle.layout.specs.Header.{importNamedSymbolTableOffset, importNamedSymbolNum, importNamedSymbolEntrySize, nextCro, previousCro}

@@ -10,7 +10,7 @@ use linker::rebase::Rebased;
 use linker_exports::Indexed;
 use linker_exports::index_exports;
 use linker_relocation::relocation::reset_external_relocations;
-use register::check::is_register;
+use register_test::is_register;
 
 // The tests that come first: 3 where the window breaks its rule, then 4 where the buffers are no register.
 pub fn tested(at: u32, w: &[u8], records: &[u8], names: &[u8], missing: &[u8]) -> u32

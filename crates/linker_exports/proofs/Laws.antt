@@ -8,7 +8,7 @@ use lib.Seq.{length-take-le, take-append-seam}
 use borrow.Author.Tests.{lt-ltb, le-ltb}
 use Rattle.window.specs.Memory.{_⊕_, wordAt}
 use Rattle.window.specs.Access.{run}
-use Rattle.window.specs.Name.{nameAt, laidOver}
+use Rattle.name.specs.Name.{nameAt, laidOver}
 use Rattle.layout.specs.Header.{exportNamedSymbolTableOffset, exportNamedSymbolNum, exportNamedSymbolEntrySize, exportIndexedSymbolTableOffset, exportIndexedSymbolNum, exportIndexedSymbolEntrySize, segmentNum, moduleNameOffset}
 use Rattle.layout.specs.Segments.{field, field-word, entryAt, tagToAddress}
 use Rattle.layout.specs.declared.segments.Address.{Address}

@@ -7,7 +7,7 @@ use native.Mathlib.Omega.{arith}
 use lib.ListN.{length, length-append}
 use Rattle.window.specs.Memory.{if_then_else_}
 use Rattle.window.specs.Tests.{both, also}
-use Rattle.window.specs.Name.{isName, nameAt-isName}
+use Rattle.name.specs.Name.{isName, nameAt-isName}
 use Rattle.layout.specs.declared.segments.Address.{Address}
 use Rattle.layout.specs.declared.segments.Address.the-variants.{At, Nowhere}
 use Rattle.register.specs.Words.{same}

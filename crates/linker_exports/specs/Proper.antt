@@ -10,7 +10,7 @@ use borrow.Author.Tests.{lt-ltb, le-ltb, le-leb}
 use Rattle.window.specs.Memory.{if_then_else_}
 use Rattle.window.specs.Access.{run}
 use Rattle.window.specs.Tests.{both, also}
-use Rattle.window.specs.Name.{nameAt-isName}
+use Rattle.name.specs.Name.{nameAt-isName}
 use Rattle.layout.specs.Header.{exportNamedSymbolNum, segmentNum}
 use Rattle.layout.specs.declared.segments.Address.{Address}
 use Rattle.layout.specs.declared.segments.Address.the-variants as address

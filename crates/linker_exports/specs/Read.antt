@@ -12,7 +12,7 @@ use borrow.Author.Tests.{lt-ltb, le-ltb}
 use Rattle.window.specs.Memory.{if_then_else_, _⊕_, wordAt}
 use Rattle.window.specs.Access.{Prog, ret, _>>=_, run, run-bind, Reads, reads-same}
 use Rattle.window.specs.Loop.{loop, loop-none, loop-more}
-use Rattle.window.specs.Name.{nameAt, nameAt-reads}
+use Rattle.name.specs.Name.{nameAt, nameAt-reads}
 use Rattle.layout.specs.Header.{exportNamedSymbolTableOffset, exportNamedSymbolNum, exportNamedSymbolEntrySize, exportIndexedSymbolTableOffset, exportIndexedSymbolNum, exportIndexedSymbolEntrySize, segmentNum, moduleNameOffset}
 use Rattle.layout.specs.Segments.{field, field-word, field-reads, entryAt, segment, segment-reads, tagToAddress, tagToAddress-reads}
 use Rattle.layout.specs.declared.segments.Address.{Address}

@@ -6,7 +6,7 @@ ghost use mathlib.Core.List.{List, []};
 ghost use Prim.Native.Nat.{ℕ, _+_};
 ghost use Rattle.window.specs.Memory.{wordAt};
 ghost use Rattle.window.specs.Access.{run};
-ghost use Rattle.window.specs.Name.{nameAt};
+ghost use Rattle.name.specs.Name.{nameAt};
 ghost use Rattle.layout.specs.Header.{exportNamedSymbolTableOffset, exportIndexedSymbolTableOffset};
 ghost use Rattle.layout.specs.Segments.{tagToAddress};
 ghost use Rattle.register.specs.Decode.{isRegister, registerOf};
@@ -193,7 +193,7 @@ fn put_named(
         ≡ putTried before (now (records .entry)) (now (names .entry)) (run at (nameAt place) (now (w .entry)) .0) address ⌝ }
 {
     let mut buffer = [0u8; 512];
-    let count = window::name::read_name(at, w, place, &mut buffer);
+    let count = name::read_name(at, w, place, &mut buffer);
     let after = draft::put_export(records, names, before, &buffer[..count], address);
     kept(records, names, before, after)
 }
@@ -267,8 +267,8 @@ fn begin(
 {
     let mut buffer = [0u8; 512];
     let place = field(at, w, base, header::MODULE_NAME_OFFSET);
-    let count = window::name::read_name(at, w, place, &mut buffer);
-    draft::begin_record(records, names, base, size, auto_link, &buffer[..count])
+    let count = name::read_name(at, w, place, &mut buffer);
+    register_begin::begin_record(records, names, base, size, auto_link, &buffer[..count])
 }
 
 // Adds segments, named and indexed exports to a record that has its name.

@@ -8,7 +8,7 @@ use lib.ListN.{take}
 use Rattle.window.specs.Memory.{if_then_else_, _⊕_, wordAt}
 use Rattle.window.specs.Access.{Prog, ret, _>>=_, _>>_, run, run-bind}
 use Rattle.window.specs.Loop.{loop}
-use Rattle.window.specs.Name.{nameAt, nameAt-reads, nameAt-isName, laidOver}
+use Rattle.name.specs.Name.{nameAt, nameAt-reads, nameAt-isName, laidOver}
 use Rattle.layout.specs.Header.{importNamedSymbolTableOffset, importNamedSymbolNum, importNamedSymbolEntrySize}
 use Rattle.layout.specs.Segments.{field, entryAt}
 use Rattle.register.specs.Module.{Register}

@@ -1,15 +1,15 @@
 // Names in the window and what they stand for. Each is read once into a buffer of its own, then compared as bytes.
 ghost use mathlib.Core.Path.{_≡_};
 ghost use Rattle.window.specs.Access.{run};
-ghost use Rattle.window.specs.Name.{nameAt};
+ghost use Rattle.name.specs.Name.{nameAt};
 ghost use Rattle.register.specs.Words.{same};
 ghost use Rattle.register_read.specs.Read.{Encoded, modulesOf, placeFrom, hasName, exportOf, moduleAt};
+use name::read_name;
 use register::exports::Found;
 use register::exports::same_name;
 use register_read::Symbol;
 use register_read::export_named;
 use register_read::modules::first_with_name;
-use window::name::read_name;
 
 // Where the record of the first module with the name at `address` begins.
 pub fn module_by_name(at: u32, w: &[u8], records: &[u8], names: &[u8], address: u32) -> Found

@@ -18,11 +18,11 @@ use layout::header::IMPORT_MODULE_TABLE_OFFSET;
 use layout::header::IMPORT_NAMED_SYMBOL_NUM;
 use layout::header::IMPORT_NAMED_SYMBOL_TABLE_OFFSET;
 use linker_relocation::relocation::apply_relocation_batch;
+use name::read_name;
 use register::exports::Found;
 use register_change::missing::push_missing;
 use register_read::Symbol;
 use register_read::modules::lookup;
-use window::name::read_name;
 
 // One named import, if it still waits; a name that nothing provides is kept as missing.
 fn import_named(

@@ -8,7 +8,7 @@ use borrow.Author.Tests.{eq-eqb, ne-eqb}
 use Rattle.window.specs.Memory.{if_then_else_, _⊕_, wordAt}
 use Rattle.window.specs.Access.{Prog, ret, read32, _>>=_, _>>_, run, run-bind, Reads, reads-bind}
 use Rattle.window.specs.Loop.{loop}
-use Rattle.window.specs.Name.{nameAt, nameAt-reads}
+use Rattle.name.specs.Name.{nameAt, nameAt-reads}
 use Rattle.layout.specs.Header.{importNamedSymbolTableOffset, importNamedSymbolNum, importNamedSymbolEntrySize, importModuleTableOffset, importModuleNum, importModuleEntrySize, importIndexedSymbolEntrySize}
 use Rattle.layout.specs.Segments.{field, entryAt, tagToAddress, tagToAddress-reads}
 use Rattle.register.specs.Words.{same}

@@ -1,16 +1,14 @@
 -- From the code's loops and tests to the definitions.
-use Prim.Native.Nat.{ℕ, zero, suc, _+_, _-_, _*_, _/_, _%_, _≤_, _<_}
-use mathlib.Core.Path.{_≡_, refl, sym, ap, _∙_}
-use mathlib.Core.List.{List, [], _∷_, _++_}
-use mathlib.Core.Bool.{Bool, true, false, _&&_, not}
+use Prim.Native.Nat.{ℕ, zero, _+_, _-_, _/_, _≤_, _<_}
+use mathlib.Core.Path.{_≡_, sym}
+use mathlib.Core.List.{List}
+use mathlib.Core.Bool.{true, false}
 use native.Mathlib.Omega.{arith}
 use native.Mathlib.Numerals.{add-one}
 use lib.ListN.{length, take, drop, getD, length-drop, drop-of-length-le, List·getD-eq-default}
 use lib.Seq.{drop-cons, take-all, drop-length, take-nil}
-use lib.Dec.{eqb}
 use borrow.Author.Tests.{eq-eqb, ne-eqb}
-use Rattle.window.specs.Name.{noZero}
-use Rattle.register.specs.Words.{part, allZero, wordsIn, length-words, word-row}
+use Rattle.register.specs.Words.{part, allZero, wordsIn, length-words}
 
 -- a word past the whole ones
 pub word-none : (l : List ℕ) (i : ℕ) → length l / 4 ≤ i → 0 ≡ getD (wordsIn l) i 0
@@ -48,15 +46,3 @@ zero-on l i h e = rw (drop-cons l i 0 h, add-one) (simp (eq-eqb _ _ e))
 pub zero-end : (l : List ℕ) (i : ℕ) → length l ≤ i → true ≡ allZero (drop i l)
 unfolding allZero
 zero-end l i h = rw (drop-of-length-le l h)
-
-pub some-zero : (l : List ℕ) (i : ℕ) → i < length l → getD l i 0 ≡ 0 → false ≡ noZero (drop i l)
-unfolding noZero
-some-zero l i h e = rw (drop-cons l i 0 h) (simp (eq-eqb _ _ e))
-
-pub no-zero-on : (l : List ℕ) (i : ℕ) → i < length l → (getD l i 0 ≡ 0 → ⊥) → noZero (drop (i + 1) l) ≡ noZero (drop i l)
-unfolding noZero
-no-zero-on l i h n = rw (drop-cons l i 0 h, add-one) (simp (ne-eqb _ _ n))
-
-pub no-zero-end : (l : List ℕ) (i : ℕ) → length l ≤ i → true ≡ noZero (drop i l)
-unfolding noZero
-no-zero-end l i h = rw (drop-of-length-le l h)

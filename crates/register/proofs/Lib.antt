@@ -1,6 +1,4 @@
 -- What the proofs of `register` share.
 pub mod Laws
 pub mod ExportLoops
-pub mod CheckLoops
-pub mod Contents
 pub mod HeaderLaws

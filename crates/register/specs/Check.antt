@@ -7,12 +7,12 @@ use native.Mathlib.Omega.{arith}
 use lib.ListN.{length, take, drop, getD}
 use lib.Dec.{eqb, leb}
 use Rattle.window.specs.Memory.{if_then_else_}
-use Rattle.window.specs.Name.{noZero}
+use Rattle.name.specs.Name.{noZero}
 use Rattle.register.specs.Words.{part, allZero, wordsIn}
 use Rattle.register.specs.Module.{distinct}
 use Rattle.register.specs.Decode.{exportsIn, moduleSize, slotLength, slotName, settled}
-use Rattle.register.specs.declared.check.End.{End}
-use Rattle.register.specs.declared.check.End.the-variants.{At, Bad}
+use Rattle.register.specs.declared.record.End.{End}
+use Rattle.register.specs.declared.record.End.the-variants.{At, Bad}
 
 -- a name stands at q, the running sum of the lengths before it
 unfoldable pub nameOk : List ℕ → ℕ → ℕ → ℕ → Bool

@@ -10,7 +10,7 @@ use lib.Seq.{drop-cons, drop-drop, take-add, length-take-le, getD-drop}
 use lib.Dec.{eqb, leb}
 use borrow.Author.Tests.{eqb-true, leb-true, le-leb}
 use Rattle.window.specs.Memory.{if_then_else_}
-use Rattle.window.specs.Name.{noZero, isName}
+use Rattle.name.specs.Name.{noZero, isName}
 use Rattle.window.specs.Tests.{both, also}
 use Rattle.register.specs.Words.{part}
 use Rattle.register.specs.Lists.{take-next, length-part, part-none, part-all, part-add}
@@ -18,8 +18,8 @@ use Rattle.register.specs.Module.{Export, Module, named-ok, distinct, pr
 use Rattle.register.specs.Encode.{exportWords, exportNames, moduleNames, moduleWords, flag, recordWords, recordNames}
 use Rattle.register.specs.Decode.{exportAt, exportsFrom, exportsIn, moduleSize, readModule, readModules}
 use Rattle.register.specs.Check.{nameOk, exportsEnd, fixedOk, exportPart, moduleEnd, after, modulesOk}
-use Rattle.register.specs.declared.check.End.{End}
-use Rattle.register.specs.declared.check.End.the-variants.{At, Bad}
+use Rattle.register.specs.declared.record.End.{End}
+use Rattle.register.specs.declared.record.End.the-variants.{At, Bad}
 
 -- a name that passed
 pub record Named (names : List ℕ) (q o l : ℕ) : Type 0 where

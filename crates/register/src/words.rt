@@ -2,7 +2,7 @@
 ghost use mathlib.Core.Path.{_≡_};
 ghost use lib.ListN.{getD, drop};
 ghost use Rattle.register.specs.Words.{wordsIn, part, allZero};
-ghost use Rattle.register.specs.Decode.{readCrs};
+ghost use Rattle.register.specs.Decode.{settled, readCrs};
 
 // The static module's base, where it is known.
 pub enum Crs {
@@ -58,4 +58,21 @@ pub fn read_crs(records: &[u8]) -> Crs
         return Crs::Known(word(records, 2));
     }
     Crs::Unknown
+}
+
+// The record bytes used; 0 is read as 32 when no module stands.
+pub fn used_bytes(records: &[u8]) -> u32
+    ensures { λ r. ⌜ r ≡ getD (settled (wordsIn (now (records .entry)))) 3 0 ⌝ }
+{
+    if records.len() < 16 {
+        return 0;
+    }
+    let used = word(records, 3);
+    if used != 0 {
+        return used;
+    }
+    if word(records, 0) == 0 {
+        return 32;
+    }
+    0
 }

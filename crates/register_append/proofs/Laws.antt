@@ -8,7 +8,7 @@ use native.Mathlib.Decide.{decLe}
 use native.Mathlib.Numerals.{add-one}
 use lib.ListN.{length, take, drop, getD, set, replicate, length-drop, drop-of-length-le}
 use lib.Seq.{sets, set-out, drop-cons, length-take-le}
-use lib.Dec.{leb, ltb}
+use lib.Dec.{leb}
 use borrow.Author.Tests.{lt-ltb, le-ltb, leb-true, le-leb, lt-leb}
 use Rattle.window.specs.Tests.{both}
 use Rattle.window.specs.Memory.{if_then_else_}
@@ -16,13 +16,12 @@ use Rattle.window.specs.Word.{wordIn, setWordIn}
 use Rattle.register_append.specs.declared.draft.Draft.{Draft}
 use Rattle.register_append.specs.declared.draft.Drafted.{Drafted}
 use Rattle.register_append.specs.declared.draft.Drafted.the-variants.{Open, Full}
-use Rattle.register.specs.Words.{part, same, flat, wordsIn, length-words}
-use Rattle.register.specs.Encode.{flag}
+use Rattle.register.specs.Words.{part, same, wordsIn, length-words}
 use Rattle.register.specs.Module.{Export, findFrom, findExport}
 use Rattle.register.specs.Decode.{exportsFrom, exportsIn}
 use Rattle.register.specs.declared.exports.Found.{Found}
 use Rattle.register.specs.declared.exports.Found.the-variants.{At, Nothing}
-use Rattle.register_append.specs.Draft.{roomIn, room-inside, room-word, longer, pushWord, opened, countUp, pushListed, addedTo, exportWritten, addExport, exportPlace, exportCount, exportsSoFar, putAt, countsInside, putExport, usedBytes, usedNames, firstWords, draftAt, beginRecord, finishRecord}
+use Rattle.register_append.specs.Draft.{roomIn, room-inside, room-word, longer, pushWord, opened, countUp, pushListed, addedTo, exportWritten, addExport, exportPlace, exportCount, exportsSoFar, putAt, countsInside, putExport, finishRecord}
 
 -- a copy, i bytes of it made
 pub copy-turn
@@ -282,32 +281,3 @@ module _ (records : List ℕ) (d : Draft) {t : Bool} (o : t ≡ opened d records
       → w₂ ≡ setWordIn w₁ 12 (d .end) → w₃ ≡ setWordIn w₂ 16 (d .last) → w₃ ≡ finishRecord records d
   unfolding finishRecord
   finish-done z h en em e₁ e₂ e₃ = rw (← o, z, le-leb (d .last) 0xffff_ffff h, e₃, e₂, e₁, em, en)
-
--- a record begun
-
-module _ (records names : List ℕ) (base size : ℕ) (auto : Bool) (name : List ℕ) where
-  abbrev begun : Drafted × List ℕ × List ℕ
-  begun = beginRecord records names base size auto name
-
-  pub begin-many : {n : ℕ} → n ≡ getD (wordsIn records) 0 0 → 64 ≤ n → _≡_ {A = Drafted × List ℕ × List ℕ} (Full, records, names) begun
-  unfolding beginRecord
-  begin-many e h = rw (← e, le-ltb _ 64 h)
-
-  module _ {n u q fr : ℕ} (en : n ≡ getD (wordsIn records) 0 0) (few : n < 64) (eu : u ≡ usedBytes records) (eq : q ≡ usedNames records)
-      (er : fr ≡ roomIn (length records)) where
-    pub begin-no-words : fr < u + 32 → _≡_ {A = Drafted × List ℕ × List ℕ} (Full, records, names) begun
-    unfolding beginRecord
-    begin-no-words h = rw (← en, lt-ltb n 64 few, ← eu, ← er, lt-leb (u + 32) fr h)
-
-    module _ {fn : ℕ} (ef : fn ≡ roomIn (length names)) (h : u + 32 ≤ fr) where
-      pub begin-no-names : fn < q + length name → _≡_ {A = Drafted × List ℕ × List ℕ} (Full, records, names) begun
-      unfolding beginRecord
-      begin-no-names g = rw (← en, lt-ltb n 64 few, ← eu, ← er, le-leb (u + 32) fr h, ← eq, ← ef, lt-leb (q + length name) fn g)
-
-      pub begin-open
-          : {a : ℕ} {w ns : List ℕ} → q + length name ≤ fn → a ≡ flag auto
-          → w ≡ sets records u (flat (base ∷ size ∷ a ∷ q ∷ length name ∷ 0 ∷ 0 ∷ 0 ∷ [])) → ns ≡ sets names q name
-          → _≡_ {A = Drafted × List ℕ × List ℕ} (Open (draftAt u q (length name)), w, ns) begun
-      unfolding beginRecord firstWords
-      begin-open g ea ew es =
-          rw (← en, lt-ltb n 64 few, ← eu, ← er, le-leb (u + 32) fr h, ← eq, ← ef, le-leb (q + length name) fn g, ew, es, ea)

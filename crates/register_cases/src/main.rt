@@ -6,8 +6,8 @@ ghost use mathlib.Core.Path.{_≡_};
 ghost use Rattle.register_cases.specs.Cases.{judged, caseAt};
 use case_reader::put_pieces;
 use header_text::append::Next;
-use register::check::is_register;
 use register::words::word;
+use register_test::is_register;
 
 // The verdict on a case, and the place of the next one.
 enum Verdict {

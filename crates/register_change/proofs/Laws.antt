@@ -62,6 +62,13 @@ move-rest b l i v e =
 pub move-end : (b l : List ℕ) (gap i : ℕ) → length l ≤ i + gap → b ≡ sets b i (drop (i + gap) l)
 move-end b l gap i h = rw (drop-of-length-le l h)
 
+-- the last bytes cleared
+cleared : (m x : List ℕ) (n gap : ℕ) → n + gap ≡ length m → take n m ≡ x → sets m n (replicate gap 0) ≡ x ++ replicate gap 0
+cleared m x n gap h f =
+    let r : length (replicate {A = ℕ} gap 0) ≡ gap = length-replicate gap 0 in
+    let k : length m ≤ n + length (replicate {A = ℕ} gap 0) = omega arith in
+    sets-eq (replicate gap 0) m n (omega arith) ∙ rw (f, drop-of-length-le m k) (append-nil (x ++ replicate gap 0))
+
 -- the end cleared after the move
 pub closed-in-steps
     : (l : List ℕ) (from gap place : ℕ) {m last : List ℕ} → from + gap ≤ length l → m ≡ sets l from (drop (from + gap) l)
@@ -75,12 +82,8 @@ closed-in-steps l from gap place {m} h e n c p =
     let t : length (take from l) ≡ from = length-take-le from l (omega arith) in
     let x : length X ≡ length m - gap = length-append (take from l) D ∙ omega arith in
     let y : m ≡ X ++ drop (from + length D) l = e ∙ sets-eq D l from (omega arith) in
-    let r : length (replicate {A = ℕ} gap 0) ≡ gap = length-replicate gap 0 in
     let f : take (length m - gap) m ≡ X = rw (← x, y) (take-append-seam X (drop (from + length D) l)) in
-    let k : length m ≤ length m - gap + length (replicate {A = ℕ} gap 0) = omega arith in
-    let g : drop (length m - gap + length (replicate {A = ℕ} gap 0)) m ≡ [] = drop-of-length-le m k in
-    rw (c, p, z) (sets-eq (replicate gap 0) m (length m - gap) (omega arith)
-    ∙ rw (f, g) (append-nil (X ++ replicate gap 0) ∙ append-assoc (take from l) D (replicate gap 0)))
+    rw (c, p, z) (cleared m X (length m - gap) gap (omega arith) f ∙ append-assoc (take from l) D (replicate gap 0))
 
 -- exports, k of n done
 pub exports-turn

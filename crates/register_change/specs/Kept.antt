@@ -9,7 +9,7 @@ use lib.Seq.{sets-eq, length-sets, take-append-seam, drop-append-add, drop-at}
 use lib.Dec.{leb, ltb}
 use borrow.Author.Tests.{leb-true, ltb-true, le-ltb, le-leb, eq-eqb}
 use Rattle.window.specs.Memory.{if_then_else_}
-use Rattle.window.specs.Name.{isName, noZero}
+use Rattle.name.specs.Name.{isName, noZero}
 use Rattle.window.specs.Word.{wordIn, setWordIn}
 use Rattle.window.specs.Tests.{both, also}
 use Rattle.register.specs.Words.{holds, wordsIn, word-row}

@@ -7,7 +7,7 @@ ghost use Rattle.register.specs.Words.{flat};
 ghost use Rattle.register.specs.Encode.{recordWords};
 ghost use Rattle.register_change.specs.Bytes.{lowerWord, lowerExports, lowerRecord};
 ghost use Rattle.register_change.specs.Lower.{Records};
-use register::check;
+use register::record;
 
 // Lowers the word at `place` by d.
 pub(crate) fn lower_word(bytes: &mut [u8], place: usize, d: u32)
@@ -50,7 +50,7 @@ pub(crate) fn lower_records(bytes: &mut [u8], d: u32)
 {
     let mut place: usize = 0;
     while place < bytes.len() {
-        let size = 4 * check::module_size(&bytes[place..]);
+        let size = 4 * record::module_size(&bytes[place..]);
         lower_record(bytes, place, d);
         place += size;
     }

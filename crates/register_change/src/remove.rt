@@ -10,7 +10,7 @@ ghost use Rattle.register_change.specs.Lower.{Records};
 ghost use Rattle.register_change.specs.Remove.{Stands, remaining};
 use crate::gap;
 use crate::lower;
-use register::check;
+use register::record;
 
 // Where the names end of the record before `next`: at the next record's own, or with the last ones.
 fn names_end(records: &[u8], next: usize) -> u32
@@ -53,7 +53,7 @@ pub fn remove_record(records: &mut [u8], names: &mut [u8], place: usize)
     ensures { λ _. ⌜ ((s : Stands (now (records .entry)) (now (names .entry)) place)
         → (now (records .exit), now (names .exit)) ≡ remaining s) ⌝ }
 {
-    let size = 4 * check::module_size(&records[place..]);
+    let size = 4 * record::module_size(&records[place..]);
     let first = window::load32(records, place + 12);
     let gap = names_end(records, place + size) - first;
     cut_record(records, place, size, gap);

@@ -9,7 +9,7 @@ use lib.Dec.{ltb, leb}
 use borrow.Author.Tests.{leb-true}
 use Rattle.window.specs.Memory.{if_then_else_}
 use Rattle.window.specs.Tests.{both}
-use Rattle.window.specs.Name.{isName}
+use Rattle.name.specs.Name.{isName}
 use Rattle.register.specs.Module.{Module, Register, proper, properModule, properModules, properNames, named-ok, distinct}
 use Rattle.register.specs.Encode.{flag}
 use Rattle.register.specs.Proper.{proper-parts}

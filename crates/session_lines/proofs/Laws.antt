@@ -11,7 +11,7 @@ use native.Mathlib.Numerals.{add-one}
 use lib.Dec.{leb}
 use borrow.Author.Tests.{leb-true}
 use Rattle.window.specs.Tests.{both}
-use Rattle.window.specs.Name.{noZero, isName}
+use Rattle.name.specs.Name.{noZero, isName}
 use Rattle.register.specs.Words.{part, wordsIn}
 use Rattle.register.specs.Module.{Module, properModule}
 use Rattle.register.specs.Encode.{flag}

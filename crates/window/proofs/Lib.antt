@@ -1,3 +1,2 @@
 -- What the proofs of `window` share.
 pub mod Laws
-pub mod Names

@@ -9,4 +9,3 @@ pub mod Small
 pub mod Loop
 pub mod Within
 pub mod Mirror
-pub mod Name

@@ -1,6 +1,5 @@
 // A window on a 32-bit address space: its first address `at` and its bytes `w`. Every sum of addresses wraps at 2^32.
 // The test of a window and the five accesses stand here, names in `name`; no other crate indexes a window.
-pub mod name;
 
 ghost use mathlib.Core.Path.{_≡_};
 ghost use mathlib.Core.Bool.{_&&_};

@@ -1,4 +1,5 @@
 -- The write at the wrapped sum: `setField-word`.
+use mathlib.Core.Path.{sym, _∙_}
 use borrow.Author.Needs.{needs}
 use Rattle.layout.specs.Segments.{setField-word}
 use Rattle.layout.proofs.fields.set_field.Statement.{statement}
@@ -15,8 +16,9 @@ same-length c = search needs
 
 returns : tie.Need-returns
 returns c =
-    let a = c .before .before .before .before .before .before .args in
-    cc (setField-word (a .at) (a .base) (a .offset) (a .w .now) (a .value))
+    let b₂ = c .before .before in
+    let a = b₂ .before .before .before .before .args in
+    b₂ .write32 .ensures ∙ rw (b₂ .before .wrapping-add-u32 .ensures) (sym (setField-word (a .at) (a .base) (a .offset) (a .w .now) (a .value)))
 
 pub set-field-spec : {M : Type 1} → statement M
 set-field-spec =

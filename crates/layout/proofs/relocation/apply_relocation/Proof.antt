@@ -1,5 +1,5 @@
 -- By what the relocation writes: `relocation-nothing` and `word-written`.
-use mathlib.Core.Path.{sym}
+use mathlib.Core.Path.{sym, _∙_}
 use borrow.Author.Needs.{needs}
 use Rattle.layout.specs.Relocation.{relocation-nothing}
 use Rattle.layout.proofs.Laws.{word-written}
@@ -18,7 +18,8 @@ enum-told c = search needs
 returns : tie.Need-returns
 returns c =
     let a = c .before .before .before .before .args in
-    sym (relocation-nothing (a .at) (a .target) (a .kind) (a .addend) (a .symbol) (a .target-final) (a .w .now) (cc))
+    sym (relocation-nothing (a .at) (a .target) (a .kind) (a .addend) (a .symbol) (a .target-final) (a .w .now)
+    (sym (c .before .before .relocated-word .ensures) ∙ c .enum-told .given .1))
 
 write32-privileged-requires : tie.Need-write32-privileged-requires
 write32-privileged-requires c κs = search needs

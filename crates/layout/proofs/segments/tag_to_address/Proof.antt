@@ -2,7 +2,7 @@
 use mathlib.Core.Path.{sym}
 use borrow.Author.Needs.{needs}
 use Rattle.layout.specs.Segments.{tag-missing, tag-past}
-use Rattle.layout.proofs.Laws.{tag-found}
+use Rattle.layout.proofs.Laws.{tag-segment, tag-found}
 use Rattle.layout.proofs.segments.tag_to_address.Statement.{statement}
 use Rattle.layout.proofs.segments.tag_to_address.Tie as tie
 
@@ -20,8 +20,9 @@ enum-told c = search needs
 
 returns : tie.Need-returns
 returns c =
-    let a = c .before .before .before .before .before .args in
-    sym (tag-missing (a .at) (a .base) (a .tag .0) (a .w .now) (cc))
+    let b₂ = c .before .before in
+    let a = b₂ .before .before .before .args in
+    sym (tag-missing (a .at) (a .base) (a .tag .0) (a .w .now) (tag-segment (a .at) (a .base) (a .w .now) (b₂ .before .segment .ensures) (b₂ .segment2 .ensures) (c .enum-told .given .1)))
 
 offset-requires : tie.Need-offset-requires
 offset-requires c κs = search needs
@@ -29,18 +30,21 @@ offset-requires c κs = search needs
 returns-2 : tie.Need-returns-2
 returns-2 c =
     let k = c .before .before .before .before in
-    let a = k .before .before .before .before .before .args in
-    sym (tag-past (a .at) (a .base) (a .tag .0) (a .w .now) {s = k .entry .given .0 .0} (cc) (search needs))
+    let b₆ = k .before .before in
+    let a = b₆ .before .before .before .args in
+    sym (tag-past (a .at) (a .base) (a .tag .0) (a .w .now) {s = k .entry .given .0 .0}
+    (tag-segment (a .at) (a .base) (a .w .now) (b₆ .before .segment .ensures) (b₆ .segment2 .ensures) (k .entry .given .1)) (search needs))
 
 wrapping-add-u32-requires : tie.Need-wrapping-add-u32-requires
 wrapping-add-u32-requires c κs = search needs
 
 returns-3 : tie.Need-returns-3
 returns-3 c =
-    let b₄ = c .before .before .before .before in
-    let b₈ = b₄ .before .before .before .before in
-    let a = b₈ .before .before .args in
-    tag-found (a .at) (a .base) (a .tag .0) (a .w .now) (b₄ .before .entry .given .0 .0) (cc) (c .before .before .before .offset .ensures)
+    let b₅ = c .before .before .before .before .before in
+    let b₇ = b₅ .before .before in
+    let a = b₇ .before .before .before .args in
+    tag-found (a .at) (a .base) (a .tag .0) (a .w .now) (b₅ .entry .given .0 .0)
+    (tag-segment (a .at) (a .base) (a .w .now) (b₇ .before .segment .ensures) (b₇ .segment2 .ensures) (b₅ .entry .given .1)) (c .before .before .before .offset .ensures)
     (c .before .if1 .left) (c .wrapping-add-u32 .ensures)
 
 pub tag-to-address-spec : {M : Type 1} → statement M

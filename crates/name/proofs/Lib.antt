@@ -1,0 +1,2 @@
+-- What the proofs of `name` share.
+pub mod Laws

@@ -1,0 +1,2 @@
+-- What the proofs of `register_begin` share.
+mod Laws

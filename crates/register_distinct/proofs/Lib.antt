@@ -1,0 +1,2 @@
+-- What the proofs of `register_distinct` share.
+mod Laws

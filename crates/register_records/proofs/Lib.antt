@@ -1,0 +1,3 @@
+-- What the proofs of `register_records` share.
+mod Laws
+mod Loops

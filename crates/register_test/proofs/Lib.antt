@@ -1,0 +1,3 @@
+-- What the proofs of `register_test` share.
+mod Laws
+mod Contents
