@@ -1,9 +1,9 @@
 -- By cases: no target segment, an offset at or past its size, no symbol segment, both there.
 use mathlib.Core.Path.{sym, _∙_}
 use borrow.Author.Needs.{needs}
-use Rattle.linker_relocation.proofs.Laws.{into-missing, into-past, from-missing, from-found}
-use Rattle.linker_relocation.proofs.internal.apply_internal_relocation.Statement.{statement}
-use Rattle.linker_relocation.proofs.internal.apply_internal_relocation.Tie as tie
+use Rattle.linker_internal.proofs.Laws.{into-missing, into-past, from-missing, from-found}
+use Rattle.linker_internal.proofs.apply_internal_relocation.Statement.{statement}
+use Rattle.linker_internal.proofs.apply_internal_relocation.Tie as tie
 
 read32-requires : tie.Need-read32-requires
 read32-requires c κs = search needs

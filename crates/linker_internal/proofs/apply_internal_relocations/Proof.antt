@@ -9,10 +9,10 @@ use Rattle.window.specs.Loop.{loop}
 use Rattle.layout.specs.Header.{relocationEntrySize}
 use Rattle.layout.specs.Segments.{entryAt}
 use Rattle.linker.specs.Relocation.{applyInternalRelocation, applyInternalRelocations}
 use Rattle.linker_relocation.specs.Runs.{step-made, steps-over}
-use Rattle.linker_relocation.proofs.Laws.{internal-starts}
-use Rattle.linker_relocation.proofs.internal.apply_internal_relocations.Statement.{statement}
-use Rattle.linker_relocation.proofs.internal.apply_internal_relocations.Tie as tie
+use Rattle.linker_internal.proofs.Laws.{internal-starts}
+use Rattle.linker_internal.proofs.apply_internal_relocations.Statement.{statement}
+use Rattle.linker_internal.proofs.apply_internal_relocations.Tie as tie
 
 abbrev Inv-loop : tie.InvT-loop
 Inv-loop at w₀ base old table count index₀ w index =

@@ -1,8 +1,8 @@
 -- Each arm has the definition at its constructor.
 use borrow.Author.Needs.{needs}
 use Rattle.linker.specs.Relocation.{writePlace}
-use Rattle.linker_relocation.proofs.internal.write_place.Statement.{statement}
-use Rattle.linker_relocation.proofs.internal.write_place.Tie as tie
+use Rattle.linker_internal.proofs.write_place.Statement.{statement}
+use Rattle.linker_internal.proofs.write_place.Tie as tie
 
 enum-told : tie.Need-enum-told
 enum-told c = search needs
