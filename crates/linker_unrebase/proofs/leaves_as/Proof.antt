@@ -1,8 +1,8 @@
 -- Each arm has the definition at its kind.
 use borrow.Author.Needs.{needs}
-use Rattle.linker_rebase.proofs.Laws.{leaves-code, leaves-rodata, leaves-data, leaves-bss}
-use Rattle.linker_rebase.proofs.unrebase.leaves_as.Statement.{statement}
-use Rattle.linker_rebase.proofs.unrebase.leaves_as.Tie as tie
+use Rattle.linker_unrebase.proofs.Laws.{leaves-code, leaves-rodata, leaves-data, leaves-bss}
+use Rattle.linker_unrebase.proofs.leaves_as.Statement.{statement}
+use Rattle.linker_unrebase.proofs.leaves_as.Tie as tie
 
 enum-told : tie.Need-enum-told
 enum-told c = search needs

@@ -1,8 +1,8 @@
 -- The four steps in their order: `unrebased`.
 use borrow.Author.Needs.{needs}
-use Rattle.linker_rebase.proofs.Laws.{unrebased}
-use Rattle.linker_rebase.proofs.unrebase.unrebase.Statement.{statement}
-use Rattle.linker_rebase.proofs.unrebase.unrebase.Tie as tie
+use Rattle.linker_unrebase.proofs.Laws.{unrebased}
+use Rattle.linker_unrebase.proofs.unrebase.Statement.{statement}
+use Rattle.linker_unrebase.proofs.unrebase.Tie as tie
 
 move-tables-requires : tie.Need-move-tables-requires
 move-tables-requires c κs = search needs

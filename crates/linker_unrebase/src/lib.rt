@@ -1,10 +1,7 @@
-// Unrebasing: an unloaded module gets its offsets back, as its file has them.
+// Unrebasing: an unloaded module gets its offsets back, as its file has them. The port of that part of cro/mod.rs.
 ghost use mathlib.Core.Path.{_≡_};
 ghost use Rattle.window.specs.Access.{run};
 ghost use Rattle.linker.specs.Unrebase.{offsetBack, leavesAs, unmoveSegment, unmoveSegments, unrebase};
-use super::segments::at_offset;
-use super::tables::move_tables;
-use super::words::move_header;
 use layout::fields::field;
 use layout::fields::set_field;
 use layout::format::Segment;
@@ -14,6 +11,9 @@ use layout::header::SEGMENT_NUM;
 use layout::segments::FoundSegment;
 use layout::segments::segment;
 use layout::segments::set_segment;
+use linker_rebase::segments::at_offset;
+use linker_rebase::tables::move_tables;
+use linker_rebase::words::move_header;
 
 // The offset that an address was, 0 where it is 0.
 fn offset_back(base: u32, x: u32) -> u32

@@ -1,8 +1,8 @@
 -- No address, or the difference that wraps.
 use borrow.Author.Needs.{needs}
-use Rattle.linker_rebase.proofs.Laws.{back-none, back-some}
-use Rattle.linker_rebase.proofs.unrebase.offset_back.Statement.{statement}
-use Rattle.linker_rebase.proofs.unrebase.offset_back.Tie as tie
+use Rattle.linker_unrebase.proofs.Laws.{back-none, back-some}
+use Rattle.linker_unrebase.proofs.offset_back.Statement.{statement}
+use Rattle.linker_unrebase.proofs.offset_back.Tie as tie
 
 returns : tie.Need-returns
 returns c =

@@ -1,9 +1,9 @@
 -- No such segment, or its offset back.
 use mathlib.Core.Path.{sym, _∙_}
 use borrow.Author.Needs.{needs}
-use Rattle.linker_rebase.proofs.Laws.{unmove-passed, unmoved}
-use Rattle.linker_rebase.proofs.unrebase.unmove_segment.Statement.{statement}
-use Rattle.linker_rebase.proofs.unrebase.unmove_segment.Tie as tie
+use Rattle.linker_unrebase.proofs.Laws.{unmove-passed, unmoved}
+use Rattle.linker_unrebase.proofs.unmove_segment.Statement.{statement}
+use Rattle.linker_unrebase.proofs.unmove_segment.Tie as tie
 
 segment-requires : tie.Need-segment-requires
 segment-requires c κs = search needs

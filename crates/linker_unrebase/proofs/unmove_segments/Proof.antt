@@ -8,9 +8,9 @@ use Rattle.window.specs.Access.{run}
 use Rattle.window.specs.Loop.{loop}
 use Rattle.linker.specs.Unrebase.{unmoveSegment, unmoveSegments}
 use Rattle.linker_relocation.specs.Runs.{step-made, steps-over}
-use Rattle.linker_rebase.proofs.Laws.{unmove-starts}
-use Rattle.linker_rebase.proofs.unrebase.unmove_segments.Statement.{statement}
-use Rattle.linker_rebase.proofs.unrebase.unmove_segments.Tie as tie
+use Rattle.linker_unrebase.proofs.Laws.{unmove-starts}
+use Rattle.linker_unrebase.proofs.unmove_segments.Statement.{statement}
+use Rattle.linker_unrebase.proofs.unmove_segments.Tie as tie
 
 abbrev Inv-loop : tie.InvT-loop
 Inv-loop at w₀ base count index₀ w index =
