@@ -1,7 +1,7 @@
 use borrow.Author.Needs.{needs}
-use Rattle.linker_imports.proofs.Laws.{no-batch, batch-waits}
-use Rattle.linker_imports.proofs.batch.is_unresolved.Statement.{statement}
-use Rattle.linker_imports.proofs.batch.is_unresolved.Tie as tie
+use Rattle.linker_sources.proofs.Laws.{no-batch, batch-waits}
+use Rattle.linker_sources.proofs.batch.is_unresolved.Statement.{statement}
+use Rattle.linker_sources.proofs.batch.is_unresolved.Tie as tie
 
 returns : tie.Need-returns
 returns c =

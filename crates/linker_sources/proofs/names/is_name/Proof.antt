@@ -1,9 +1,9 @@
 use borrow.Author.Needs.{needs}
 use mathlib.Core.Path.{ap, _∙_}
 use Rattle.register.specs.Words.{same}
-use Rattle.linker_imports.proofs.Laws.{name-fits, name-is, name-taken}
-use Rattle.linker_imports.proofs.names.is_name.Statement.{statement}
-use Rattle.linker_imports.proofs.names.is_name.Tie as tie
+use Rattle.linker_sources.specs.Laws.{name-fits, name-is, name-taken}
+use Rattle.linker_sources.proofs.names.is_name.Statement.{statement}
+use Rattle.linker_sources.proofs.names.is_name.Tie as tie
 
 read-name-requires : tie.Need-read-name-requires
 read-name-requires c κs = search needs

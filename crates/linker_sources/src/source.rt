@@ -6,7 +6,7 @@ ghost use Prim.Native.Nat.{ℕ};
 ghost use Rattle.window.specs.Access.{run};
 ghost use Rattle.register_read.specs.Read.{moduleAt};
 ghost use Rattle.linker.specs.Imports.{anonymousOf, importFrom, importsOf};
-ghost use Rattle.linker_imports.specs.Source.{symbolOf, importTable};
+ghost use Rattle.linker_sources.specs.Source.{symbolOf, importTable};
 use super::batch::is_unresolved;
 use super::batch::resolve;
 use layout::fields::entry_address;

@@ -1,9 +1,9 @@
 -- By whether the record has the tag's segment.
 use borrow.Author.Needs.{needs}
 use Rattle.register_read.specs.Read.{moduleAt}
-use Rattle.linker_imports.proofs.Laws.{anonymous-none, anonymous-some}
-use Rattle.linker_imports.proofs.source.anonymous_address.Statement.{statement}
-use Rattle.linker_imports.proofs.source.anonymous_address.Tie as tie
+use Rattle.linker_sources.proofs.Laws.{anonymous-none, anonymous-some}
+use Rattle.linker_sources.proofs.source.anonymous_address.Statement.{statement}
+use Rattle.linker_sources.proofs.source.anonymous_address.Tie as tie
 
 segment-requires : tie.Need-segment-requires
 segment-requires c κs = search needs

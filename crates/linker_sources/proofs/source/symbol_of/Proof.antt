@@ -1,9 +1,9 @@
 -- One arm a table.
 use borrow.Author.Needs.{needs}
 use Rattle.register_read.specs.Read.{moduleAt}
-use Rattle.linker_imports.proofs.Laws.{symbol-indexed, symbol-anonymous}
-use Rattle.linker_imports.proofs.source.symbol_of.Statement.{statement}
-use Rattle.linker_imports.proofs.source.symbol_of.Tie as tie
+use Rattle.linker_sources.proofs.Laws.{symbol-indexed, symbol-anonymous}
+use Rattle.linker_sources.proofs.source.symbol_of.Statement.{statement}
+use Rattle.linker_sources.proofs.source.symbol_of.Tie as tie
 
 enum-told : tie.Need-enum-told
 enum-told c = search needs

@@ -1,10 +1,10 @@
 -- By whether the batch waits.
 use borrow.Author.Needs.{needs}
 use Rattle.register_read.specs.Read.{moduleAt}
-use Rattle.linker_imports.specs.Source.{symbolOf}
-use Rattle.linker_imports.proofs.Laws.{from-waits, from-passed}
-use Rattle.linker_imports.proofs.source.import_from.Statement.{statement}
-use Rattle.linker_imports.proofs.source.import_from.Tie as tie
+use Rattle.linker_sources.specs.Source.{symbolOf}
+use Rattle.linker_sources.proofs.Laws.{from-waits, from-passed}
+use Rattle.linker_sources.proofs.source.import_from.Statement.{statement}
+use Rattle.linker_sources.proofs.source.import_from.Tie as tie
 
 read32-requires : tie.Need-read32-requires
 read32-requires c κs = search needs

@@ -1,9 +1,9 @@
 -- Both tables, their places and counts read first.
 use borrow.Author.Needs.{needs}
 use Rattle.register_read.specs.Read.{moduleAt}
-use Rattle.linker_imports.proofs.Laws.{tables-made}
-use Rattle.linker_imports.proofs.source.imports_of.Statement.{statement}
-use Rattle.linker_imports.proofs.source.imports_of.Tie as tie
+use Rattle.linker_sources.proofs.Laws.{tables-made}
+use Rattle.linker_sources.proofs.source.imports_of.Statement.{statement}
+use Rattle.linker_sources.proofs.source.imports_of.Tie as tie
 
 wrapping-add-u32-requires : tie.Need-wrapping-add-u32-requires
 wrapping-add-u32-requires c κs = search needs

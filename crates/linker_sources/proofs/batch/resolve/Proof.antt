@@ -1,7 +1,7 @@
 use borrow.Author.Needs.{needs}
-use Rattle.linker_imports.proofs.Laws.{unresolved-stays, resolved-by}
-use Rattle.linker_imports.proofs.batch.resolve.Statement.{statement}
-use Rattle.linker_imports.proofs.batch.resolve.Tie as tie
+use Rattle.linker_sources.specs.Laws.{unresolved-stays, resolved-by}
+use Rattle.linker_sources.proofs.batch.resolve.Statement.{statement}
+use Rattle.linker_sources.proofs.batch.resolve.Tie as tie
 
 enum-known-symbol : tie.Need-enum-known-symbol
 enum-known-symbol c = search needs

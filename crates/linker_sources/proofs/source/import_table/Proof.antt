@@ -12,10 +12,10 @@ use Rattle.layout.specs.Segments.{entryAt}
 use Rattle.register_read.specs.Read.{moduleAt}
 use Rattle.linker.specs.Imports.{importFrom}
 use Rattle.linker_relocation.specs.Runs.{step-made, steps-over}
-use Rattle.linker_imports.specs.Source.{symbolOf, importTable}
-use Rattle.linker_imports.proofs.Laws.{table-starts}
-use Rattle.linker_imports.proofs.source.import_table.Statement.{statement}
-use Rattle.linker_imports.proofs.source.import_table.Tie as tie
+use Rattle.linker_sources.specs.Source.{symbolOf, importTable}
+use Rattle.linker_sources.proofs.Laws.{table-starts}
+use Rattle.linker_sources.proofs.source.import_table.Statement.{statement}
+use Rattle.linker_sources.proofs.source.import_table.Tie as tie
 
 abbrev Inv-loop : tie.InvT-loop
 Inv-loop at w₀ records place kind base table count index₀ w index =
