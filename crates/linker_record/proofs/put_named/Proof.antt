@@ -1,7 +1,7 @@
 use borrow.Author.Needs.{needs}
-use Rattle.linker_exports.proofs.Laws.{laid-name, put-kept}
-use Rattle.linker_exports.proofs.put_named.Statement.{statement}
-use Rattle.linker_exports.proofs.put_named.Tie as tie
+use Rattle.linker_record.proofs.Laws.{laid-name, put-kept}
+use Rattle.linker_record.proofs.put_named.Statement.{statement}
+use Rattle.linker_record.proofs.put_named.Tie as tie
 
 read-name-requires : tie.Need-read-name-requires
 read-name-requires c κs = search needs

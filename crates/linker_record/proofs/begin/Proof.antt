@@ -1,9 +1,9 @@
 use mathlib.Core.Path.{ap, _∙_}
 use borrow.Author.Needs.{needs}
 use Rattle.register_append.specs.Draft.{beginRecord}
-use Rattle.linker_exports.proofs.Laws.{laid-name, own-name}
-use Rattle.linker_exports.proofs.begin.Statement.{statement}
-use Rattle.linker_exports.proofs.begin.Tie as tie
+use Rattle.linker_record.proofs.Laws.{laid-name, own-name}
+use Rattle.linker_record.proofs.begin.Statement.{statement}
+use Rattle.linker_record.proofs.begin.Tie as tie
 
 field-requires : tie.Need-field-requires
 field-requires c κs = search needs

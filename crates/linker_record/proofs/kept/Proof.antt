@@ -1,7 +1,7 @@
 use borrow.Author.Needs.{needs}
-use Rattle.linker_exports.proofs.Laws.{kept-full, kept-open}
-use Rattle.linker_exports.proofs.kept.Statement.{statement}
-use Rattle.linker_exports.proofs.kept.Tie as tie
+use Rattle.linker_record.proofs.Laws.{kept-full, kept-open}
+use Rattle.linker_record.proofs.kept.Statement.{statement}
+use Rattle.linker_record.proofs.kept.Tie as tie
 
 enum-told : tie.Need-enum-told
 enum-told c = search needs

@@ -1,9 +1,9 @@
 use mathlib.Core.Path.{sym, ap, _∙_}
 use borrow.Author.Needs.{needs}
 use Rattle.linker.specs.Relocation.{addressOr0}
-use Rattle.linker_exports.proofs.Laws.{indexed-at}
-use Rattle.linker_exports.proofs.indexed_address.Statement.{statement}
-use Rattle.linker_exports.proofs.indexed_address.Tie as tie
+use Rattle.linker_record.proofs.Laws.{indexed-at}
+use Rattle.linker_record.proofs.indexed_address.Statement.{statement}
+use Rattle.linker_record.proofs.indexed_address.Tie as tie
 
 read32-requires : tie.Need-read32-requires
 read32-requires c κs = search needs

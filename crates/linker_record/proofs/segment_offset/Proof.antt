@@ -1,8 +1,8 @@
 use mathlib.Core.Path.{sym, ap, _∙_}
 use borrow.Author.Needs.{needs}
 use Rattle.linker.specs.Exports.{offsetOr0}
-use Rattle.linker_exports.proofs.segment_offset.Statement.{statement}
-use Rattle.linker_exports.proofs.segment_offset.Tie as tie
+use Rattle.linker_record.proofs.segment_offset.Statement.{statement}
+use Rattle.linker_record.proofs.segment_offset.Tie as tie
 
 segment-requires : tie.Need-segment-requires
 segment-requires c κs = search needs

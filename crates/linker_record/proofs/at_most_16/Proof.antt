@@ -1,6 +1,6 @@
-use Rattle.linker_exports.proofs.Laws.{at-most, at-most-all}
-use Rattle.linker_exports.proofs.at_most_16.Statement.{statement}
-use Rattle.linker_exports.proofs.at_most_16.Tie as tie
+use Rattle.linker_record.proofs.Laws.{at-most, at-most-all}
+use Rattle.linker_record.proofs.at_most_16.Statement.{statement}
+use Rattle.linker_record.proofs.at_most_16.Tie as tie
 
 returns : tie.Need-returns
 returns c = at-most _ (c .if1 .taken)
