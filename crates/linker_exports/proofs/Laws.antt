@@ -1,15 +1,13 @@
 -- From the code's steps and loops to `Turns`.
 use Prim.Native.Nat.{ℕ, suc, _+_, _-_, _^_, _≤_, _<_}
 use mathlib.Core.Path.{_≡_, sym, ap, _∙_, subst}
-use mathlib.Core.List.{List, [], _++_}
+use mathlib.Core.List.{List, []}
 use native.Mathlib.Omega.{arith}
-use lib.ListN.{length, take, drop, length-append}
-use lib.Seq.{length-take-le, take-append-seam}
-use borrow.Author.Tests.{lt-ltb, le-ltb}
+use lib.ListN.{length}
 use Rattle.window.specs.Memory.{_⊕_, wordAt}
 use Rattle.window.specs.Access.{run}
-use Rattle.name.specs.Name.{nameAt, laidOver}
-use Rattle.layout.specs.Header.{exportNamedSymbolTableOffset, exportNamedSymbolNum, exportNamedSymbolEntrySize, exportIndexedSymbolTableOffset, exportIndexedSymbolNum, exportIndexedSymbolEntrySize, segmentNum, moduleNameOffset}
+use Rattle.name.specs.Name.{nameAt}
+use Rattle.layout.specs.Header.{exportNamedSymbolTableOffset, exportNamedSymbolNum, exportNamedSymbolEntrySize, exportIndexedSymbolTableOffset, exportIndexedSymbolNum, exportIndexedSymbolEntrySize, segmentNum}
 use Rattle.layout.specs.Segments.{field, field-word, entryAt, tagToAddress}
 use Rattle.layout.specs.declared.segments.Address.{Address}
 use Rattle.layout.specs.declared.segments.Address.the-variants.{At, Nowhere}
@@ -19,34 +17,13 @@ use Rattle.register.specs.Change.{withSegment, withIndexed, withExport, putName
 use Rattle.register_append.specs.declared.draft.Draft.{Draft}
 use Rattle.register_append.specs.declared.draft.Drafted.{Drafted}
 use Rattle.register_append.specs.declared.draft.Drafted.the-variants.{Open, Full}
-use Rattle.register_append.specs.Draft.{pushListed, putExport, givenUp}
+use Rattle.register_append.specs.Draft.{pushListed}
 use Rattle.linker.specs.Relocation.{addressOr0}
 use Rattle.linker.specs.Exports.{readSegments, namedExports, indexedExports, putUsable}
-use Rattle.linker_exports.specs.Read.{headerWord, segmentOf, segmentsTo, length-segments, namedEntry, nameOf, addressOf, namedTo, named-gives, indexedEntry, indexedOf, indexedTo, indexed-gives, atMost16, segments-give, ownName}
-use Rattle.linker_exports.specs.Writing.{Ground, Writing, Grows, tried, putTried, writing-is, segment-tried, indexed-tried, export-tried}
+use Rattle.linker_record.specs.Read.{headerWord, segmentOf, segmentsTo, length-segments, namedEntry, nameOf, addressOf, namedTo, named-gives, indexedEntry, indexedOf, indexedTo, indexed-gives, atMost16, segments-give}
+use Rattle.linker_record.specs.Tried.{tried, putTried}
+use Rattle.linker_exports.specs.Writing.{Ground, Writing, Grows, writing-is, segment-tried, indexed-tried, export-tried}
 use Rattle.linker_exports.specs.Modules.{withSegments, withNamed, withIndexeds, segments-more, indexeds-more, named-more, segments-rest, named-rest, segments-grow, indexeds-grow, named-grow, named-longer, named-ok-to, length-indexed, full-greater, Turns, Bare, Unindexed, Any}
-
--- a step kept or given up
-
-pub kept-full
-    : (d : Draft) (after : Drafted) (rs ns : List ℕ) {rs′ ns′ : List ℕ} → after ≡ Full → _≡_ {A = List ℕ × List ℕ} (rs′, ns′) (givenUp rs ns d)
-    → _≡_ {A = Drafted × List ℕ × List ℕ} (Full, rs′, ns′) (tried d after rs ns)
-unfolding tried
-kept-full d after rs ns e f = rw e (ap (λ (t : List ℕ × List ℕ). (Full, t .0, t .1)) f)
-
-pub kept-open
-    : (d : Draft) (after : Drafted) (rs ns : List ℕ) (next : Draft) → after ≡ Open next
-    → _≡_ {A = Drafted × List ℕ × List ℕ} (Open next, rs, ns) (tried d after rs ns)
-unfolding tried
-kept-open d after rs ns next e = rw e
-
-pub at-most : (n : ℕ) → 16 < n → 16 ≡ atMost16 n
-unfolding atMost16
-at-most n h = rw (lt-ltb 16 n h)
-
-pub at-most-all : (n : ℕ) → n ≤ 16 → n ≡ atMost16 n
-unfolding atMost16
-at-most-all n h = rw (le-ltb 16 n h)
 
 -- a loop whose turn i makes F m (i + 1) of F m i
 
@@ -110,35 +87,7 @@ module _ (at : ℕ) (w : List ℕ) (base : ℕ) where
       subst (λ xs. Writing g (withSegments m xs) r rs ns)
       (ap (segmentsTo at w base) e ∙ sym (ap (λ (x : List ℕ × List ℕ). x .0) (segments-give at w base))) (t g m p h)
 
--- a name in a buffer
-pub laid-name
-    : (name buffer : List ℕ) {n : ℕ} {buf : List ℕ} → _≡_ {A = ℕ × List ℕ} (n, buf) (laidOver name buffer)
-    → (n ≤ length buf) × (n ≡ length (take n buf)) × (take n buf ≡ name)
-unfolding laidOver
-laid-name name buffer {n} {buf} e =
-    let a : n ≡ length name = ap (λ (t : ℕ × List ℕ). t .0) e in
-    let b : buf ≡ name ++ drop (length name) buffer = ap (λ (t : ℕ × List ℕ). t .1) e in
-    let l : n ≤ length buf = rw (a, b) (omega (arith, length-append name (drop (length name) buffer))) in
-    (l, sym (length-take-le n buf l), rw (a, b) (take-append-seam name (drop (length name) buffer)))
-
-pub own-name : (at : ℕ) (w : List ℕ) (base : ℕ) {p : ℕ} → p ≡ run at (field base moduleNameOffset) w .0 → run at (nameAt p) w .0 ≡ ownName at w base
-own-name at w base e = ap (λ p. run at (nameAt p) w .0) (e ∙ field-word at base moduleNameOffset w)
-
-pub put-kept
-    : (d : Draft) (rs ns name : List ℕ) (a : ℕ) {name′ : List ℕ} {after r : Drafted} {rs₁ ns₁ rs₂ ns₂ : List ℕ} → name′ ≡ name
-    → _≡_ {A = Drafted × List ℕ × List ℕ} (after, rs₁, ns₁) (putExport rs ns d name′ a)
-    → _≡_ {A = Drafted × List ℕ × List ℕ} (r, rs₂, ns₂) (tried d after rs₁ ns₁)
-    → _≡_ {A = Drafted × List ℕ × List ℕ} (r, rs₂, ns₂) (putTried d rs ns name a)
-unfolding putTried
-put-kept d rs ns name a en ep et =
-    et ∙ ap (λ (t : Drafted × List ℕ × List ℕ). tried d (t .0) (t .1) (t .2)) (ep ∙ ap (λ t. putExport rs ns d t a) en)
-
 -- indexed exports
-
-pub indexed-at
-    : (at : ℕ) (w : List ℕ) (base entry : ℕ) {tag : ℕ} {x : Address} → tag ≡ wordAt at w entry → x ≡ run at (tagToAddress base tag) w .0
-    → addressOr0 x ≡ addressOr0 (run at (tagToAddress base (wordAt at w entry)) w .0)
-indexed-at at w base entry et ex = ap addressOr0 (ex ∙ ap (λ t. run at (tagToAddress base t) w .0) et)
 
 module _ (at : ℕ) (w : List ℕ) (base : ℕ) where
   abbrev pub Indexeds : Module → ℕ → Module

@@ -19,7 +19,7 @@ use Rattle.linker.specs.Exports.{readSegments, namedExports, indexedExports, re
 use Rattle.linker.specs.Calls.{fits}
 use Rattle.linker_exports.specs.declared.Indexed.{Indexed}
 use Rattle.linker_exports.specs.declared.Indexed.the-variants.{Appended, NoRoom}
-use Rattle.linker_exports.specs.Read.{ownName, module-is}
+use Rattle.linker_record.specs.Read.{ownName, module-is}
 use Rattle.linker_exports.specs.Writing.{Ground, Writing, fits-roomy, holding, finishes, stays, writing-is, begin-writing}
 use Rattle.linker_exports.specs.Proper.{module-proper}
 use Rattle.linker_exports.specs.Modules.{withSegments, withNamed, withIndexeds, Turns, Empty, Lists, full-lists}

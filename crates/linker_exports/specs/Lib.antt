@@ -1,5 +1,4 @@
 -- The record of a module, read from its image and written after the last one.
-pub mod Read
 pub mod Writing
 pub mod Modules
 pub mod Proper

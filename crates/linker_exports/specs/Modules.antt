@@ -1,5 +1,5 @@
 -- A module with lists in place of its own, one entry longer, and that a longer list needs no less room.
-use Prim.Native.Nat.{ℕ, zero, suc, _+_, _-_, _≤_}
+use Prim.Native.Nat.{ℕ, zero, suc, _+_, _≤_}
 use mathlib.Core.Path.{_≡_, refl, sym, ap, _∙_, subst}
 use mathlib.Core.List.{List, [], _∷_, _++_}
 use mathlib.Core.Bool.{Bool, true, false}
@@ -19,7 +19,7 @@ use Rattle.register_append.specs.declared.draft.Drafted.{Drafted}
 use Rattle.register_append.specs.declared.draft.Drafted.the-variants.{Open, Full}
 use Rattle.register_append.specs.Held.{words-long}
 use Rattle.linker.specs.Exports.{putUsable}
-use Rattle.linker_exports.specs.Read.{namedTo, indexedTo, indexedOf, nameOf, addressOf}
+use Rattle.linker_record.specs.Read.{namedTo, indexedTo, indexedOf, nameOf, addressOf}
 use Rattle.linker_exports.specs.Writing.{Ground, Writing, Grows, named, none-greater}
 
 unfoldable pub withSegments : Module → List ℕ → Module

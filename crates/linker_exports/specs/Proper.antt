@@ -21,7 +21,7 @@ use Rattle.register.specs.Change.{putNamed}
 use Rattle.register.specs.declared.exports.Found.{Found}
 use Rattle.register.specs.declared.exports.Found.the-variants.{At, Nothing}
 use Rattle.linker.specs.Exports.{putUsable, namedExports, readSegments, readModule}
-use Rattle.linker_exports.specs.Read.{headerWord, segmentsTo, length-segments, atMost16, segments-give, nameOf, addressOf, namedTo, named-gives, module-is}
+use Rattle.linker_record.specs.Read.{headerWord, segmentsTo, length-segments, atMost16, segments-give, nameOf, addressOf, namedTo, named-gives, module-is}
 use Rattle.linker_exports.specs.Modules.{named-ok-to}
 
 -- an export put leaves the names distinct

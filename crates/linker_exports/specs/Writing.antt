@@ -1,5 +1,5 @@
 -- A record that is being written on buffers that encode a register: it holds a module, or the module has no room and nothing changed.
-use Prim.Native.Nat.{ℕ, _+_, _-_, _*_, _^_, _≤_, _<_}
+use Prim.Native.Nat.{ℕ, _+_, _*_, _^_, _≤_, _<_}
 use mathlib.Core.Path.{_≡_, refl, sym, ap, _∙_, subst}
 use mathlib.Core.List.{List, [], _∷_, _++_, append-nil}
 use mathlib.Core.Bool.{Bool, true, false, _&&_}
@@ -21,12 +21,13 @@ use Rattle.register.specs.declared.exports.Found.the-variants.{At, Nothing}
 use Rattle.register_append.specs.declared.draft.Draft.{Draft}
 use Rattle.register_append.specs.declared.draft.Drafted.{Drafted}
 use Rattle.register_append.specs.declared.draft.Drafted.the-variants.{Open, Full}
-use Rattle.register_append.specs.Draft.{roomIn, longer, pushListed, addedTo, putExport, draftAt, beginRecord, finishRecord, givenUp}
+use Rattle.register_append.specs.Draft.{roomIn, longer, pushListed, addedTo, draftAt, beginRecord, finishRecord, givenUp}
 use Rattle.register_append.specs.Held.{Held, words-long, words-export, names-export}
 use Rattle.register_append.specs.Steps.{listed-none, step-segment, step-indexed, step-again, step-export, step-export-none}
 use Rattle.register_append.specs.Append.{words-append, names-append, finished, finished-names, given-up, begun, not-begun}
 use Rattle.register_append.specs.Stands.{stands, still-register}
 use Rattle.linker.specs.Calls.{fits}
+use Rattle.linker_record.specs.Tried.{tried, putTried}
 
 -- buffers that encode a register
 pub record Ground : Type 0 where
@@ -127,15 +128,6 @@ none-greater g m m′ h e =
     (omega (arith, h .words, leb-true (used g + 4 * length (moduleWords (named g) m′)) (roomIn (length (g .records))) (a .0))))
     (le-leb (named g + length (moduleNames m)) (roomIn (length (g .names)))
     (omega (arith, h .bytes, leb-true (named g + length (moduleNames m′)) (roomIn (length (g .names))) (a .1)))))
-
--- a step that had no room gives the record up
-unfoldable pub tried : Draft → Drafted → List ℕ → List ℕ → Drafted × List ℕ × List ℕ
-tried d (Open e) rs ns = (Open e, rs, ns)
-tried d Full rs ns = (Full, givenUp rs ns d .0, givenUp rs ns d .1)
-
--- an export put, or the record given up
-unfoldable pub putTried : Draft → List ℕ → List ℕ → List ℕ → ℕ → Drafted × List ℕ × List ℕ
-putTried d rs ns name a = tried d (putExport rs ns d name a .0) (putExport rs ns d name a .1) (putExport rs ns d name a .2)
 
 -- the words of a module with one thing more
 

@@ -4,17 +4,11 @@ ghost use mathlib.Core.Path.{_≡_};
 ghost use mathlib.Core.Bool.{true};
 ghost use mathlib.Core.List.{List, []};
 ghost use Prim.Native.Nat.{ℕ, _+_};
-ghost use Rattle.window.specs.Memory.{wordAt};
 ghost use Rattle.window.specs.Access.{run};
-ghost use Rattle.name.specs.Name.{nameAt};
 ghost use Rattle.layout.specs.Header.{exportNamedSymbolTableOffset, exportIndexedSymbolTableOffset};
-ghost use Rattle.layout.specs.Segments.{tagToAddress};
 ghost use Rattle.register.specs.Decode.{isRegister, registerOf};
-ghost use Rattle.register_append.specs.Draft.{beginRecord};
-ghost use Rattle.linker.specs.Relocation.{addressOr0};
 ghost use Rattle.linker.specs.Exports.{namedExports, indexedExports, readSegments, readModule};
-ghost use Rattle.linker_exports.specs.Read.{headerWord, segmentOf, segmentsTo, namedTo, indexedTo, atMost16, ownName};
-ghost use Rattle.linker_exports.specs.Writing.{tried, putTried};
+ghost use Rattle.linker_record.specs.Read.{headerWord, segmentsTo, namedTo, indexedTo};
 ghost use Rattle.linker_exports.specs.Modules.{withSegments, withNamed, withIndexeds, Turns, Bare, Unindexed, Empty, Any};
 ghost use Rattle.linker_exports.specs.Exported.{exported, registerWith};
 use layout::fields::entry_address;
@@ -25,7 +19,12 @@ use layout::format::SegmentTag;
 use layout::header;
 use layout::segments;
 use layout::segments::Address;
-use layout::segments::FoundSegment;
+use linker_record::at_most_16;
+use linker_record::begin;
+use linker_record::indexed_address;
+use linker_record::kept;
+use linker_record::put_named;
+use linker_record::segment_offset;
 use register_append::draft;
 use register_append::draft::Draft;
 use register_append::draft::Drafted;
@@ -34,39 +33,6 @@ use register_append::draft::Drafted;
 pub enum Indexed {
     Appended,
     NoRoom,
-}
-
-// The draft that a step gives; where the step had no room the record is given up.
-fn kept(records: &mut [u8], names: &mut [u8], before: Draft, after: Drafted) -> Drafted
-    ensures { λ r. ⌜ (r, now (records .exit), now (names .exit)) ≡ tried before after (now (records .entry)) (now (names .entry)) ⌝ }
-{
-    match after {
-        Drafted::Full => {
-            draft::give_up(records, names, before);
-            Drafted::Full
-        }
-        Drafted::Open(next) => Drafted::Open(next),
-    }
-}
-
-// The address of segment i, 0 where there is none.
-fn segment_offset(at: u32, w: &[u8], base: u32, i: u32) -> u32
-    ensures { λ r. ⌜ r ≡ segmentOf at (now (w .entry)) base i ⌝ }
-{
-    match segments::segment(at, w, base, i) {
-        FoundSegment::Found(entry) => entry.offset,
-        FoundSegment::Missing => 0,
-    }
-}
-
-// A record keeps 16 segments.
-fn at_most_16(n: u32) -> u32
-    ensures { λ r. ⌜ r ≡ atMost16 n ⌝ }
-{
-    if 16 < n {
-        return 16;
-    }
-    n
 }
 
 // Adds segment i.
@@ -115,17 +81,6 @@ fn add_segments(
         i += 1;
     }
     Drafted::Open(last)
-}
-
-// The address that the tag at `entry` gives, 0 where it gives none.
-fn indexed_address(at: u32, w: &[u8], base: u32, entry: u32) -> u32
-    ensures { λ r. ⌜ r ≡ addressOr0 (run at (tagToAddress base (wordAt at (now (w .entry)) entry)) (now (w .entry)) .0) ⌝ }
-{
-    let tag = SegmentTag(window::read32(at, w, entry));
-    match segments::tag_to_address(at, w, base, tag) {
-        Address::At(address) => address,
-        Address::Nowhere => 0,
-    }
 }
 
 // Adds the indexed export of entry i.
@@ -177,25 +132,6 @@ fn add_all_indexed(
         i += 1;
     }
     Drafted::Open(last)
-}
-
-// Gives the record the export of the name at `place`.
-fn put_named(
-    at: u32,
-    w: &[u8],
-    place: u32,
-    address: u32,
-    records: &mut [u8],
-    names: &mut [u8],
-    before: Draft,
-) -> Drafted
-    ensures { λ r. ⌜ (r, now (records .exit), now (names .exit))
-        ≡ putTried before (now (records .entry)) (now (names .entry)) (run at (nameAt place) (now (w .entry)) .0) address ⌝ }
-{
-    let mut buffer = [0u8; 512];
-    let count = name::read_name(at, w, place, &mut buffer);
-    let after = draft::put_export(records, names, before, &buffer[..count], address);
-    kept(records, names, before, after)
 }
 
 // Adds the named export of entry i, if its tag gives an address.
@@ -250,25 +186,6 @@ fn add_all_named(
         i += 1;
     }
     Drafted::Open(last)
-}
-
-// Begins the module's record with its own name.
-fn begin(
-    at: u32,
-    w: &[u8],
-    base: u32,
-    size: u32,
-    auto_link: bool,
-    records: &mut [u8],
-    names: &mut [u8],
-) -> Drafted
-    ensures { λ r. ⌜ (r, now (records .exit), now (names .exit))
-        ≡ beginRecord (now (records .entry)) (now (names .entry)) base size «auto_link» (ownName at (now (w .entry)) base) ⌝ }
-{
-    let mut buffer = [0u8; 512];
-    let place = field(at, w, base, header::MODULE_NAME_OFFSET);
-    let count = name::read_name(at, w, place, &mut buffer);
-    register_begin::begin_record(records, names, base, size, auto_link, &buffer[..count])
 }
 
 // Adds segments, named and indexed exports to a record that has its name.

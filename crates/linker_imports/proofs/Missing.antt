@@ -24,7 +24,8 @@ use Rattle.linker.specs.Imports.{isUnresolved, resolve, noted, importNamed, app
 use Rattle.linker.specs.Calls.{missingNow}
 use Rattle.linker_relocation.specs.Runs.{after-reads, turn-made, turns-over}
 use Rattle.linker_imports.specs.Missing.{Noted}
-use Rattle.linker_imports.proofs.Laws.{name-is, waiting-reads, first-read, unresolved-stays, resolved-by}
+use Rattle.linker_sources.specs.Laws.{name-is, waiting-reads, unresolved-stays, resolved-by}
+use Rattle.linker_imports.proofs.Laws.{first-read}
 
 -- one import
 

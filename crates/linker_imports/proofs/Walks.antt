@@ -11,7 +11,7 @@ use Rattle.register_read.specs.declared.Record.{Record}
 use Rattle.register_read.specs.Read.{moduleBytes, recordAt, recordEnd}
 use Rattle.linker.specs.Imports.{serve, applyExportsToLoaded}
 use Rattle.linker_imports.specs.Modules.{butLast}
-use Rattle.linker_imports.specs.Walks.{Going, going-goes, its-base}
+use Rattle.linker_sources.specs.Walks.{Going, going-goes, its-base}
 
 module _ (at : ℕ) (new : Module) where
   abbrev pub serving : ℕ → List Module → List ℕ → Unit {0} × List ℕ

@@ -1,5 +1,4 @@
 -- Laws that the proofs of `linker_imports` share.
-pub mod Source
+pub mod Served
 pub mod Missing
 pub mod Modules
-pub mod Walks

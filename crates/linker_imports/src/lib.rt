@@ -1,6 +1,3 @@
 // Imports: what a new module takes, and what it serves to the others. The port of that part of cro/mod.rs.
-pub mod batch;
-pub mod names;
 pub mod others;
 pub mod own;
-pub mod source;

@@ -6,9 +6,6 @@ ghost use Rattle.register.specs.Decode.{registerOf, isRegister};
 ghost use Rattle.register_read.specs.Read.{Encoded, modulesOf};
 ghost use Rattle.linker.specs.Imports.{importNamed, applyImportNamedSymbols, importModule, applyModuleImports};
 ghost use Rattle.linker_imports.specs.Missing.{Noted};
-use super::batch::is_unresolved;
-use super::names::module_by_name;
-use super::source::imports_of;
 use layout::fields::entry_address;
 use layout::fields::field;
 use layout::format::IMPORT_MODULE_ENTRY_SIZE;
@@ -18,11 +15,14 @@ use layout::header::IMPORT_MODULE_TABLE_OFFSET;
 use layout::header::IMPORT_NAMED_SYMBOL_NUM;
 use layout::header::IMPORT_NAMED_SYMBOL_TABLE_OFFSET;
 use linker_relocation::relocation::apply_relocation_batch;
-use name::read_name;
+use linker_sources::batch::is_unresolved;
+use linker_sources::names::module_by_name;
+use linker_sources::source::imports_of;
 use register::exports::Found;
 use register_change::missing::push_missing;
 use register_read::Symbol;
 use register_read::modules::lookup;
+use name::read_name;
 
 // One named import, if it still waits; a name that nothing provides is kept as missing.
 fn import_named(

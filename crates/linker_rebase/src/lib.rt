@@ -1,6 +1,5 @@
-// Rebasing a module, and taking that back: the port of that part of cro/mod.rs.
+// Rebasing a module: the port of that part of cro/mod.rs.
 pub mod rebase;
 pub mod segments;
 pub mod tables;
-pub mod unrebase;
 pub mod words;

@@ -12,7 +12,7 @@ use layout::header::MAGIC;
 use linker::rebase::Lent;
 use linker::rebase::Moved;
 use linker::rebase::Rebased;
-use linker_relocation::internal::apply_internal_relocations;
+use linker_internal::apply_internal_relocations;
 
 // Whether a word is `CRO0` or `CRS0`, lowest byte first.
 pub fn is_magic(word: u32) -> bool

@@ -1,24 +1,22 @@
 -- From the code's calls and branches to the programs of `Relocation`.
-use Prim.Native.Nat.{ℕ, suc, _+_, _-_, _<_, _≤_}
+use Prim.Native.Nat.{ℕ, suc, _+_, _-_, _<_}
 use mathlib.Core.Path.{_≡_, refl, sym, ap, _∙_}
 use mathlib.Core.List.{List}
 use mathlib.Core.Bool.{Bool, true, false, not}
 use native.Mathlib.Omega.{arith}
 use lib.Dec.{eqb}
 use mir.Val.{boolByte}
-use borrow.Author.Tests.{eq-eqb, ne-eqb, lt-ltb, le-ltb}
+use borrow.Author.Tests.{eq-eqb, ne-eqb}
 use Rattle.window.specs.Memory.{if_then_else_, _⊕_, byteAt, wordAt, putByte}
 use Rattle.window.specs.Access.{ret, _>>=_, _>>_, put8, run, run-bind, Reads, reads-bind}
 use Rattle.window.specs.Loop.{loop}
-use Rattle.layout.specs.Header.{internalRelocationTableOffset, internalRelocationNum, externalRelocationTableOffset, externalRelocationNum, relocationEntrySize, onUnresolvedSegmentTag}
-use Rattle.layout.specs.Format.{relocationType, tagSegment, tagOffset}
-use Rattle.layout.specs.Segments.{field, entryAt, segment, segment-reads, tagToAddress, tagToAddress-reads}
+use Rattle.layout.specs.Header.{externalRelocationTableOffset, externalRelocationNum, relocationEntrySize, onUnresolvedSegmentTag}
+use Rattle.layout.specs.Format.{relocationType}
+use Rattle.layout.specs.Segments.{field, entryAt, tagToAddress, tagToAddress-reads}
 use Rattle.layout.specs.Relocation.{applyRelocation}
 use Rattle.layout.specs.declared.format.RelocationType.{RelocationType}
-use Rattle.layout.specs.declared.format.Segment.{Segment}
-use Rattle.layout.specs.declared.segments.FoundSegment.the-variants.{Found, Missing}
 use Rattle.layout.specs.declared.segments.Address.the-variants.{At, Nowhere}
-use Rattle.linker.specs.Relocation.{writePlace, relocateFrom, relocateInto, applyInternalRelocation, applyInternalRelocations, addressOr0, unresolvedSymbol, relocateAt, resetEntry, resetExternalRelocations, walk, batchLimit, mark, applyRelocationBatch, batchIsResolved}
+use Rattle.linker.specs.Relocation.{addressOr0, unresolvedSymbol, relocateAt, resetEntry, resetExternalRelocations, walk, batchLimit, mark, applyRelocationBatch, batchIsResolved}
 use Rattle.linker_relocation.specs.Runs.{after-reads}
 use Rattle.linker_relocation.specs.Entry.{applyEntry}
 
@@ -143,82 +141,3 @@ unfolding resetExternalRelocations field run _>>=_
 external-starts at base w {count = count} h t n =
     let z : count - 0 ≡ count = omega arith in
     rw (z, h, t, n) (sym (after-reads at (unresolvedSymbol base) _ w (handler-reads base)))
-
--- internal relocations
-
-module _ (at base old entry : ℕ) (w : List ℕ) where
-  internal-is
-      : run at (applyInternalRelocation base old entry) w
-      ≡ run at (relocateInto base old (run at (segment base (tagSegment (wordAt at w entry))) w .0) (wordAt at w entry)
-      (byteAt at w (entry ⊕ 4)) (byteAt at w (entry ⊕ 5)) (wordAt at w (entry ⊕ 8))) w
-  unfolding applyInternalRelocation run _>>=_
-  internal-is =
-      let n = tagSegment (wordAt at w entry) in
-      after-reads at (segment base n) _ w (segment-reads base n)
-
-  module _ {tag n : ℕ} (t : tag ≡ wordAt at w entry) (e : n ≡ tagSegment tag) where
-    pub into-missing : run at (segment base n) w .0 ≡ Missing → w ≡ run at (applyInternalRelocation base old entry) w .1
-    unfolding relocateInto run
-    into-missing m = rw (internal-is, ← t, ← e, m, relocateInto, run)
-
-    module _ {s : Segment} (f : run at (segment base n) w .0 ≡ Found s) {offset : ℕ} (o : offset ≡ tagOffset tag) where
-      pub into-past : s .size ≤ offset → w ≡ run at (applyInternalRelocation base old entry) w .1
-      unfolding relocateInto run
-      into-past l = rw (internal-is, ← t, ← e, f, relocateInto, ← o, le-ltb offset (s .size) l, run)
-
-      module _ (l : offset < s .size) {x symbol : ℕ} (q : x ≡ entry ⊕ 5) (k : symbol ≡ byteAt at w x) where
-        pub from-missing : run at (segment base symbol) w .0 ≡ Missing → w ≡ run at (applyInternalRelocation base old entry) w .1
-        unfolding relocateInto relocateFrom run
-        from-missing m =
-            rw (
-              internal-is,
-              ← t,
-              ← e,
-              f,
-              relocateInto,
-              ← o,
-              lt-ltb offset (s .size) l,
-              ← q,
-              ← k,
-              after-reads at (segment base symbol) _ w (segment-reads base symbol),
-              m,
-              relocateFrom,
-              run,
-            )
-
-        pub from-found
-            : {z : Segment} {y kind a addend final target : ℕ} {r : RelocationType} {v : List ℕ} → run at (segment base symbol) w .0 ≡ Found z
-            → y ≡ entry ⊕ 4 → kind ≡ byteAt at w y → a ≡ entry ⊕ 8 → addend ≡ wordAt at w a → final ≡ s .offset ⊕ offset
-            → target ≡ writePlace (s .kind) old offset final → r ≡ relocationType kind
-            → v ≡ run at (applyRelocation target r addend (z .offset) final) w .1 → v ≡ run at (applyInternalRelocation base old entry) w .1
-        unfolding relocateInto relocateFrom
-        from-found m p c b d g h r u =
-            rw (
-              internal-is,
-              ← t,
-              ← e,
-              f,
-              relocateInto,
-              ← o,
-              lt-ltb offset (s .size) l,
-              ← q,
-              ← k,
-              after-reads at (segment base symbol) _ w (segment-reads base symbol),
-              m,
-              relocateFrom,
-              ← p,
-              ← c,
-              ← b,
-              ← d,
-              ← g,
-              ← h,
-              ← r,
-            ) u
-
-pub internal-starts
-    : (at base old : ℕ) (w : List ℕ) {table count : ℕ} → table ≡ run at (field base internalRelocationTableOffset) w .0
-    → count ≡ run at (field base internalRelocationNum) w .0
-    → run at (loop (λ i _. applyInternalRelocation base old (entryAt table i relocationEntrySize)) 0 (count - 0) tt) w
-    ≡ run at (applyInternalRelocations base old) w
-unfolding applyInternalRelocations field run _>>=_
-internal-starts at base old w {count = count} t n = let z : count - 0 ≡ count = omega arith in rw (z, t, n)

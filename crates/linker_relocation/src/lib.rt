@@ -1,3 +1,2 @@
-// Relocations of a module, internal and external: the port of that part of cro/mod.rs.
-pub mod internal;
+// External relocations of a module: the port of that part of cro/mod.rs.
 pub mod relocation;

@@ -15,7 +15,7 @@ use Rattle.register_read.specs.declared.Record.{Record}
 use Rattle.register_read.specs.Read.{moduleBytes, recordAt, recordEnd}
 use Rattle.register_read.specs.Places.{Stands}
 use Rattle.linker.specs.Resets.{resetImports, resetImporters}
-use Rattle.linker_imports.specs.Walks.{Going, going-ends, going-goes}
+use Rattle.linker_sources.specs.Walks.{Going, going-ends, going-goes}
 use Rattle.linker_resets.specs.Modules.{otherThan, resetImporter}
 
 auto-flag : (b : Bool) → eqb (flag b) 1 ≡ b

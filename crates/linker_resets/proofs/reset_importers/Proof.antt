@@ -9,7 +9,7 @@ use Rattle.register_read.specs.Read.{modulesOf, moduleAt}
 use Rattle.register_read.specs.Walk.{unwrapped}
 use Rattle.linker.specs.Resets.{resetImporters}
 use Rattle.linker_resets.specs.Modules.{otherThan}
-use Rattle.linker_imports.specs.Walks.{Going, going-starts, going-fits}
+use Rattle.linker_sources.specs.Walks.{Going, going-starts, going-fits}
 use Rattle.linker_resets.proofs.Walks.{resetting, reset-next, reset-all}
 use Rattle.linker_resets.proofs.reset_importers.Statement.{statement}
 use Rattle.linker_resets.proofs.reset_importers.Tie as tie

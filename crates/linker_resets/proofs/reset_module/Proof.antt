@@ -1,7 +1,7 @@
 -- By whether the entry names the module.
 use borrow.Author.Needs.{needs}
 use Rattle.register_read.specs.Read.{moduleAt}
-use Rattle.linker_imports.specs.Walks.{own-name}
+use Rattle.linker_sources.specs.Walks.{own-name}
 use Rattle.linker_resets.proofs.Laws.{module-kept, module-reset}
 use Rattle.linker_resets.proofs.reset_module.Statement.{statement}
 use Rattle.linker_resets.proofs.reset_module.Tie as tie

@@ -10,7 +10,7 @@ use Rattle.register_read.specs.Walk.{unwrapped}
 use Rattle.linker.specs.Imports.{applyExportsToLoaded}
 use Rattle.linker_imports.specs.Modules.{butLast}
 use Rattle.linker_imports.proofs.Walks.{serving, served-turn, served-all}
-use Rattle.linker_imports.specs.Walks.{Going, going-starts, going-fits}
+use Rattle.linker_sources.specs.Walks.{Going, going-starts, going-fits}
 use Rattle.linker_imports.proofs.others.apply_exports_to_loaded.Statement.{statement}
 use Rattle.linker_imports.proofs.others.apply_exports_to_loaded.Tie as tie
 

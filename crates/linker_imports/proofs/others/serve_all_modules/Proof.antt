@@ -11,7 +11,7 @@ use Rattle.layout.specs.Segments.{entryAt}
 use Rattle.register_read.specs.Read.{moduleAt}
 use Rattle.linker.specs.Imports.{serveModule}
 use Rattle.linker_relocation.specs.Runs.{step-made, steps-over}
-use Rattle.linker_imports.specs.Source.{serveAllModules}
+use Rattle.linker_imports.specs.Served.{serveAllModules}
 use Rattle.linker_imports.proofs.Laws.{entries-start}
 use Rattle.linker_imports.proofs.others.serve_all_modules.Statement.{statement}
 use Rattle.linker_imports.proofs.others.serve_all_modules.Tie as tie

@@ -11,7 +11,7 @@ use Rattle.layout.specs.Segments.{entryAt}
 use Rattle.register_read.specs.Read.{moduleAt}
 use Rattle.linker.specs.Imports.{serveNamed}
 use Rattle.linker_relocation.specs.Runs.{step-made, steps-over}
-use Rattle.linker_imports.specs.Source.{serveAllNamed}
+use Rattle.linker_imports.specs.Served.{serveAllNamed}
 use Rattle.linker_imports.proofs.Laws.{named-starts}
 use Rattle.linker_imports.proofs.others.serve_all_named.Statement.{statement}
 use Rattle.linker_imports.proofs.others.serve_all_named.Tie as tie

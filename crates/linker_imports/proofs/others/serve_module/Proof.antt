@@ -2,7 +2,7 @@
 use borrow.Author.Needs.{needs}
 use Rattle.register_read.specs.Read.{moduleAt}
 use Rattle.linker_imports.proofs.Laws.{entry-served, entry-passed}
-use Rattle.linker_imports.specs.Walks.{own-name}
+use Rattle.linker_sources.specs.Walks.{own-name}
 use Rattle.linker_imports.proofs.others.serve_module.Statement.{statement}
 use Rattle.linker_imports.proofs.others.serve_module.Tie as tie
 

@@ -1,0 +1,2 @@
+-- What the proofs of `linker_internal` share.
+pub mod Laws

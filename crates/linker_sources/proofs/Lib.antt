@@ -1,0 +1,2 @@
+-- The laws behind the proofs of `linker_sources`.
+pub mod Laws

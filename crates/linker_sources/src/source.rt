@@ -1,0 +1,114 @@
+// Imports by index and by tag, from the module whose record begins at a place.
+ghost use mathlib.Core.Path.{_≡_};
+ghost use mathlib.Core.List.{List};
+ghost use mathlib.Core.Option.{some};
+ghost use Prim.Native.Nat.{ℕ};
+ghost use Rattle.window.specs.Access.{run};
+ghost use Rattle.register_read.specs.Read.{moduleAt};
+ghost use Rattle.linker.specs.Imports.{anonymousOf, importFrom, importsOf};
+ghost use Rattle.linker_sources.specs.Source.{symbolOf, importTable};
+use super::batch::is_unresolved;
+use super::batch::resolve;
+use layout::fields::entry_address;
+use layout::format::IMPORT_INDEXED_SYMBOL_ENTRY_SIZE;
+use layout::format::SegmentTag;
+use register_read::Symbol;
+use register_read::export_indexed;
+use register_read::segment_address;
+
+// The two tables of a module entry; the entries of both have the same size.
+pub enum ImportTable {
+    Indexed,
+    Anonymous,
+}
+
+// An anonymous export: the segment's address and the offset, the segment's size untested.
+fn anonymous_address(records: &[u8], place: usize, tag: SegmentTag) -> Symbol
+    ensures { λ r. ⌜ ((names : List ℕ) → r ≡ anonymousOf (moduleAt (now (records .entry)) names place) (tag .0)) ⌝ }
+{
+    let Symbol::At(start) = segment_address(records, place, tag.segment()) else {
+        return Symbol::Nothing;
+    };
+    Symbol::At(std::num::wrapping_add_u32(start, tag.offset()))
+}
+
+// What a table's number stands for: an index, or a tag.
+fn symbol_of(records: &[u8], place: usize, kind: ImportTable, number: u32) -> Symbol
+    ensures { λ r. ⌜ ((names : List ℕ) → r ≡ symbolOf kind (moduleAt (now (records .entry)) names place) number) ⌝ }
+{
+    match kind {
+        ImportTable::Indexed => export_indexed(records, place, number),
+        ImportTable::Anonymous => anonymous_address(records, place, SegmentTag(number)),
+    }
+}
+
+// One import, if it still waits.
+fn import_from(
+    at: u32,
+    w: &mut [u8],
+    records: &[u8],
+    place: usize,
+    kind: ImportTable,
+    base: u32,
+    entry: u32,
+)
+    ensures { λ _. ⌜ ((names : List ℕ) → now (w .exit)
+        ≡ run at (importFrom (symbolOf kind (moduleAt (now (records .entry)) names place)) base entry) (now (w .entry)) .1) ⌝ }
+{
+    let number = window::read32(at, w, entry);
+    let batch = window::read32(at, w, std::num::wrapping_add_u32(entry, 4));
+    if is_unresolved(at, w, batch) {
+        resolve(at, w, base, batch, symbol_of(records, place, kind, number));
+    }
+}
+
+// The imports of one table.
+fn import_table(
+    at: u32,
+    w: &mut [u8],
+    records: &[u8],
+    place: usize,
+    kind: ImportTable,
+    base: u32,
+    table: u32,
+    count: u32,
+)
+    ensures { λ _. ⌜ ((names : List ℕ) → now (w .exit)
+        ≡ run at (importTable kind (moduleAt (now (records .entry)) names place) base table count) (now (w .entry)) .1) ⌝ }
+{
+    for index in 0..count {
+        let entry = entry_address(table, index, IMPORT_INDEXED_SYMBOL_ENTRY_SIZE);
+        import_from(at, w, records, place, kind, base, entry);
+    }
+}
+
+// The imports of a module entry, from the module whose record begins at the place.
+pub fn imports_of(at: u32, w: &mut [u8], records: &[u8], place: usize, base: u32, entry: u32)
+    ensures { λ _. ⌜ ((names : List ℕ) → now (w .exit)
+        ≡ run at (importsOf (some (moduleAt (now (records .entry)) names place)) base entry) (now (w .entry)) .1) ⌝ }
+{
+    let indexed = window::read32(at, w, std::num::wrapping_add_u32(entry, 4));
+    let indexed_count = window::read32(at, w, std::num::wrapping_add_u32(entry, 8));
+    let anonymous = window::read32(at, w, std::num::wrapping_add_u32(entry, 12));
+    let anonymous_count = window::read32(at, w, std::num::wrapping_add_u32(entry, 16));
+    import_table(
+        at,
+        w,
+        records,
+        place,
+        ImportTable::Indexed,
+        base,
+        indexed,
+        indexed_count,
+    );
+    import_table(
+        at,
+        w,
+        records,
+        place,
+        ImportTable::Anonymous,
+        base,
+        anonymous,
+        anonymous_count,
+    );
+}

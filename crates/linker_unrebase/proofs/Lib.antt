@@ -1,0 +1,2 @@
+-- What the proofs of `linker_unrebase` share.
+pub mod Laws
