@@ -97,5 +97,5 @@ pub fn begin(
     let mut buffer = [0u8; 512];
     let place = field(at, w, base, header::MODULE_NAME_OFFSET);
     let count = name::read_name(at, w, place, &mut buffer);
-    draft::begin_record(records, names, base, size, auto_link, &buffer[..count])
+    register_begin::begin_record(records, names, base, size, auto_link, &buffer[..count])
 }
