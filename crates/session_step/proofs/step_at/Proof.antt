@@ -1,8 +1,9 @@
 use native.Mathlib.Nat.{add-zero}
 use borrow.Author.Needs.{needs}
-use Rattle.session_file.specs.File.{headWord, stepWord, stepAt}
-use Rattle.session_file.proofs.step_at.Statement.{statement}
-use Rattle.session_file.proofs.step_at.Tie as tie
+use Rattle.session_step.specs.Head.{headWord}
+use Rattle.session_step.specs.Steps.{stepWord, stepAt}
+use Rattle.session_step.proofs.step_at.Statement.{statement}
+use Rattle.session_step.proofs.step_at.Tie as tie
 
 word-requires : tie.Need-word-requires
 word-requires c κs = search needs

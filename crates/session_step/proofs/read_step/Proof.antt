@@ -1,4 +1,4 @@
--- `session_file::read_step` meets its contract: a walk of its MIR, by hand. A `Reader` that `new` returns is passed to `moved`, and the one that
+-- `session_step::read_step` meets its contract: a walk of its MIR, by hand. A `Reader` that `new` returns is passed to `moved`, and the one that
 -- `moved` returns to `next_step`.
 -- All that the proof knows of the three is that each meets its contract.
 -- The machine values of both structs are stored and passed on as they are. In a local of a body MIR erases the lifetime of the struct's type, so a
@@ -42,29 +42,29 @@ use denote.Triple.Table.{entered, cited}
 use denote.Triple.Walked.{says, Stays, stay-none, stay-none-slice, walkOf, goes-none, goes-none-slice, Walks, ends-at, walked, walk-meets}
 use denote.Exit.{yes}
 use denote.Triple.Clauses.{ensured, lasts}
-use Rattle.session_file.specs.File.{stepAt}
-use Rattle.session_file.specs.declared.Reader.{Reader}
-use Rattle.session_file.specs.declared.Step.{Step}
-use Rattle.session_file.proofs.Reader as T
-use Rattle.session_file.proofs.Reader.Laws as T′
-use Rattle.session_file.proofs.Step as S
-use Rattle.session_file.proofs.Step.Laws as S′
-use Rattle.session_file.proofs.new as new
-use Rattle.session_file.proofs.new.Symbol as new-def
-use Rattle.session_file.proofs.new.Symbol.{name as #session-file·new}
-use Rattle.session_file.proofs.new.Met as new-thm
-use Rattle.session_file.proofs.moved as moved
-use Rattle.session_file.proofs.moved.Symbol as moved-def
-use Rattle.session_file.proofs.moved.Symbol.{name as #session-file·moved}
-use Rattle.session_file.proofs.moved.Met as moved-thm
-use Rattle.session_file.proofs.next_step as next
-use Rattle.session_file.proofs.next_step.Symbol as next-def
-use Rattle.session_file.proofs.next_step.Symbol.{name as #session-file·next-step}
-use Rattle.session_file.proofs.next_step.Met as next-thm
-use Rattle.session_file.proofs.read_step.Key.{name as #session-file·read-step}
-use Rattle.session_file.proofs.read_step as read
-use Rattle.session_file.proofs.read_step.Statement as stated
-use Rattle.session_file.proofs.read_step.Code as code
+use Rattle.session_step.specs.Steps.{stepAt}
+use Rattle.session_step.specs.declared.Reader.{Reader}
+use Rattle.session_step.specs.declared.Step.{Step}
+use Rattle.session_step.proofs.Reader as T
+use Rattle.session_step.proofs.Reader.Laws as T′
+use Rattle.session_step.proofs.Step as S
+use Rattle.session_step.proofs.Step.Laws as S′
+use Rattle.session_step.proofs.new as new
+use Rattle.session_step.proofs.new.Symbol as new-def
+use Rattle.session_step.proofs.new.Symbol.{name as #session-step·new}
+use Rattle.session_step.proofs.new.Met as new-thm
+use Rattle.session_step.proofs.moved as moved
+use Rattle.session_step.proofs.moved.Symbol as moved-def
+use Rattle.session_step.proofs.moved.Symbol.{name as #session-step·moved}
+use Rattle.session_step.proofs.moved.Met as moved-thm
+use Rattle.session_step.proofs.next_step as next
+use Rattle.session_step.proofs.next_step.Symbol as next-def
+use Rattle.session_step.proofs.next_step.Symbol.{name as #session-step·next-step}
+use Rattle.session_step.proofs.next_step.Met as next-thm
+use Rattle.session_step.proofs.read_step.Key.{name as #session-step·read-step}
+use Rattle.session_step.proofs.read_step as read
+use Rattle.session_step.proofs.read_step.Statement as stated
+use Rattle.session_step.proofs.read_step.Code as code
 
 -- the struct's type, over the signature's lifetimes
 abbrev B : Lfts 1 → RattleType
@@ -162,8 +162,8 @@ module _ {M : Type 1} (𝓤 : URA M) (H : Heap 𝓤) (A : Atoms 𝓤) (W : Given
       (tt, (tt, tt))) $ says ! e $
       move ! (1 ∷ []) $ frame ! $ move ! (1 ∷ []) $ frame ! $ done !
 
-  module _ (C : Calls 𝓤 H) (Λ : Loops 𝓤 H) (fm : FmC 𝓤 H (W .laws) C) (known-new : Triple 𝓤 (C #session-file·new) (New 𝓤 H A mem run))
-      (known-moved : Triple 𝓤 (C #session-file·moved) (Moved 𝓤 H A mem run)) (known-next : Triple 𝓤 (C #session-file·next-step)
+  module _ (C : Calls 𝓤 H) (Λ : Loops 𝓤 H) (fm : FmC 𝓤 H (W .laws) C) (known-new : Triple 𝓤 (C #session-step·new) (New 𝓤 H A mem run))
+      (known-moved : Triple 𝓤 (C #session-step·moved) (Moved 𝓤 H A mem run)) (known-next : Triple 𝓤 (C #session-step·next-step)
       (Next 𝓤 H A mem run)) where
     walk : Is (ShrSlice (named 0) κ u8) s (v ∷ []) → ent 𝓤 (onEntry 𝓤 H A read.signature (κ, tt) (q, tt) (s, (k, tt)) at)
         (WpFn 𝓤 H C Λ code.function (v ∷ vint w32 k ∷ []) Post)
@@ -205,9 +205,9 @@ module _ {M : Type 1} (𝓤 : URA M) (H : Heap 𝓤) (A : Atoms 𝓤) (W : Given
         by ! (exits t u″ (e″ ∙ (ap (λ (x : RefT (List ℕ)). stepAt (now x) (p .next)) (e′ .0 ∙ e .0) ∙ ap (stepAt (now s)) (e′ .1)))))))))))))))))))))
 
 module _ {M : Type 1} (𝓤 : URA M) (H : Heap 𝓤) (A : Atoms 𝓤) (W : Given 𝓤 H A) (mem : Memory → SProp 𝓤) (run : Routine → Fun 𝓤) where
-  read-walks : (C : Calls 𝓤 H) (Λ : Loops 𝓤 H) → FmC 𝓤 H (W .laws) C → Triple 𝓤 (C #session-file·new) (New 𝓤 H A mem run)
-      → Triple 𝓤 (C #session-file·moved) (Moved 𝓤 H A mem run)
-      → Triple 𝓤 (C #session-file·next-step) (Next 𝓤 H A mem run) → Walks 𝓤 H A read.ended stayed (WpFn 𝓤 H C Λ code.function)
+  read-walks : (C : Calls 𝓤 H) (Λ : Loops 𝓤 H) → FmC 𝓤 H (W .laws) C → Triple 𝓤 (C #session-step·new) (New 𝓤 H A mem run)
+      → Triple 𝓤 (C #session-step·moved) (Moved 𝓤 H A mem run)
+      → Triple 𝓤 (C #session-step·next-step) (Next 𝓤 H A mem run) → Walks 𝓤 H A read.ended stayed (WpFn 𝓤 H C Λ code.function)
       (read.clauses 𝓤 H A mem run)
   read-walks C Λ fm known-new known-moved known-next = walked 𝓤 H A read.ended stayed (read.clauses 𝓤 H A mem run) (WpFn 𝓤 H C Λ code.function)
       (λ κs. (slice-vals, (uint-vals w32, tt))) (λ κs. (shr-slice-tells (named 0) (κs .0) u8, (uint-tells w32, tt)))
@@ -215,8 +215,8 @@ module _ {M : Type 1} (𝓤 : URA M) (H : Heap 𝓤) (A : Atoms 𝓤) (W : Given
       (are .1 .0 .1) C Λ fm known-new known-moved known-next (are .0)))
 
 read-meets : {M : Type 1} (𝓤 : URA M) (H : Heap 𝓤) (A : Atoms 𝓤) (W : Given 𝓤 H A) (mem : Memory → SProp 𝓤) (run : Routine → Fun 𝓤) (𝓣 : Tables 𝓤 H)
-    → Triple 𝓤 (𝓣 .C #session-file·new) (New 𝓤 H A mem run) → Triple 𝓤 (𝓣 .C #session-file·moved) (Moved 𝓤 H A mem run)
-    → Triple 𝓤 (𝓣 .C #session-file·next-step) (Next 𝓤 H A mem run)
+    → Triple 𝓤 (𝓣 .C #session-step·new) (New 𝓤 H A mem run) → Triple 𝓤 (𝓣 .C #session-step·moved) (Moved 𝓤 H A mem run)
+    → Triple 𝓤 (𝓣 .C #session-step·next-step) (Next 𝓤 H A mem run)
     → Meets 𝓤 H A read.signature (WpFn 𝓤 H (𝓣 .C) (𝓣 .Λ) code.function) (read.spec 𝓤 H A mem run)
 read-meets 𝓤 H A W mem run 𝓣 known-new known-moved known-next = walk-meets 𝓤 H A read.ended stayed W
     (goes-none-slice 𝓤 H A W 1 (0 ∷ []) tt (plain (λ _. u8)) yes, (goes-none 𝓤 H A W 1 (λ _. u32) yes (λ κs x f. refl), tt))
@@ -227,10 +227,10 @@ pub read-step-spec : {M : Type 1} → stated.statement M
 unfolding code.routine tablesOf
 read-step-spec 𝓤 H 𝓜 𝓖 𝓡 =
     entered 𝓤 H (tripleOf 𝓤 H (𝓖 .A) read.signature (read.spec 𝓤 H (𝓖 .A) (𝓜 .mem) (𝓡 .run)))
-    (tables 𝓤 H 𝓜 𝓡 code.env .C) (tables 𝓤 H 𝓜 𝓡 code.env .Λ) #session-file·read-step code.function (code.unfolded 𝓤 H 𝓜 𝓡)
+    (tables 𝓤 H 𝓜 𝓡 code.env .C) (tables 𝓤 H 𝓜 𝓡 code.env .Λ) #session-step·read-step code.function (code.unfolded 𝓤 H 𝓜 𝓡)
     (read-meets 𝓤 H (𝓖 .A) (givenOf 𝓤 H 𝓜 𝓖) (𝓜 .mem) (𝓡 .run) (tablesOf 𝓤 H 𝓜 (tables 𝓤 H 𝓜 𝓡 code.env))
-    (cited 𝓤 H (New 𝓤 H (𝓖 .A) (𝓜 .mem) (𝓡 .run)) 𝓜 𝓡 code.env #session-file·new new-def.routine code.calls-session-file·new (new-thm.met 𝓤 H 𝓜 𝓖 𝓡))
-    (cited 𝓤 H (Moved 𝓤 H (𝓖 .A) (𝓜 .mem) (𝓡 .run)) 𝓜 𝓡 code.env #session-file·moved moved-def.routine code.calls-session-file·moved
+    (cited 𝓤 H (New 𝓤 H (𝓖 .A) (𝓜 .mem) (𝓡 .run)) 𝓜 𝓡 code.env #session-step·new new-def.routine code.calls-session-step·new (new-thm.met 𝓤 H 𝓜 𝓖 𝓡))
+    (cited 𝓤 H (Moved 𝓤 H (𝓖 .A) (𝓜 .mem) (𝓡 .run)) 𝓜 𝓡 code.env #session-step·moved moved-def.routine code.calls-session-step·moved
     (moved-thm.met 𝓤 H 𝓜 𝓖 𝓡))
-    (cited 𝓤 H (Next 𝓤 H (𝓖 .A) (𝓜 .mem) (𝓡 .run)) 𝓜 𝓡 code.env #session-file·next-step next-def.routine code.calls-session-file·next-step
+    (cited 𝓤 H (Next 𝓤 H (𝓖 .A) (𝓜 .mem) (𝓡 .run)) 𝓜 𝓡 code.env #session-step·next-step next-def.routine code.calls-session-step·next-step
     (next-thm.met 𝓤 H 𝓜 𝓖 𝓡)))

@@ -1,4 +1,4 @@
--- `session_file::next_step` meets its contract: a walk of its MIR, by hand. The struct is taken apart, and `step_at` is called on the slice and the
+-- `session_step::next_step` meets its contract: a walk of its MIR, by hand. The struct is taken apart, and `step_at` is called on the slice and the
 -- number. All that the proof knows of `step_at` is that it meets its contract.
 -- The struct is Copy: what it owns is had twice, one copy is kept whole for the exit, and of the other what file owns goes to the callee, beside the
 -- lifetime's token, which comes back.
@@ -47,21 +47,21 @@ use denote.Triple.Table.{entered, cited}
 use denote.Triple.Walked.{says, Stays, stay-none, walkOf, goes-none, Walks, ends-at, walked, walk-meets}
 use denote.Exit.{yes}
 use denote.Triple.Clauses.{ensured, lasts}
-use Rattle.session_file.specs.File.{stepAt}
-use Rattle.session_file.specs.declared.Reader.{Reader}
-use Rattle.session_file.specs.declared.Step.{Step}
-use Rattle.session_file.proofs.Reader as T
-use Rattle.session_file.proofs.Reader.Laws as T′
-use Rattle.session_file.proofs.Step as S
-use Rattle.session_file.proofs.Step.Laws as S′
-use Rattle.session_file.proofs.step_at as step
-use Rattle.session_file.proofs.step_at.Symbol as step-def
-use Rattle.session_file.proofs.step_at.Symbol.{name as #session-file·step-at}
-use Rattle.session_file.proofs.step_at.Met as step-thm
-use Rattle.session_file.proofs.next_step.Key.{name as #session-file·next-step}
-use Rattle.session_file.proofs.next_step as next
-use Rattle.session_file.proofs.next_step.Statement as stated
-use Rattle.session_file.proofs.next_step.Code as code
+use Rattle.session_step.specs.Steps.{stepAt}
+use Rattle.session_step.specs.declared.Reader.{Reader}
+use Rattle.session_step.specs.declared.Step.{Step}
+use Rattle.session_step.proofs.Reader as T
+use Rattle.session_step.proofs.Reader.Laws as T′
+use Rattle.session_step.proofs.Step as S
+use Rattle.session_step.proofs.Step.Laws as S′
+use Rattle.session_step.proofs.step_at as step
+use Rattle.session_step.proofs.step_at.Symbol as step-def
+use Rattle.session_step.proofs.step_at.Symbol.{name as #session-step·step-at}
+use Rattle.session_step.proofs.step_at.Met as step-thm
+use Rattle.session_step.proofs.next_step.Key.{name as #session-step·next-step}
+use Rattle.session_step.proofs.next_step as next
+use Rattle.session_step.proofs.next_step.Statement as stated
+use Rattle.session_step.proofs.next_step.Code as code
 
 -- the struct's type, over the signature's lifetimes
 abbrev B : Lfts 1 → RattleType
@@ -139,7 +139,7 @@ module _ {M : Type 1} (𝓤 : URA M) (H : Heap 𝓤) (A : Atoms 𝓤) (W : Given
       (tt, tt) (tt, tt)) $ says ! e $
       move ! (1 ∷ []) $ frame ! $ nothing ! $ move ! (2 ∷ 0 ∷ []) $ fjoin ! $ frame ! $ done !
 
-  module _ (C : Calls 𝓤 H) (Λ : Loops 𝓤 H) (fm : FmC 𝓤 H (W .laws) C) (known : Triple 𝓤 (C #session-file·step-at) (StepAt 𝓤 H A mem run)) where
+  module _ (C : Calls 𝓤 H) (Λ : Loops 𝓤 H) (fm : FmC 𝓤 H (W .laws) C) (known : Triple 𝓤 (C #session-step·step-at) (StepAt 𝓤 H A mem run)) where
     walk : Holds (hasTy (T′.mir (named 0)) mach) × WT mach → ent 𝓤 (onEntry 𝓤 H A next.signature (κ, tt) (q, tt) (d, tt) (mach ∷ [], tt))
         (WpFn 𝓤 H C Λ code.function (mach ∷ []) Post)
     walk wt =
@@ -163,7 +163,7 @@ module _ {M : Type 1} (𝓤 : URA M) (H : Heap 𝓤) (A : Atoms 𝓤) (W : Given
         by ! (exits r u e)))))))))
 
 module _ {M : Type 1} (𝓤 : URA M) (H : Heap 𝓤) (A : Atoms 𝓤) (W : Given 𝓤 H A) (mem : Memory → SProp 𝓤) (run : Routine → Fun 𝓤) where
-  next-walks : (C : Calls 𝓤 H) (Λ : Loops 𝓤 H) → FmC 𝓤 H (W .laws) C → Triple 𝓤 (C #session-file·step-at) (StepAt 𝓤 H A mem run)
+  next-walks : (C : Calls 𝓤 H) (Λ : Loops 𝓤 H) → FmC 𝓤 H (W .laws) C → Triple 𝓤 (C #session-step·step-at) (StepAt 𝓤 H A mem run)
       → Walks 𝓤 H A next.ended stayed (WpFn 𝓤 H C Λ code.function) (next.clauses 𝓤 H A mem run)
   next-walks C Λ fm known = walked 𝓤 H A next.ended stayed (next.clauses 𝓤 H A mem run) (WpFn 𝓤 H C Λ code.function)
       (λ κs. (LL.vals (T.the-type (namedLft 1 0 tt κs)) (T′.the-laws (namedLft 1 0 tt κs)), tt))
@@ -172,7 +172,7 @@ module _ {M : Type 1} (𝓤 : URA M) (H : Heap 𝓤) (A : Atoms 𝓤) (W : Given
       (LL.lawful (T.the-type (namedLft 1 0 tt κs)) (T′.the-laws (namedLft 1 0 tt κs)) 𝓤 H A W .typed (a .0) _ (are .0) .0)))
 
 next-meets : {M : Type 1} (𝓤 : URA M) (H : Heap 𝓤) (A : Atoms 𝓤) (W : Given 𝓤 H A) (mem : Memory → SProp 𝓤) (run : Routine → Fun 𝓤) (𝓣 : Tables 𝓤 H)
-    → Triple 𝓤 (𝓣 .C #session-file·step-at) (StepAt 𝓤 H A mem run)
+    → Triple 𝓤 (𝓣 .C #session-step·step-at) (StepAt 𝓤 H A mem run)
     → Meets 𝓤 H A next.signature (WpFn 𝓤 H (𝓣 .C) (𝓣 .Λ) code.function) (next.spec 𝓤 H A mem run)
 next-meets 𝓤 H A W mem run 𝓣 known-step = walk-meets 𝓤 H A next.ended stayed W (goes-none 𝓤 H A W 1 B yes (λ κs x f. refl), tt)
     (next.clauses 𝓤 H A mem run) (WpFn 𝓤 H (𝓣 .C) (𝓣 .Λ) code.function) (WpFn-mono 𝓤 H (W .laws) 𝓣 code.function)
@@ -182,7 +182,7 @@ pub next-step-spec : {M : Type 1} → stated.statement M
 unfolding code.routine tablesOf
 next-step-spec 𝓤 H 𝓜 𝓖 𝓡 =
     entered 𝓤 H (tripleOf 𝓤 H (𝓖 .A) next.signature (next.spec 𝓤 H (𝓖 .A) (𝓜 .mem) (𝓡 .run)))
-    (tables 𝓤 H 𝓜 𝓡 code.env .C) (tables 𝓤 H 𝓜 𝓡 code.env .Λ) #session-file·next-step code.function (code.unfolded 𝓤 H 𝓜 𝓡)
+    (tables 𝓤 H 𝓜 𝓡 code.env .C) (tables 𝓤 H 𝓜 𝓡 code.env .Λ) #session-step·next-step code.function (code.unfolded 𝓤 H 𝓜 𝓡)
     (next-meets 𝓤 H (𝓖 .A) (givenOf 𝓤 H 𝓜 𝓖) (𝓜 .mem) (𝓡 .run) (tablesOf 𝓤 H 𝓜 (tables 𝓤 H 𝓜 𝓡 code.env))
-    (cited 𝓤 H (StepAt 𝓤 H (𝓖 .A) (𝓜 .mem) (𝓡 .run)) 𝓜 𝓡 code.env #session-file·step-at step-def.routine code.calls-session-file·step-at
+    (cited 𝓤 H (StepAt 𝓤 H (𝓖 .A) (𝓜 .mem) (𝓡 .run)) 𝓜 𝓡 code.env #session-step·step-at step-def.routine code.calls-session-step·step-at
     (step-thm.met 𝓤 H 𝓜 𝓖 𝓡)))

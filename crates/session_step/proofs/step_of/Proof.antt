@@ -1,9 +1,9 @@
 use mathlib.Core.Path.{sym, _∙_}
 use borrow.Author.Tests.{not-true, not-false}
 use borrow.Author.Needs.{needs}
-use Rattle.session_file.proofs.Laws.{is-load, is-initialize, is-unload, has-size, no-call, not-zero}
-use Rattle.session_file.proofs.step_of.Statement.{statement}
-use Rattle.session_file.proofs.step_of.Tie as tie
+use Rattle.session_step.proofs.Laws.{is-load, is-initialize, is-unload, has-size, no-call, not-zero}
+use Rattle.session_step.proofs.step_of.Statement.{statement}
+use Rattle.session_step.proofs.step_of.Tie as tie
 
 returns : tie.Need-returns
 returns c = is-load _ _ _ _ (c .if1 .taken)

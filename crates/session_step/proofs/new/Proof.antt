@@ -1,4 +1,4 @@
--- `session_file::new` meets its contract: a walk of its MIR, by hand. A `Reader` is made of the slice passed and 0, in the result's local.
+-- `session_step::new` meets its contract: a walk of its MIR, by hand. A `Reader` is made of the slice passed and 0, in the result's local.
 -- A `&[u8]` is Copy, so what it owns is had twice: once for file at exit, and once inside the result, beside the facts of next.
 -- Assumes nothing.
 use mathlib.Core.Path.{refl}
@@ -36,13 +36,13 @@ use denote.Triple.Spec.{Meets, tripleOf}
 use denote.Triple.Table.{entered}
 use denote.Triple.Walked.{says, Stays, stay-none-slice, walkOf, goes-none-slice, Walks, ends-at, walked, walk-meets}
 use denote.Exit.{yes}
-use Rattle.session_file.specs.declared.Reader.{Reader}
-use Rattle.session_file.proofs.Reader as T
-use Rattle.session_file.proofs.Reader.Laws as T′
-use Rattle.session_file.proofs.new.Key.{name as #session-file·new}
-use Rattle.session_file.proofs.new as new
-use Rattle.session_file.proofs.new.Statement as stated
-use Rattle.session_file.proofs.new.Code as code
+use Rattle.session_step.specs.declared.Reader.{Reader}
+use Rattle.session_step.proofs.Reader as T
+use Rattle.session_step.proofs.Reader.Laws as T′
+use Rattle.session_step.proofs.new.Key.{name as #session-step·new}
+use Rattle.session_step.proofs.new as new
+use Rattle.session_step.proofs.new.Statement as stated
+use Rattle.session_step.proofs.new.Code as code
 
 abbrev stayed : Stays (new.ended .signature .params) (new.ended .kept)
 stayed = (stay-none-slice (0 ∷ []) tt (plain (λ _. u8)) yes, tt)
@@ -106,5 +106,5 @@ pub new-spec : {M : Type 1} → stated.statement M
 unfolding code.routine tablesOf
 new-spec 𝓤 H 𝓜 𝓖 𝓡 =
     entered 𝓤 H (tripleOf 𝓤 H (𝓖 .A) new.signature (new.spec 𝓤 H (𝓖 .A) (𝓜 .mem) (𝓡 .run)))
-    (tables 𝓤 H 𝓜 𝓡 code.env .C) (tables 𝓤 H 𝓜 𝓡 code.env .Λ) #session-file·new code.function (code.unfolded 𝓤 H 𝓜 𝓡)
+    (tables 𝓤 H 𝓜 𝓡 code.env .C) (tables 𝓤 H 𝓜 𝓡 code.env .Λ) #session-step·new code.function (code.unfolded 𝓤 H 𝓜 𝓡)
     (new-meets 𝓤 H (𝓖 .A) (givenOf 𝓤 H 𝓜 𝓖) (𝓜 .mem) (𝓡 .run) (tablesOf 𝓤 H 𝓜 (tables 𝓤 H 𝓜 𝓡 code.env)))

@@ -1,8 +1,8 @@
 use mathlib.Core.Bool.{and-true}
 use borrow.Author.Tests.{eq-eqb, ne-eqb}
 use Rattle.register.specs.Words.{allZero}
-use Rattle.session_file.proofs.all_zero.Statement.{statement}
-use Rattle.session_file.proofs.all_zero.Tie as tie
+use Rattle.session_step.proofs.all_zero.Statement.{statement}
+use Rattle.session_step.proofs.all_zero.Tie as tie
 
 returns : tie.Need-returns
 unfolding allZero
