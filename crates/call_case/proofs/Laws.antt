@@ -1,4 +1,4 @@
--- From the branches to the definitions of `Cases`.
+-- From the branches to the definitions of `Case`.
 use Prim.Native.Nat.{ℕ, _+_, _/_, _≤_, _<_}
 use mathlib.Core.Path.{_≡_, sym, ap, _∙_}
 use mathlib.Core.List.{List}
@@ -11,8 +11,8 @@ use Rattle.header_text.specs.declared.append.Next.the-variants.{At, Full}
 use Rattle.case_reader.specs.Pieces.{pieces}
 use Rattle.linker.specs.Outcome.{Bytes, Outcome, initializeOutcome, loadOutcome, unloadOutcome}
 use Rattle.linker_calls.specs.Steps.{toLoad}
-use Rattle.call_cases.specs.Cases.{change, lays, laid, called, compared}
-use Rattle.call_cases.specs.declared.Verdict.the-variants.{Same, Window, Records, Names, Missing}
+use Rattle.call_case.specs.Case.{change, lays, laid, called, compared}
+use Rattle.call_case.specs.declared.Verdict.the-variants.{Same, Window, Records, Names, Missing}
 
 -- the pieces of two buffers
 

@@ -1,8 +1,8 @@
-use Rattle.call_cases.proofs.Laws.{initializes, loads, unloads}
+use Rattle.call_case.proofs.Laws.{initializes, loads, unloads}
 use Rattle.linker_calls.specs.Steps.{lent}
 use borrow.Author.Needs.{needs}
-use Rattle.call_cases.proofs.call.Statement.{statement}
-use Rattle.call_cases.proofs.call.Tie as tie
+use Rattle.call_case.proofs.call.Statement.{statement}
+use Rattle.call_case.proofs.call.Tie as tie
 
 add-word : tie.Need-add-word
 add-word c = search needs

@@ -10,8 +10,8 @@ use Rattle.header_text.specs.declared.append.Next.the-variants.{At, Full}
 use Rattle.case_reader.specs.Pieces.{pieces}
 use Rattle.linker.specs.Outcome.{Bytes, Outcome, initializeOutcome, loadOutcome, unloadOutcome}
 use Rattle.linker_calls.specs.Steps.{toLoad}
-use Rattle.call_cases.specs.declared.Verdict.{Verdict}
-use Rattle.call_cases.specs.declared.Verdict.the-variants.{Same, Window, Records, Names, Missing}
+use Rattle.call_case.specs.declared.Verdict.{Verdict}
+use Rattle.call_case.specs.declared.Verdict.the-variants.{Same, Window, Records, Names, Missing}
 
 -- the changes over a buffer that has been laid, the other one being b
 unfoldable pub change : ℕ → List ℕ → ℕ → List ℕ → Next × List ℕ → Next × List ℕ × List ℕ
