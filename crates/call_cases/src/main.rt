@@ -4,31 +4,14 @@
 // and the value that it must give; then for each of the four buffers how many pieces stand in it before the call, how
 // many the call must change, and the pieces. tools/call_cases.py makes the file, and says why each case gives what it does.
 // Prints for each case `ok` or the first output that differs, and how many were ok.
-ghost use mathlib.Core.Path.{_≡_};
-ghost use Prim.Native.Nat.{_+_, _/_, _≤_};
+ghost use Prim.Native.Nat.{_/_, _≤_};
 ghost use lib.ListN.{length};
-ghost use Rattle.register.specs.Words.{wordsIn};
-ghost use Rattle.linker_calls.specs.Steps.{lent, left};
-ghost use Rattle.call_cases.specs.Cases.{laid, called, compared};
-use case_reader::put_pieces;
+use call_case::Verdict;
+use call_case::call;
+use call_case::compare;
+use call_case::lay;
 use header_text::append::Next;
-use linker_calls::initialize;
-use linker_calls::load;
-use linker_calls::unload;
-use register::exports::same_name;
 use register::words::word;
-
-// The first output of a call that is not the stored one.
-enum Verdict {
-    Same,
-    Number,
-    Value,
-    Window,
-    Records,
-    Names,
-    Missing,
-    Unreadable,
-}
 
 fn main() {
     let mut file = [0u8; 262144];
@@ -103,25 +86,6 @@ fn run_case(file: &[u8], at: usize) -> Verdict
     )
 }
 
-// Lays the pieces at `at` that stand before the call over both buffers, and those that it must change over `after`.
-fn lay(before: &mut [u8], after: &mut [u8], file: &[u8], at: usize) -> Next
-    ensures { λ r. ⌜ (r, now (before .exit), now (after .exit))
-        ≡ laid (now (file .entry)) at (now (before .entry)) (now (after .entry)) ⌝ }
-{
-    if file.len() / 4 < at {
-        return Next::Full;
-    }
-    let standing = word(file, at);
-    let changed = word(file, at + 1);
-    let Next::At(next) = put_pieces(before, file, at + 2, standing) else {
-        return Next::Full;
-    };
-    let Next::At(_) = put_pieces(after, file, at + 2, standing) else {
-        return Next::Full;
-    };
-    put_pieces(after, file, next, changed)
-}
-
 // Makes the call and compares what it leaves; the value is 99 before.
 fn judge(
     file: &[u8],
@@ -194,75 +158,6 @@ fn call_lent(
         &mut missing[..m],
         value,
     )
-}
-
-// The call that the case at place `at` stores, with its arguments.
-fn call(
-    file: &[u8],
-    at: usize,
-    window: &mut [u8],
-    records: &mut [u8],
-    names: &mut [u8],
-    missing: &mut [u8],
-    value: &mut u32,
-) -> u32
-    requires { ⌜ at ≤ length (now file) / 4 ⌝ }
-    ensures { λ r. ⌜ left r (now (value .exit)) (lent (now (window .exit)) (now (records .exit)) (now (names .exit)) (now (missing .exit)))
-        ≡ called (wordsIn (now (file .entry))) at
-        (lent (now (window .entry)) (now (records .entry)) (now (names .entry)) (now (missing .entry))) ⌝ }
-{
-    let from = word(file, at + 2);
-    let base = word(file, at + 7);
-    let size = word(file, at + 8);
-    match word(file, at + 1) {
-        1 => initialize(from, window, records, names, missing, base, size, value),
-        2 => load(
-            from,
-            window,
-            records,
-            names,
-            missing,
-            base,
-            size,
-            word(file, at + 9),
-            word(file, at + 10),
-            word(file, at + 11),
-            word(file, at + 12),
-            word(file, at + 13),
-            word(file, at + 14),
-            value,
-        ),
-        _ => unload(from, window, records, names, missing, base, value),
-    }
-}
-
-// The first buffer that is not as it must be.
-fn compare(
-    window: &[u8],
-    window_after: &[u8],
-    records: &[u8],
-    records_after: &[u8],
-    names: &[u8],
-    names_after: &[u8],
-    missing: &[u8],
-    missing_after: &[u8],
-) -> Verdict
-    ensures { λ r. ⌜ r ≡ compared (lent (now (window .entry)) (now (records .entry)) (now (names .entry)) (now (missing .entry)))
-        (lent (now («window_after» .entry)) (now («records_after» .entry)) (now («names_after» .entry)) (now («missing_after» .entry))) ⌝ }
-{
-    if !same_name(window, window_after) {
-        return Verdict::Window;
-    }
-    if !same_name(records, records_after) {
-        return Verdict::Records;
-    }
-    if !same_name(names, names_after) {
-        return Verdict::Names;
-    }
-    if !same_name(missing, missing_after) {
-        return Verdict::Missing;
-    }
-    Verdict::Same
 }
 
 // Prints the number of case k, counted from 1, and the verdict.

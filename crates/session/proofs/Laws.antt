@@ -6,9 +6,10 @@ use Rattle.linker.specs.declared.rebase.Lent.{Lent}
 use Rattle.linker.specs.Outcome.{Bytes, Outcome, initializeOutcome, loadOutcome, unloadOutcome}
 use Rattle.linker.specs.Valid.{Valid, AreBytes, initialize-valid, load-valid, unload-valid}
 use Rattle.linker_calls.specs.Steps.{left}
-use Rattle.session_file.specs.declared.Step.{Step}
-use Rattle.session_file.specs.declared.Step.the-variants.{Initialize, Load, Unload, Bad}
-use Rattle.session_file.specs.File.{windowAddress, stepAt}
+use Rattle.session_step.specs.declared.Step.{Step}
+use Rattle.session_step.specs.declared.Step.the-variants.{Initialize, Load, Unload, Bad}
+use Rattle.session_step.specs.Head.{windowAddress}
+use Rattle.session_step.specs.Steps.{stepAt}
 use Rattle.session_lines.specs.Lines.{stepLine}
 use Rattle.text.specs.Text.{put}
 use Rattle.session.specs.Run.{stepOutcome, Ran}

@@ -7,7 +7,7 @@ use Rattle.linker.specs.Outcome.{Bytes, Outcome}
 use Rattle.linker.specs.Valid.{Valid}
 use Rattle.text.specs.Text.{put}
 use Rattle.text.specs.Laws.{put-append}
-use Rattle.session_file.specs.File.{stepAt}
+use Rattle.session_step.specs.Steps.{stepAt}
 use Rattle.session_lines.specs.Lines.{stepLine}
 use Rattle.session.specs.Session.{outcomeAt, steps}
 

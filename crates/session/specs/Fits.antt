@@ -16,9 +16,11 @@ use Rattle.register.specs.Proper.{proper-parts}
 use Rattle.linker.specs.Outcome.{Bytes}
 use Rattle.linker.specs.Refusals.{lentRegister}
 use Rattle.text.specs.Text.{bytes, digitOf, digitsIn, hexOf, decimalOf, pairsOf}
-use Rattle.session_file.specs.declared.Step.{Step}
-use Rattle.session_file.specs.declared.Step.the-variants.{Initialize, Load, Unload, Bad}
-use Rattle.session_file.specs.File.{stepCount, stepAt, isSession}
+use Rattle.session_step.specs.declared.Step.{Step}
+use Rattle.session_step.specs.declared.Step.the-variants.{Initialize, Load, Unload, Bad}
+use Rattle.session_step.specs.Head.{stepCount}
+use Rattle.session_step.specs.Steps.{stepAt}
+use Rattle.session_file.specs.File.{isSession}
 use Rattle.session_file.specs.Parts.{session-parts}
 use Rattle.session_lines.specs.Lines.{callName, stepLine, nameText, moduleLine, moduleLines, nameLines, missingLines}
 use Rattle.session.specs.Run.{start}

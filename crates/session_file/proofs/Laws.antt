@@ -1,58 +1,18 @@
--- What the code of `session_file` finds, test by test: nine words as a step, the steps of a table, and the judgement.
+-- What the code of `session_file` finds, test by test: the steps of a table, and the judgement.
 use Prim.Native.Nat.{ℕ, zero, suc, _+_, _*_, _≤_, _<_}
 use mathlib.Core.Logic.{inl, inr}
-use mathlib.Core.Path.{_≡_, refl}
-use mathlib.Core.List.{List, [], _∷_}
+use mathlib.Core.Path.{_≡_}
+use mathlib.Core.List.{List}
 use mathlib.Core.Bool.{Bool, true, false, _&&_, and-false, and-assoc}
 use native.Mathlib.Omega.{arith}
 use native.Mathlib.Nat.{eq-or-lt-of-le}
 use native.Mathlib.Numerals.{add-one}
 use lib.ListN.{length}
-use lib.Dec.{eqb, leb}
-use borrow.Author.Tests.{ne-eqb, le-leb}
-use Rattle.window.specs.Memory.{if_then_else_}
-use Rattle.register.specs.Words.{allZero}
-use Rattle.linker.specs.declared.rebase.Lent.{Lent}
-use Rattle.session_file.specs.declared.Step.{Step}
-use Rattle.session_file.specs.declared.Step.the-variants.{Initialize, Load, Unload, Bad}
-use Rattle.session_file.specs.File.{headWord, stepOf, stepAt, isStep, areSteps, isSession}
-
--- nine words as a step, six of them in l
-module _ (call : ℕ) (l : Lent) (auto level : ℕ) where
-  abbrev rest : List ℕ
-  rest = l .«data_at» ∷ l .«data_size» ∷ l .«bss_at» ∷ l .«bss_size» ∷ auto ∷ level ∷ []
-
-  abbrev step : Step
-  step = stepOf call (l .base) (l .size) (l .«data_at») (l .«data_size») (l .«bss_at») (l .«bss_size») auto level
-
-  pub is-load : call ≡ 2 → Load l auto level ≡ step
-  unfolding stepOf
-  is-load e = rw e
-
-  pub is-initialize : call ≡ 1 → true ≡ allZero rest → Initialize (l .base) (l .size) ≡ step
-  unfolding stepOf
-  is-initialize e z = rw (e, ← z)
-
-  pub is-unload : call ≡ 3 → l .size ≡ 0 → true ≡ allZero rest → Unload (l .base) ≡ step
-  unfolding stepOf allZero
-  is-unload e s z = rw (e, s, ← z)
-
-  pub has-size : call ≡ 3 → (l .size ≡ 0 → ⊥) → Bad ≡ step
-  unfolding stepOf allZero
-  has-size e s = rw (e, ne-eqb (l .size) 0 s)
-
-  pub no-call : (call ≡ 1 → ⊥) → (call ≡ 2 → ⊥) → (call ≡ 3 → ⊥) → Bad ≡ step
-  unfolding stepOf
-  no-call a b d = rw (ne-eqb call 1 a, ne-eqb call 2 b, ne-eqb call 3 d)
-
-  pub not-zero : (call ≡ 2 → ⊥) → false ≡ allZero rest → Bad ≡ step
-  unfolding stepOf allZero
-  not-zero n z = rw (ne-eqb call 2 n, ← z, and-false (eqb (l .size) 0)) (go (eqb call 1) (eqb call 3))
-    where
-      go : (a b : Bool) → Bad ≡ (if a then Bad else (if b then Bad else Bad))
-      go true b = refl
-      go false true = refl
-      go false false = refl
+use lib.Dec.{leb}
+use borrow.Author.Tests.{le-leb}
+use Rattle.session_step.specs.Head.{headWord}
+use Rattle.session_step.specs.Steps.{stepAt}
+use Rattle.session_file.specs.File.{isStep, areSteps, isSession}
 
 -- once a step is no call, the steps are not all calls
 pub step-bad : (file : List ℕ) (k count : ℕ) {t : Bool} → k < count → t ≡ isStep (stepAt file k) → t ≡ false → false ≡ areSteps file count

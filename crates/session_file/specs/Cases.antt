@@ -6,8 +6,10 @@ use mathlib.Core.Bool.{Bool, true, false}
 use lib.ListN.{replicate}
 use Rattle.window.specs.Bytes.{byteOf}
 use Rattle.register.specs.Words.{part, wordsIn, flat, bytesOf, allZero}
-use Rattle.session_file.specs.declared.Step.the-variants.{Initialize, Load, Unload}
-use Rattle.session_file.specs.File.{headWord, stepWord, stepOf, stepAt, isStep, areSteps, isSession}
+use Rattle.session_step.specs.declared.Step.the-variants.{Initialize, Load, Unload}
+use Rattle.session_step.specs.Head.{headWord}
+use Rattle.session_step.specs.Steps.{stepWord, stepOf, stepAt}
+use Rattle.session_file.specs.File.{isStep, areSteps, isSession}
 
 -- "file 20 to 49,152"; a session of no steps is valid (A42), and so is an empty window (A43)
 pub shortest : (isSession [] ≡ false) × (isSession (replicate 19 0) ≡ false) × (isSession (replicate 20 0) ≡ true)

@@ -23,7 +23,7 @@ use Rattle.register_read.specs.Encoded.{modules-stand, module-count, missing-co
 use Rattle.register_read.specs.Walk.{Turn, turn, unwrapped}
 use Rattle.text.specs.Text.{bytes, hexOf, decimalOf, pairsOf, put}
 use Rattle.text.specs.Laws.{put-append, put-then, put-then-two}
-use Rattle.session_file.specs.declared.Step.{Step}
+use Rattle.session_step.specs.declared.Step.{Step}
 use Rattle.session_lines.specs.Lines.{callName, stepLine, nameText, moduleLine, moduleLines, nameLines, missingLines}
 
 -- a step

@@ -5,7 +5,7 @@ use mathlib.Core.Bool.{true}
 use Rattle.register.specs.Module.{Module}
 use Rattle.linker.specs.declared.rebase.Lent.{Lent}
 use Rattle.text.specs.Text.{bytes, hexOf, decimalOf, pairsOf, digitsIn, digitOf}
-use Rattle.session_file.specs.declared.Step.the-variants.{Load, Unload}
+use Rattle.session_step.specs.declared.Step.the-variants.{Load, Unload}
 use Rattle.register.specs.Encode.{flag}
 use Rattle.session_lines.specs.Lines.{callName, stepLine, nameText, moduleLine, nameLines, missingLines}
 

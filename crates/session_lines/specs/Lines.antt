@@ -5,8 +5,8 @@ use lib.ListN.{length}
 use Rattle.register.specs.Module.{Module}
 use Rattle.register.specs.Encode.{flag}
 use Rattle.text.specs.Text.{bytes, hexOf, decimalOf, pairsOf}
-use Rattle.session_file.specs.declared.Step.{Step}
-use Rattle.session_file.specs.declared.Step.the-variants.{Initialize, Load, Unload, Bad}
+use Rattle.session_step.specs.declared.Step.{Step}
+use Rattle.session_step.specs.declared.Step.the-variants.{Initialize, Load, Unload, Bad}
 
 -- a step of a session is one of the three calls, so `Bad` has no name
 unfoldable pub callName : Step → List ℕ

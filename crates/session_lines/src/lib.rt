@@ -14,7 +14,7 @@ use register_read::modules;
 use register_read::record_at;
 use register_read::record_end;
 use register_read::record_name;
-use session_file::Step;
+use session_step::Step;
 use text::put_decimal;
 use text::put_hex;
 use text::put_pairs;

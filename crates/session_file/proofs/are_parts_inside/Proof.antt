@@ -1,7 +1,7 @@
 use borrow.Author.Tests.{lt-leb}
 use Rattle.session_file.proofs.Laws.{window-left}
 use borrow.Author.Needs.{needs}
-use Rattle.session_file.specs.File.{headWord}
+use Rattle.session_step.specs.Head.{headWord}
 use Rattle.session_file.proofs.are_parts_inside.Statement.{statement}
 use Rattle.session_file.proofs.are_parts_inside.Tie as tie
 

@@ -1,6 +1,6 @@
 use borrow.Author.Tests.{le-leb, lt-leb}
 use borrow.Author.Needs.{needs}
-use Rattle.session_file.specs.File.{headWord}
+use Rattle.session_step.specs.Head.{headWord}
 use Rattle.session_file.proofs.in_limits.Statement.{statement}
 use Rattle.session_file.proofs.in_limits.Tie as tie
 

@@ -1,5 +1,5 @@
 use borrow.Author.Needs.{needs}
-use Rattle.session_file.specs.File.{headWord}
+use Rattle.session_step.specs.Head.{headWord}
 use Rattle.session_file.proofs.window_bytes.Statement.{statement}
 use Rattle.session_file.proofs.window_bytes.Tie as tie
 

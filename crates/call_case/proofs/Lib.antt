@@ -1,0 +1,2 @@
+-- What the proofs of `call_case` share.
+pub mod Laws

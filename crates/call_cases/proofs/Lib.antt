@@ -1,2 +1,0 @@
--- What the proofs of `call_cases` share.
-pub mod Laws

@@ -1,0 +1,2 @@
+-- What the proofs of `session_step` share.
+pub mod Laws

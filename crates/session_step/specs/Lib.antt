@@ -1,0 +1,3 @@
+-- The definitions that the contracts of `session_step` cite.
+pub mod Head
+pub mod Steps
