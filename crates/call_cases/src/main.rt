@@ -6,10 +6,10 @@
 // Prints for each case `ok` or the first output that differs, and how many were ok.
 ghost use Prim.Native.Nat.{_/_, _≤_};
 ghost use lib.ListN.{length};
-use call_case::Verdict;
+use call_buffers::Verdict;
+use call_buffers::compare;
+use call_buffers::lay;
 use call_case::call;
-use call_case::compare;
-use call_case::lay;
 use header_text::append::Next;
 use register::words::word;
 

@@ -1,8 +1,8 @@
-use Rattle.call_case.proofs.Laws.{other-window, other-records, other-names, other-missing, all-same}
+use Rattle.call_buffers.proofs.Laws.{other-window, other-records, other-names, other-missing, all-same}
 use Rattle.linker_calls.specs.Steps.{lent}
 use borrow.Author.Needs.{needs}
-use Rattle.call_case.proofs.compare.Statement.{statement}
-use Rattle.call_case.proofs.compare.Tie as tie
+use Rattle.call_buffers.proofs.compare.Statement.{statement}
+use Rattle.call_buffers.proofs.compare.Tie as tie
 
 same-name-requires : tie.Need-same-name-requires
 same-name-requires c κs = search needs

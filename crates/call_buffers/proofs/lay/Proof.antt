@@ -1,7 +1,7 @@
-use Rattle.call_case.proofs.Laws.{past, not-before, not-after, all-laid}
+use Rattle.call_buffers.proofs.Laws.{past, not-before, not-after, all-laid}
 use borrow.Author.Needs.{needs}
-use Rattle.call_case.proofs.lay.Statement.{statement}
-use Rattle.call_case.proofs.lay.Tie as tie
+use Rattle.call_buffers.proofs.lay.Statement.{statement}
+use Rattle.call_buffers.proofs.lay.Tie as tie
 
 returns : tie.Need-returns
 returns c = past _ _ _ _ (c .if1 .taken)

@@ -1,0 +1,2 @@
+-- The definitions that the contracts of `call_buffers` cite.
+pub mod Buffers
