@@ -8,7 +8,7 @@ use Rattle.linker.specs.Valid.{Valid, AreBytes, initialize-valid, load-valid, u
 use Rattle.linker_calls.specs.Steps.{left}
 use Rattle.session_step.specs.declared.Step.{Step}
 use Rattle.session_step.specs.declared.Step.the-variants.{Initialize, Load, Unload, Bad}
-use Rattle.session_step.specs.Head.{windowAddress}
+use Rattle.session_head.specs.Head.{windowAddress}
 use Rattle.session_step.specs.Steps.{stepAt}
 use Rattle.session_lines.specs.Lines.{stepLine}
 use Rattle.text.specs.Text.{put}

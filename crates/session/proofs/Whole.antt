@@ -15,7 +15,7 @@ use Rattle.linker.specs.Refusals.{lentRegister}
 use Rattle.linker_calls.specs.Steps.{lent}
 use Rattle.text.specs.Text.{bytes, decimalOf, put}
 use Rattle.text.specs.Laws.{put-append, put-whole}
-use Rattle.session_step.specs.Head.{stepCount, windowLength, windowOffset}
+use Rattle.session_head.specs.Head.{stepCount, windowLength, windowOffset}
 use Rattle.session_file.specs.File.{isSession}
 use Rattle.session_file.specs.Parts.{session-parts}
 use Rattle.session_lines.specs.Lines.{moduleLines, missingLines}

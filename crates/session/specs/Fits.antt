@@ -18,7 +18,7 @@ use Rattle.linker.specs.Refusals.{lentRegister}
 use Rattle.text.specs.Text.{bytes, digitOf, digitsIn, hexOf, decimalOf, pairsOf}
 use Rattle.session_step.specs.declared.Step.{Step}
 use Rattle.session_step.specs.declared.Step.the-variants.{Initialize, Load, Unload, Bad}
-use Rattle.session_step.specs.Head.{stepCount}
+use Rattle.session_head.specs.Head.{stepCount}
 use Rattle.session_step.specs.Steps.{stepAt}
 use Rattle.session_file.specs.File.{isSession}
 use Rattle.session_file.specs.Parts.{session-parts}

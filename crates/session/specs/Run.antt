@@ -8,7 +8,7 @@ use Rattle.linker.specs.Outcome.{Bytes, Outcome, initializeOutcome, loadOutcome
 use Rattle.linker.specs.Valid.{Valid}
 use Rattle.session_step.specs.declared.Step.{Step}
 use Rattle.session_step.specs.declared.Step.the-variants.{Initialize, Load, Unload, Bad}
-use Rattle.session_step.specs.Head.{windowLength, windowOffset}
+use Rattle.session_head.specs.Head.{windowLength, windowOffset}
 
 -- "The register starts zeroed, records and names 16,384 bytes each."
 unfoldable pub start : List ℕ → Bytes

@@ -6,7 +6,7 @@ use Rattle.register.specs.Module.{Register}
 use Rattle.linker.specs.Outcome.{Bytes, Outcome}
 use Rattle.linker.specs.Refusals.{lentRegister}
 use Rattle.text.specs.Text.{bytes, decimalOf}
-use Rattle.session_step.specs.Head.{stepCount, windowAddress}
+use Rattle.session_head.specs.Head.{stepCount, windowAddress}
 use Rattle.session_step.specs.Steps.{stepAt}
 use Rattle.session_file.specs.File.{isSession}
 use Rattle.session_lines.specs.Lines.{stepLine, moduleLines, missingLines}

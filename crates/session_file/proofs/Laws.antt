@@ -1,5 +1,5 @@
 -- What the code of `session_file` finds, test by test: the steps of a table, and the judgement.
-use Prim.Native.Nat.{ℕ, zero, suc, _+_, _*_, _≤_, _<_}
+use Prim.Native.Nat.{ℕ, zero, suc, _+_, _<_}
 use mathlib.Core.Logic.{inl, inr}
 use mathlib.Core.Path.{_≡_}
 use mathlib.Core.List.{List}
@@ -9,8 +9,8 @@ use native.Mathlib.Nat.{eq-or-lt-of-le}
 use native.Mathlib.Numerals.{add-one}
 use lib.ListN.{length}
 use lib.Dec.{leb}
-use borrow.Author.Tests.{le-leb}
-use Rattle.session_step.specs.Head.{headWord}
+use Rattle.session_head.specs.Head.{headWord}
+use Rattle.session_head.proofs.Laws.{parts}
 use Rattle.session_step.specs.Steps.{stepAt}
 use Rattle.session_file.specs.File.{isStep, areSteps, isSession}
 
@@ -29,14 +29,6 @@ step-on file k z s e = rw (add-one, z, ← s, e)
 -- the judgement, with its tests in three groups
 abbrev limits : List ℕ → Bool
 limits file = leb 20 (length file) && (leb (length file) 49152 && (leb (headWord file 0) 64 && leb (headWord file 3) 32768))
-
-abbrev parts : List ℕ → Bool
-parts file = leb (headWord file 1 + 36 * headWord file 0) (length file) && leb (headWord file 4 + headWord file 3) (length file)
-
--- the table is inside, so whether the window is inside too is left
-pub window-left : (file : List ℕ) {table count offset size : ℕ} → table ≡ headWord file 1 → count ≡ headWord file 0
-    → table + 36 * count ≤ length file → offset ≡ headWord file 4 → size ≡ headWord file 3 → leb (offset + size) (length file) ≡ parts file
-window-left file t n h o s = rw (← t, ← n, ← o, ← s, le-leb _ _ h)
 
 groups : (file : List ℕ) → limits file && (parts file && areSteps file (headWord file 0)) ≡ isSession file
 unfolding isSession

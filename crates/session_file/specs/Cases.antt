@@ -7,7 +7,7 @@ use lib.ListN.{replicate}
 use Rattle.window.specs.Bytes.{byteOf}
 use Rattle.register.specs.Words.{part, wordsIn, flat, bytesOf, allZero}
 use Rattle.session_step.specs.declared.Step.the-variants.{Initialize, Load, Unload}
-use Rattle.session_step.specs.Head.{headWord}
+use Rattle.session_head.specs.Head.{headWord}
 use Rattle.session_step.specs.Steps.{stepWord, stepOf, stepAt}
 use Rattle.session_file.specs.File.{isStep, areSteps, isSession}
 

@@ -1,4 +1,4 @@
--- The session file: what makes it one. Its head and its steps are in `session_step`.
+-- The session file: what makes it one. Its head is in `session_head`, a step in `session_step`.
 use Prim.Native.Nat.{ℕ, zero, suc, _+_, _*_}
 use mathlib.Core.List.{List}
 use mathlib.Core.Bool.{Bool, true, false, _&&_}
@@ -6,7 +6,7 @@ use lib.ListN.{length}
 use lib.Dec.{leb}
 use Rattle.session_step.specs.declared.Step.{Step}
 use Rattle.session_step.specs.declared.Step.the-variants.{Initialize, Load, Unload, Bad}
-use Rattle.session_step.specs.Head.{stepCount, stepTable, windowLength, windowOffset}
+use Rattle.session_head.specs.Head.{stepCount, stepTable, windowLength, windowOffset}
 use Rattle.session_step.specs.Steps.{stepAt}
 
 unfoldable pub isStep : Step → Bool

@@ -7,7 +7,7 @@ use lib.ListN.{length}
 use lib.Dec.{leb}
 use borrow.Author.Tests.{leb-true}
 use Rattle.window.specs.Tests.{both}
-use Rattle.session_step.specs.Head.{stepCount, stepTable, windowLength, windowOffset}
+use Rattle.session_head.specs.Head.{stepCount, stepTable, windowLength, windowOffset}
 use Rattle.session_file.specs.File.{areSteps, isSession}
 
 pub session-parts

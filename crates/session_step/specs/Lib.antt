@@ -1,3 +1,2 @@
 -- The definitions that the contracts of `session_step` cite.
-pub mod Head
 pub mod Steps

@@ -8,7 +8,7 @@ use Rattle.register.specs.Words.{part, wordsIn, allZero}
 use Rattle.linker.specs.declared.rebase.Lent.{Lent}
 use Rattle.session_step.specs.declared.Step.{Step}
 use Rattle.session_step.specs.declared.Step.the-variants.{Initialize, Load, Unload, Bad}
-use Rattle.session_step.specs.Head.{stepTable}
+use Rattle.session_head.specs.Head.{stepTable}
 
 -- "A step is 9 words": word i of step k, of at most 64 steps
 unfoldable pub stepWord : List ℕ → ℕ → ℕ → ℕ

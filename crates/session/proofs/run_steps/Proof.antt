@@ -10,7 +10,7 @@ use Rattle.session.proofs.run_steps.Tie as tie
 use Rattle.session.proofs.run_steps.Reads as reads
 use Rattle.session.proofs.run_steps.Lts as lts
 use Rattle.session.proofs.run_turn.Reads as run-turn-reads
-use Rattle.session_file.proofs.step_count.Reads as step-count-reads
+use Rattle.session_head.proofs.step_count.Reads as step-count-reads
 
 abbrev Inv-loop : tie.InvT-loop
 Inv-loop file window₀ records₀ names₀ missing₀ out₀ at count i₀ k₀ window records names missing out i k =

@@ -7,7 +7,7 @@ use Rattle.session.proofs.run_turn.Reads as reads
 use Rattle.session.proofs.run_turn.Lts as lts
 use Rattle.session.proofs.run_step.Reads as run-step-reads
 use Rattle.session_step.proofs.read_step.Reads as read-step-reads
-use Rattle.session_file.proofs.window_address.Reads as window-address-reads
+use Rattle.session_head.proofs.window_address.Reads as window-address-reads
 use Rattle.session_lines.proofs.put_step.Reads as put-step-reads
 
 read-step-requires : tie.Need-read-step-requires

@@ -1,6 +1,6 @@
 use native.Mathlib.Nat.{add-zero}
 use borrow.Author.Needs.{needs}
-use Rattle.session_step.specs.Head.{headWord}
+use Rattle.session_head.specs.Head.{headWord}
 use Rattle.session_step.specs.Steps.{stepWord, stepAt}
 use Rattle.session_step.proofs.step_at.Statement.{statement}
 use Rattle.session_step.proofs.step_at.Tie as tie

@@ -1,8 +1,8 @@
 use borrow.Author.Tests.{le-leb, lt-leb}
 use borrow.Author.Needs.{needs}
-use Rattle.session_step.specs.Head.{headWord}
-use Rattle.session_file.proofs.in_limits.Statement.{statement}
-use Rattle.session_file.proofs.in_limits.Tie as tie
+use Rattle.session_head.specs.Head.{headWord}
+use Rattle.session_head.proofs.in_limits.Statement.{statement}
+use Rattle.session_head.proofs.in_limits.Tie as tie
 
 returns : tie.Need-returns
 unfolding headWord

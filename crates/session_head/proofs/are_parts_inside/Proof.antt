@@ -1,9 +1,9 @@
 use borrow.Author.Tests.{lt-leb}
-use Rattle.session_file.proofs.Laws.{window-left}
+use Rattle.session_head.proofs.Laws.{window-left}
 use borrow.Author.Needs.{needs}
-use Rattle.session_step.specs.Head.{headWord}
-use Rattle.session_file.proofs.are_parts_inside.Statement.{statement}
-use Rattle.session_file.proofs.are_parts_inside.Tie as tie
+use Rattle.session_head.specs.Head.{headWord}
+use Rattle.session_head.proofs.are_parts_inside.Statement.{statement}
+use Rattle.session_head.proofs.are_parts_inside.Tie as tie
 
 word-requires : tie.Need-word-requires
 word-requires c κs = search needs

@@ -1,7 +1,7 @@
 use borrow.Author.Needs.{needs}
-use Rattle.session_step.specs.Head.{headWord}
-use Rattle.session_file.proofs.window_address.Statement.{statement}
-use Rattle.session_file.proofs.window_address.Tie as tie
+use Rattle.session_head.specs.Head.{headWord}
+use Rattle.session_head.proofs.window_address.Statement.{statement}
+use Rattle.session_head.proofs.window_address.Tie as tie
 
 word-requires : tie.Need-word-requires
 word-requires c κs = search needs

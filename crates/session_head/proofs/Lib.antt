@@ -1,0 +1,2 @@
+-- What the proofs of `session_head` share.
+pub mod Laws

@@ -1,0 +1,2 @@
+-- The definitions that the contracts of `session_head` cite.
+pub mod Head
