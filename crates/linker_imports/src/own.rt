@@ -18,11 +18,11 @@ use linker_relocation::relocation::apply_relocation_batch;
 use linker_sources::batch::is_unresolved;
 use linker_sources::names::module_by_name;
 use linker_sources::source::imports_of;
+use name::read_name;
 use register::exports::Found;
 use register_change::missing::push_missing;
 use register_read::Symbol;
 use register_read::modules::lookup;
-use name::read_name;
 
 // One named import, if it still waits; a name that nothing provides is kept as missing.
 fn import_named(
