@@ -129,7 +129,7 @@ found at base S r o h (stays n q) =
     (λ j l. each-at (λ a. baseOf (a .coming) ≢ base) S noArrival n j (omega (arith, h .number))))
 
 -- the records after a module came, and after one left
-last-at : (S : List Arrival) (a d : Arrival) → getD (S ++ (a ∷ [])) (length S) d ≡ a
+pub last-at : (S : List Arrival) (a d : Arrival) → getD (S ++ (a ∷ [])) (length S) d ≡ a
 last-at [] a d = refl
 last-at (b ∷ S) a d = last-at S a d
 

@@ -40,7 +40,8 @@ use Rattle.history_calls.specs.Loads.{Joined, Came, Answered, Reach, Once, Name
 use Rattle.history_calls.specs.Starts.{Started, Begun, starts}
 use Rattle.history_sessions.specs.Lists.{lacking, lacking-at, lacking-length}
 use Rattle.history_sessions.specs.Unique.{noArrival, imageAt}
-use Rattle.history_theorem.specs.Invariant.{restFor, restOfArrival, castOf, Alike, Resting, to-rest, resting-agree, last-at, more-length, more-at, cast-more, cast-less}
+use Rattle.history_sessions.specs.Registers.{last-at}
+use Rattle.history_theorem.specs.Invariant.{restFor, restOfArrival, castOf, Alike, Resting, to-rest, resting-agree, more-length, more-at, cast-more, cast-less}
 
 -- what the premises say of the modules of a list, n bytes from at being the window
 pub record Fine (at n : ℕ) (S : List Arrival) : Type 0 where

@@ -21,6 +21,7 @@ use Rattle.history_calls.specs.Loads.{restOf}
 use Rattle.history_calls.specs.Between.{scene-agree, book-same}
 use Rattle.history_sessions.specs.Lists.{lacking, lacking-at, lacking-length}
 use Rattle.history_sessions.specs.Unique.{noArrival, imageAt}
+use Rattle.history_sessions.specs.Registers.{last-at}
 
 -- the bytes at rest of what comes so, over the bytes B
 unfoldable pub restFor : Coming → Image → Memory → Memory
@@ -78,10 +79,6 @@ cast-same {n} {o} {x} {y} {T} {U} e f g =
     ap {B = Cast} (λ i. record { number = i; image = x; rest = T }) e
     ∙ ap {B = Cast} (λ z. record { number = o; image = z; rest = T }) (fun-ext f)
     ∙ ap {B = Cast} (λ z. record { number = o; image = y; rest = z }) (fun-ext g)
-
-pub last-at : (S : List Arrival) (a d : Arrival) → getD (S ++ (a ∷ [])) (length S) d ≡ a
-last-at [] a d = refl
-last-at (b ∷ S) a d = last-at S a d
 
 pub more-length : (S : List Arrival) (a : Arrival) → suc (length S) ≡ length (S ++ (a ∷ []))
 more-length [] a = refl

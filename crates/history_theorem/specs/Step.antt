@@ -18,9 +18,9 @@ use Rattle.history.specs.Demand3.{Each, Pairs, InOrder, AutoLinked, ImportsKept
 use Rattle.history_steps.specs.Leaving.{skip-low}
 use Rattle.history_sessions.specs.Lists.{lacking, lacking-at, OtherBase, Among, nothing, keeps, drops, among-each, standing-among, leaver}
 use Rattle.history_sessions.specs.Unique.{noArrival, imageAt, auto-at, kept-at, other-bases}
-use Rattle.history_sessions.specs.Registers.{Registered, Found, goes, none, found}
+use Rattle.history_sessions.specs.Registers.{Registered, Found, goes, none, found, last-at}
 use Rattle.history_sessions.specs.Answers.{Performed, performed, done-zero, unload-unknown}
-use Rattle.history_theorem.specs.Invariant.{last-at, more-length}
+use Rattle.history_theorem.specs.Invariant.{more-length}
 use Rattle.history_theorem.specs.Turns.{RestingIn, follows-rests, between-rests, initialize-turn, load-turn, unload-turn}
 use Rattle.history_theorem.specs.Fine.{fine}
 
