@@ -11,7 +11,6 @@ use Rattle.window.specs.Memory.{if_then_else_, _⊕_, goodWindow}
 use Rattle.window.specs.Access.{Prog, get32, run, length-run}
 use Rattle.name.specs.Name.{isName, nameAt}
 use Rattle.window.specs.Small.{run-bytes}
-use Rattle.window.specs.Tests.{both, also}
 use Rattle.layout.specs.Header.{importNamedSymbolTableOffset, importNamedSymbolNum, importNamedSymbolEntrySize, nextCro, previousCro}
 use Rattle.layout.specs.Segments.{field, setField, entryAt}
 use Rattle.register.specs.declared.words.Crs.the-variants.{Known}
@@ -26,6 +25,7 @@ use Rattle.register_append.specs.Stands.{encoded-small}
 use Rattle.register_read.specs.Read.{lookupIn}
 use Rattle.register_read.specs.declared.Symbol.{Symbol}
 use Rattle.register_read.specs.declared.Symbol.the-variants.{At, Nothing}
+use Rattle.register_change.specs.Kept.{names-more}
 use Rattle.linker.specs.declared.rebase.Lent.{Lent}
 use Rattle.linker.specs.declared.rebase.Rebased.{Rebased}
 use Rattle.linker.specs.Relocation.{resetExternalRelocations}
@@ -58,11 +58,6 @@ Word n = n < 2 ^ 32
 
 abbrev pub Names : List (List ℕ) → Type 0
 Names ns = (length ns ≤ 64) × (properNames ns ≡ true)
-
-names-more : (ns : List (List ℕ)) (name : List ℕ) → properNames ns ≡ true → isName name ≡ true → properNames (ns ++ (name ∷ [])) ≡ true
-unfolding properNames
-names-more [] name p g = also g refl
-names-more (n ∷ ns) name p g = let a = both (isName n) (properNames ns) p in also (a .0) (names-more ns name (a .1) g)
 
 noted-names : (s : Symbol) (name : List ℕ) (ns : List (List ℕ)) → isName name ≡ true → Names ns → Names (noted s name ns)
 unfolding noted

@@ -74,7 +74,7 @@ unfolding slots
 slots-more [] name = append-nil (slot name)
 slots-more (n ∷ ns) name = ap (λ t. slot n ++ t) (slots-more ns name) ∙ sym (append-assoc (slot n) (slots ns) (slot name))
 
-names-more : (ns : List (List ℕ)) (name : List ℕ) → properNames ns ≡ true → isName name ≡ true → properNames (ns ++ (name ∷ [])) ≡ true
+pub names-more : (ns : List (List ℕ)) (name : List ℕ) → properNames ns ≡ true → isName name ≡ true → properNames (ns ++ (name ∷ [])) ≡ true
 unfolding properNames
 names-more [] name p g = also g refl
 names-more (n ∷ ns) name p g = let a = both (isName n) (properNames ns) p in also (a .0) (names-more ns name (a .1) g)
