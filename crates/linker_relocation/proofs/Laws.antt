@@ -116,7 +116,7 @@ module _ (at base : ℕ) (w : List ℕ) where
       let tag = wordAt at w (base ⊕ onUnresolvedSegmentTag) in
       rw e (sym (ap (λ (r : ℕ × List ℕ). r .0) (after-reads at (tagToAddress base tag) _ w (tagToAddress-reads base tag))))
 
-handler-reads : (base : ℕ) → Reads (unresolvedSymbol base)
+pub handler-reads : (base : ℕ) → Reads (unresolvedSymbol base)
 unfolding unresolvedSymbol field Reads _>>=_
 handler-reads base = λ tag. reads-bind (tagToAddress base tag) _ (tagToAddress-reads base tag) (λ a. tt)
 

@@ -6,11 +6,11 @@ use mathlib.Core.Bool.{Bool, true, false}
 use native.Mathlib.Omega.{arith}
 use borrow.Author.Tests.{eq-eqb, ne-eqb}
 use Rattle.window.specs.Memory.{if_then_else_, _⊕_, wordAt}
-use Rattle.window.specs.Access.{Prog, ret, read32, _>>=_, _>>_, run, run-bind, Reads, reads-bind}
+use Rattle.window.specs.Access.{Prog, ret, read32, _>>=_, _>>_, run, run-bind, Reads}
 use Rattle.window.specs.Loop.{loop}
 use Rattle.name.specs.Name.{nameAt, nameAt-reads}
 use Rattle.layout.specs.Header.{importNamedSymbolTableOffset, importNamedSymbolNum, importNamedSymbolEntrySize, importModuleTableOffset, importModuleNum, importModuleEntrySize, importIndexedSymbolEntrySize}
-use Rattle.layout.specs.Segments.{field, entryAt, tagToAddress, tagToAddress-reads}
+use Rattle.layout.specs.Segments.{field, entryAt}
 use Rattle.register.specs.Words.{same}
 use Rattle.register.specs.Module.{Module}
 use Rattle.register_read.specs.Read.{exportOf}
@@ -19,6 +19,7 @@ use Rattle.register_read.specs.declared.Symbol.the-variants.{At, Nothing}
 use Rattle.linker.specs.Relocation.{unresolvedSymbol, applyRelocationBatch, batchIsResolved}
 use Rattle.linker.specs.Resets.{reset, resetAt, exists, resetNamed, resetModule, resetImports}
 use Rattle.linker_relocation.specs.Runs.{after-reads}
+use Rattle.linker_relocation.proofs.Laws.{handler-reads}
 use Rattle.linker_resets.specs.Tables.{resetTable, resetAllNamed, resetAllModules}
 
 -- one batch
@@ -137,10 +138,6 @@ module _ (at base handler : ℕ) (w : List ℕ) where
         ≡ run at (resetAllModules gone base handler) w
     unfolding resetAllModules field run _>>=_
     modules-start t n = let z : count - 0 ≡ count = omega arith in rw (z, t, n)
-
-handler-reads : (base : ℕ) → Reads (unresolvedSymbol base)
-unfolding unresolvedSymbol field Reads _>>=_
-handler-reads base = λ tag. reads-bind (tagToAddress base tag) _ (tagToAddress-reads base tag) (λ a. tt)
 
 module _ (at base : ℕ) (w : List ℕ) (gone : Module) where
   abbrev halves : ℕ → Prog (Unit {0})
