@@ -15,8 +15,9 @@ use Rattle.register.specs.Encode.{exportNames, moduleNames, moduleWords, record
 use Rattle.register.specs.Change.{appended, putNamed}
 use Rattle.register_append.specs.Draft.{roomIn, room-inside}
 use Rattle.register_append.specs.Held.{words-long}
+use Rattle.register_append.specs.Append.{names-with, words-with}
 use Rattle.linker.specs.Calls.{fits}
-use Rattle.linker.specs.Room.{Fits, words-with, names-with}
+use Rattle.linker.specs.Room.{Fits}
 
 -- "64 modules stand, or the record or its names exceed the free bytes": otherwise it fits, so an exact fit passes
 pub means-fits : (records names : ℕ) (r : Register) (m : Module) → Fits records names r m → fits records names r m ≡ true

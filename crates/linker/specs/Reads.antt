@@ -1,11 +1,11 @@
 -- What a module's record holds, whatever its image: names, distinct exports, at most 16 segments, 32-bit numbers. And that missing
 -- names are names, at most 64.
-use Prim.Native.Nat.{ℕ, zero, suc, _+_, _^_, _≤_, _<_}
+use Prim.Native.Nat.{ℕ, _+_, _^_, _≤_, _<_}
 use mathlib.Core.Path.{_≡_, refl, sym, _∙_, subst}
 use mathlib.Core.List.{List, [], _∷_, _++_}
 use mathlib.Core.Bool.{Bool, true, false}
 use native.Mathlib.Omega.{arith}
-use lib.ListN.{length, take}
+use lib.ListN.{length, take, length-take}
 use lib.Dec.{ltb}
 use borrow.Author.Tests.{le-leb}
 use Rattle.window.specs.Memory.{if_then_else_, _⊕_}
@@ -28,6 +28,7 @@ use Rattle.register.specs.Module.{Export, Module, named-ok, findFrom, findExpor
 use Rattle.register.specs.Change.{putNamed}
 use Rattle.register.specs.Buffers.{Below}
 use Rattle.register_append.specs.Laid.{below-append, below-one}
+use Rattle.register_append.specs.Stands.{below-take}
 use Rattle.linker.specs.Relocation.{addressOr0}
 use Rattle.linker.specs.Exports.{putUsable, namedExport, namedExports, indexedExport, indexedExports, offsetOr0, mostSegments, readSegments, readModule}
 use Rattle.linker.specs.Room.{Addressed, Small}
@@ -107,18 +108,6 @@ unfolding putUsable
 usable-kept xs name (At a) g s k = put-kept xs name a g s k
 usable-kept xs name Nowhere g s k = k
 
--- a segment taken whole, cut at 16
-take-short : (n : ℕ) (l : List ℕ) → length (take n l) ≤ n
-take-short zero l = omega arith
-take-short (suc n) [] = omega arith
-take-short (suc n) (x ∷ l) = let h = take-short n l in omega arith
-
-take-below : (n b : ℕ) (l : List ℕ) → 0 < b → Below b l → Below b (take n l)
-take-below zero b l h s i = h
-take-below (suc n) b [] h s i = h
-take-below (suc n) b (x ∷ l) h s zero = s 0
-take-below (suc n) b (x ∷ l) h s (suc i) = take-below n b l h (λ k. s (suc k)) i
-
 module _ (at : ℕ) where
   pub name-yields : (p : ℕ) → Yields at (λ name. isName name ≡ true) (nameAt p)
   name-yields p w b = nameAt-isName at p w
@@ -190,8 +179,9 @@ module _ (at : ℕ) where
     abbrev Segments : List ℕ → Type 0
     Segments xs = (length xs ≤ 16) × Words xs
 
+    -- cut at 16
     cut : (n : ℕ) (xs : List ℕ) → n ≤ 16 → Words xs → Segments (take n xs)
-    cut n xs l h = (let k = take-short n xs in omega arith, take-below n (2 ^ 32) xs (omega arith) h)
+    cut n xs l h = (rw length-take (omega arith), below-take n (2 ^ 32) xs (omega arith) h)
 
     readSegments-yields : Yields at Segments (readSegments base)
     unfolding readSegments

@@ -1,7 +1,7 @@
 -- A module more, where it fits: the register with it is one that its bytes encode.
 use Prim.Native.Nat.{ℕ, zero, suc, _+_, _-_, _*_, _^_, _≤_, _<_}
-use mathlib.Core.Path.{_≡_, sym, ap, _∙_, subst}
-use mathlib.Core.List.{List, [], _∷_, _++_, append-nil}
+use mathlib.Core.Path.{_≡_, sym, ap, subst}
+use mathlib.Core.List.{List, [], _∷_, _++_}
 use mathlib.Core.Bool.{Bool, true, false, _&&_}
 use native.Mathlib.Omega.{arith}
 use lib.ListN.{length, replicate, length-append}
@@ -23,7 +23,7 @@ use Rattle.register.specs.Buffers.{Below, padded, length-padded, length-flat, e
 use Rattle.register_append.specs.Draft.{roomIn, room-inside, room-word}
 use Rattle.register_append.specs.Laid.{below-append}
 use Rattle.register_append.specs.Held.{words-long}
-use Rattle.register_append.specs.Append.{names-append, words-append}
+use Rattle.register_append.specs.Append.{names-with, words-with}
 use Rattle.register_append.specs.Stands.{appended-proper}
 use Rattle.linker.specs.Calls.{fits}
 
@@ -154,18 +154,6 @@ crsKnown-small : (c : Crs) → crsKnown c < 2 ^ 32
 unfolding crsKnown
 crsKnown-small Unknown = omega arith
 crsKnown-small (Known base) = omega arith
-
--- the words and the names with a module more
-module _ (ms : List Module) (m : Module) where
-  pub words-with : recordWords 0 (ms ++ (m ∷ [])) ≡ recordWords 0 ms ++ moduleWords (length (recordNames ms)) m
-  unfolding recordWords
-  words-with =
-      let z : 0 + length (recordNames ms) ≡ length (recordNames ms) = omega arith in
-      words-append 0 ms (m ∷ []) ∙ rw (z, append-nil)
-
-  pub names-with : length (recordNames (ms ++ (m ∷ []))) ≡ length (recordNames ms) + length (moduleNames m)
-  unfolding recordNames
-  names-with = ap length (names-append ms (m ∷ [])) ∙ rw append-nil (length-append (recordNames ms) (moduleNames m))
 
 -- a module more that fits, with another CRS and other missing names
 module _ (records names : ℕ) (r : Register) (m : Module) (p : proper r ≡ true) (s : Below (2 ^ 32) (encodeWords r)) (f : Fits records names r m)

@@ -24,9 +24,10 @@ use Rattle.register_append.specs.declared.draft.Drafted.the-variants.{Open, Ful
 use Rattle.register_append.specs.Draft.{roomIn, longer, pushListed, addedTo, draftAt, beginRecord, finishRecord, givenUp}
 use Rattle.register_append.specs.Held.{Held, words-long, words-export, names-export}
 use Rattle.register_append.specs.Steps.{listed-none, step-segment, step-indexed, step-again, step-export, step-export-none}
-use Rattle.register_append.specs.Append.{words-append, names-append, finished, finished-names, given-up, begun, not-begun}
+use Rattle.register_append.specs.Append.{words-with, finished, finished-names, given-up, begun, not-begun}
 use Rattle.register_append.specs.Stands.{stands, still-register}
 use Rattle.linker.specs.Calls.{fits}
+use Rattle.linker.specs.Fit.{names-of}
 use Rattle.linker_record.specs.Tried.{tried, putTried}
 
 -- buffers that encode a register
@@ -71,30 +72,18 @@ unfolding encodeWords
 length-encode r = omega arith
 
 length-words : (g : Ground) (m : Module) → 4 * length (encodeWords (appended (g .register) m)) ≡ used g + 4 * length (moduleWords (named g) m)
-unfolding appended recordWords
+unfolding appended
 length-words g m =
     let ms = g .register .modules in
-    let o : 0 + length (recordNames ms) ≡ length (recordNames ms) = omega arith in
-    let w : recordWords 0 (ms ++ (m ∷ [])) ≡ recordWords 0 ms ++ moduleWords (named g) m =
-    words-append 0 ms (m ∷ [])
-    ∙ ap (λ k. recordWords 0 ms ++ (moduleWords k m ++ [])) o
-    ∙ ap (λ t. recordWords 0 ms ++ t) (append-nil (moduleWords (named g) m)) in
     let a = length-encode (appended (g .register) m) in
     let b = length-encode (g .register) in
     let c : length (recordWords 0 (ms ++ (m ∷ []))) ≡ length (recordWords 0 ms) + length (moduleWords (named g) m) =
-    ap length w ∙ length-append (recordWords 0 ms) (moduleWords (named g) m) in
+    ap length (words-with ms m) ∙ length-append (recordWords 0 ms) (moduleWords (named g) m) in
     omega arith
-
-length-names : (g : Ground) (m : Module) → length (recordNames (appended (g .register) m .modules)) ≡ named g + length (moduleNames m)
-unfolding appended recordNames
-length-names g m =
-    let ms = g .register .modules in
-    ap length (names-append ms (m ∷ []) ∙ ap (λ t. recordNames ms ++ t) (append-nil (moduleNames m)))
-    ∙ length-append (recordNames ms) (moduleNames m)
 
 pub fits-roomy : (g : Ground) (m : Module) → fits (length (g .records)) (length (g .names)) (g .register) m ≡ roomy g m
 unfolding fits roomy
-fits-roomy g m = rw (length-words g m, length-names g m)
+fits-roomy g m = rw (length-words g m, names-of (g .register) m)
 
 -- where there is no room
 

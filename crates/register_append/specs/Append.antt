@@ -110,15 +110,20 @@ words-append q (m ∷ ps) bs =
     ap (λ t. moduleWords q m ++ t) (words-append (q + g) ps bs)
     ∙ rw e (sym (append-assoc (moduleWords q m) (recordWords (q + g) ps) (recordWords (q + g + length (recordNames ps)) bs)))
 
-recordNames-more : (ms : List Module) (m : Module) → recordNames (ms ++ (m ∷ [])) ≡ recordNames ms ++ moduleNames m
-unfolding recordNames
-recordNames-more ms m = names-append ms (m ∷ []) ∙ ap (λ t. recordNames ms ++ t) (append-nil (moduleNames m))
+-- one module more
+module _ (ms : List Module) (m : Module) where
+  recordNames-more : recordNames (ms ++ (m ∷ [])) ≡ recordNames ms ++ moduleNames m
+  unfolding recordNames
+  recordNames-more = names-append ms (m ∷ []) ∙ ap (λ t. recordNames ms ++ t) (append-nil (moduleNames m))
 
-recordWords-more
-    : (q : ℕ) (ms : List Module) (m : Module) → recordWords q (ms ++ (m ∷ [])) ≡ recordWords q ms ++ moduleWords (q + length (recordNames ms)) m
-unfolding recordWords
-recordWords-more q ms m =
-    words-append q ms (m ∷ []) ∙ ap (λ t. recordWords q ms ++ t) (append-nil (moduleWords (q + length (recordNames ms)) m))
+  pub names-with : length (recordNames (ms ++ (m ∷ []))) ≡ length (recordNames ms) + length (moduleNames m)
+  names-with = ap length recordNames-more ∙ length-append (recordNames ms) (moduleNames m)
+
+  pub words-with : recordWords 0 (ms ++ (m ∷ [])) ≡ recordWords 0 ms ++ moduleWords (length (recordNames ms)) m
+  unfolding recordWords
+  words-with =
+      let z : 0 + length (recordNames ms) ≡ length (recordNames ms) = omega arith in
+      words-append 0 ms (m ∷ []) ∙ rw (z, append-nil)
 
 -- the header of the register with m, by three changes of the header without
 pub words-appended
@@ -129,17 +134,13 @@ pub words-appended
 unfolding encodeWords appended
 words-appended r m x end last e f =
     let ms = r .modules in
-    let o : 0 + length (recordNames ms) ≡ length (recordNames ms) = omega arith in
-    let w : recordWords 0 (ms ++ (m ∷ [])) ≡ recordWords 0 ms ++ moduleWords (length (recordNames ms)) m =
-    recordWords-more 0 ms m ∙ ap (λ k. recordWords 0 ms ++ moduleWords k m) o in
     let n : length (ms ++ (m ∷ [])) ≡ length ms + 1 = length-append ms (m ∷ []) in
-    let k : length (recordNames (ms ++ (m ∷ []))) ≡ last =
-    ap length (recordNames-more ms m) ∙ length-append (recordNames ms) (moduleNames m) ∙ sym f in
+    let k : length (recordNames (ms ++ (m ∷ []))) ≡ last = names-with ms m ∙ sym f in
     let l : length (recordWords 0 ms ++ moduleWords (length (recordNames ms)) m)
     ≡ length (recordWords 0 ms) + length (moduleWords (length (recordNames ms)) m) =
     length-append (recordWords 0 ms) (moduleWords (length (recordNames ms)) m) in
     let u : 4 * (8 + length (recordWords 0 ms ++ moduleWords (length (recordNames ms)) m)) ≡ end = omega arith in
-    rw (k, n, w, u)
+    rw (k, n, words-with ms m, u)
 
 -- buffers that encode r
 

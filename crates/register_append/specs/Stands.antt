@@ -35,7 +35,7 @@ words-small (x ∷ y ∷ z ∷ []) b i = omega arith
 words-small (x ∷ y ∷ z ∷ v ∷ l) b zero = omega (arith, b 0, b 1, b 2, b 3)
 words-small (x ∷ y ∷ z ∷ v ∷ l) b (suc i) = words-small l (λ k. b (suc (suc (suc (suc k))))) i
 
-below-take : (n m : ℕ) (l : List ℕ) → 0 < m → Below m l → Below m (take n l)
+pub below-take : (n m : ℕ) (l : List ℕ) → 0 < m → Below m l → Below m (take n l)
 below-take zero m l h b i = h
 below-take (suc n) m [] h b i = h
 below-take (suc n) m (x ∷ l) h b zero = b 0
