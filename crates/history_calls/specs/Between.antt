@@ -13,10 +13,10 @@ use Rattle.history_steps.specs.Links.{Links}
 use Rattle.history_steps.specs.World.{Cast}
 use Rattle.history_steps.specs.Records as records
 use Rattle.history_steps.specs.Own.{RecordedAll}
-use Rattle.history_calls.specs.Scene.{Scene, Book}
+use Rattle.history_calls.specs.Scene.{Scene, Book, AtRest}
 
 -- only the bytes of the areas matter
-pub scene-agree
+scene-agree
     : {C : Cast} {φ : ℕ → Links} {x y : ℕ → ℕ} {M N : Memory} → ((k : ℕ) → k < C .number → Agree (Area (C .image k)) M N) → Scene C φ x y M
     → Scene C φ x y N
 scene-agree {C} e s =
@@ -29,6 +29,10 @@ scene-agree {C} e s =
       listed = s .listed;
       links = s .links;
     }
+
+pub rest-agree
+    : {C : Cast} {r : Register} {M N : Memory} → ((k : ℕ) → k < C .number → Agree (Area (C .image k)) M N) → AtRest C r M → AtRest C r N
+rest-agree e h = record { links = h .links; next = h .next; previous = h .previous; scene = scene-agree e (h .scene); book = h .book }
 
 -- the same records but for that order
 recorded-order : (x : ℕ → Image) (rs ss : List Module) → SameModules rs ss → RecordedAll x rs → RecordedAll x ss
@@ -45,10 +49,13 @@ same-many (r ∷ rs) (s ∷ ss) e = ap suc (same-many rs ss (e .1))
 same-many [] (s ∷ ss) e = absurd e
 same-many (r ∷ rs) [] e = absurd e
 
-pub book-same : {C : Cast} {r s : Register} → SameRegister r s → Book C r → Book C s
+book-same : {C : Cast} {r s : Register} → SameRegister r s → Book C r → Book C s
 book-same {C} {r} {s} e b =
     record {
       recorded = recorded-order (C .image) (r .modules) (s .modules) (e .modules) (b .recorded);
       many = sym (same-many (r .modules) (s .modules) (e .modules)) ∙ b .many;
       crs = sym (e .crs) ∙ b .crs;
     }
+
+pub rest-same : {C : Cast} {r s : Register} {M : Memory} → SameRegister r s → AtRest C r M → AtRest C s M
+rest-same e h = record { links = h .links; next = h .next; previous = h .previous; scene = h .scene; book = book-same e (h .book) }

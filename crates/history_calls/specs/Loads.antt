@@ -36,7 +36,7 @@ use Rattle.history_steps.specs.Fixing.{fixedAt, fixed-view, fixed-agree}
 use Rattle.history_rebase.specs.Header.{Fresh}
 use Rattle.history_rebase.specs.Rebased.{rebased}
 use Rattle.history_rebase.specs.Arrives.{Arrived, Refuses, recorded}
-use Rattle.history_calls.specs.Scene.{baseIn, Scene, Book, extended, image-new, image-old, rest-new, each, more-sound, listed-same, final-same, recorded-same}
+use Rattle.history_calls.specs.Scene.{baseIn, Scene, Book, AtRest, extended, image-new, image-old, rest-new, each, more-sound, listed-same, final-same, recorded-same}
 use Rattle.history_calls.specs.Linked.{recorded-more, length-more, fixedCast, links-in}
 use Rattle.history_calls.specs.Bringing.{brought, Brought, brings}
 
@@ -44,18 +44,10 @@ use Rattle.history_calls.specs.Bringing.{brought, Brought, brings}
 unfoldable pub restOf : Lent → Image → ℕ → Memory → Memory
 restOf l m level B = fixedAt m level (brought (rebase l) (l .base) B)
 
--- m stands beside those of C, with T at rest
-pub record Joined (C : Cast) (m : Image) (T : Memory) (s : Register) (N : Memory) : Type 0 where
-  pub links : ℕ → Links
-  pub next : ℕ → ℕ
-  pub previous : ℕ → ℕ
-  pub scene : Scene (extended C m T) links next previous N
-  pub book : Book (extended C m T) s
-
--- T is what the bytes before the call say, those of its areas alone
+-- m stands beside those of C; its bytes at rest are what the bytes before the call say, those of its areas alone
 pub record Came (C : Cast) (l : Lent) (m : Image) (level : ℕ) (B : Memory) (s : Register) (N : Memory) : Type 0 where
   pub rest : Memory
-  pub joined : Joined C m rest s N
+  pub joined : AtRest (extended C m rest) s N
   pub bytes : rest ≡ restOf l m level B
   pub alike : (D : Memory) → Agree (Area m) B D → Agree (Area m) rest (restOf l m level D)
 

@@ -38,6 +38,14 @@ pub record Book (C : Cast) (r : Register) : Type 0 where
   pub many : length (r .modules) ≡ C .number
   pub crs : r .crs ≡ Known (baseIn C 0)
 
+-- at rest: with some links and list words
+pub record AtRest (C : Cast) (r : Register) (M : Memory) : Type 0 where
+  pub links : ℕ → Links
+  pub next : ℕ → ℕ
+  pub previous : ℕ → ℕ
+  pub scene : Scene C links next previous M
+  pub book : Book C r
+
 -- one module more, with its bytes at rest
 abbrev pub extended : Cast → Image → Memory → Cast
 extended C m T =

@@ -22,24 +22,12 @@ use Rattle.history_steps.specs.Links.{Links}
 use Rattle.history_steps.specs.World.{Cast, Sound, World, All, base}
 use Rattle.history_steps.specs.Listing.{Listed}
 use Rattle.history_steps.specs.Leaving.{skip, skip-low, skip-not, skip-below, distinct, unregisters}
-use Rattle.history_steps.specs.Final.{Final, dropped}
-use Rattle.history_steps.specs.Own.{RecordedAll}
+use Rattle.history_steps.specs.Final.{dropped}
 use Rattle.history_steps.specs.Reaching.{resets-world}
 use Rattle.history_rebase.specs.Unrebased.{unrebases}
 use Rattle.history_steps.specs.Once.{Unlike, once}
+use Rattle.history_calls.specs.Scene.{AtRest}
 use Rattle.history_calls.specs.Gone.{fewer, fewer-sound, fewer-world, recorded-without, length-without, finds, finds-none}
-
--- the modules as they are between calls: each import linked to its exporter or to none, all listed in load order, all recorded
-pub record AtRest (C : Cast) (sound : Sound C) (r : Register) (M : Memory) : Type 0 where
-  pub links : ℕ → Links
-  pub next : ℕ → ℕ
-  pub previous : ℕ → ℕ
-  pub world : World C links next previous M
-  pub listed : Listed (base C sound) (C .number) next previous
-  pub final : (k : ℕ) → k < C .number → Final (C .number) (C .image) (C .image k) (links k)
-  pub recorded : RecordedAll (C .image) (r .modules)
-  pub many : length (r .modules) ≡ C .number
-  pub crs : r .crs ≡ Known (base C sound 0)
 
 module _ (C : Cast) (sound : Sound C) (unlike : Unlike C) where
   abbrev S : ℕ → Type 0
@@ -75,46 +63,51 @@ module _ (C : Cast) (sound : Sound C) (unlike : Unlike C) where
     once-of l g = once (C .image l) (sound .laid l g) (C .number) (C .image) (unlike .names) (unlike .exports)
 
     abbrev Gone : Register → Answer → Memory → Type 0
-    Gone r a N = (a ≡ Done 1 (removed r d)) × AtRest (fewer C d) (fewer-sound C sound d below) (removed r d) N
+    Gone r a N = (a ≡ Done 1 (removed r d)) × AtRest (fewer C d) (removed r d) N
 
-    pub unload-does : (r : Register) {M : Memory} → AtRest C sound r M → Does S (unload (b d) r) (Gone r) M
+    pub unload-does : (r : Register) {M : Memory} → AtRest C r M → Does S (unload (b d) r) (Gone r) M
     unfolding unload leave removed
     unload-does r {M} s =
-        let some : d < length (r .modules) = rw (s .many) below in
-        let fewer-many : length (without (r .modules) d) ≡ pred (C .number) = length-without (r .modules) d some ∙ ap pred (s .many) in
-        let recs = recorded-without (C .image) (r .modules) d (s .recorded) in
+        let some : d < length (r .modules) = rw (s .book .many) below in
+        let fewer-many : length (without (r .modules) d) ≡ pred (C .number) = length-without (r .modules) d some ∙ ap pred (s .book .many) in
+        let recs = recorded-without (C .image) (r .modules) d (s .book .recorded) in
         let f =
         finds (C .image) (r .modules) d 0 (b d) some refl
-        (λ j l. distinct C sound (unlike .nonzero) j d (omega arith) below (λ e. absurd (omega (arith, e)))) (s .recorded) in
+        (λ j l. distinct C sound (unlike .nonzero) j d (omega arith) below (λ e. absurd (omega (arith, e)))) (s .book .recorded) in
         let z : 0 + d ≡ d = omega arith in
         rw (f .2, z)
         (does-then S (resetImporters (f .0) (without (r .modules) d)) _
-        (resets-world C sound (C .image d) (f .0) (f .1) d (without (r .modules) d) below fewer-many recs (s .world))
+        (resets-world C sound (C .image d) (f .0) (f .1) d (without (r .modules) d) below fewer-many recs (s .scene .world))
         (λ _ N g.
-        does-mono S (goes (Done 1 (removed r d)) (r .crs) (s .crs) (g .1) (s .listed))
+        does-mono S (goes (Done 1 (removed r d)) (r .crs) (s .book .crs) (g .1) (s .scene .listed))
         (λ a L t. (
           t .0,
           record {
             links = λ k. g .0 (skip d k);
             next = t .1 .0;
             previous = t .1 .1;
-            world = t .1 .2;
-            listed = t .1 .3;
-            final =
-                λ k l.
-                let i = skip-below (C .number) d k below l in
-                dropped (C .number) d below (C .image) (C .image (skip d k)) (sound .laid (skip d k) i) (once-of (skip d k) i) (unlike .names)
-                (s .final (skip d k) i) (g .2 (skip d k) i (skip-not d k));
-            recorded = recs;
-            many = fewer-many;
-            crs = s .crs ∙ ap (λ k. Known (b k)) (sym (skip-low d 0 above));
+            scene =
+                record {
+                  sound = fewer-sound C sound d below;
+                  some = let z : 0 < pred (C .number) = omega arith in z;
+                  nonzero = λ k l. unlike .nonzero (skip d k) (skip-below (C .number) d k below l);
+                  world = t .1 .2;
+                  listed = t .1 .3;
+                  links =
+                      λ k l.
+                      let i = skip-below (C .number) d k below l in
+                      dropped (C .number) d below (C .image) (C .image (skip d k)) (sound .laid (skip d k) i) (once-of (skip d k) i) (unlike .names)
+                      (s .scene .links (skip d k) i) (g .2 (skip d k) i (skip-not d k));
+                };
+            book =
+                record { recorded = recs; many = fewer-many; crs = s .book .crs ∙ ap (λ k. Known (b k)) (sym (skip-low d 0 above)) };
           },
         ))))
 
   -- "Unload of an unknown base changes nothing."
   pub unload-unknown
-      : (r : Register) {M : Memory} → AtRest C sound r M → (at : ℕ) → ((k : ℕ) → k < C .number → b k ≢ at)
+      : (r : Register) {M : Memory} → AtRest C r M → (at : ℕ) → ((k : ℕ) → k < C .number → b k ≢ at)
       → Does S (unload at r) (λ a N. (a ≡ calls.Kept) × (N ≡ M)) M
   unfolding unload leave
   unload-unknown r s at o =
-      rw (finds-none (C .image) (r .modules) 0 at (λ k l. o k (rw (← s .many) l)) (s .recorded)) (does-ret S (refl, refl))
+      rw (finds-none (C .image) (r .modules) 0 at (λ k l. o k (rw (← s .book .many) l)) (s .book .recorded)) (does-ret S (refl, refl))

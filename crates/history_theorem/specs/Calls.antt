@@ -1,5 +1,5 @@
 -- Each call in the window: from modules at rest to modules at rest.
-use Prim.Native.Nat.{ℕ, zero, suc, pred, _+_, _^_, _≤_, _<_}
+use Prim.Native.Nat.{ℕ, zero, suc, _+_, _^_, _≤_, _<_}
 use mathlib.Core.Path.{_≡_, refl, sym, ap, _∙_, fun-ext, subst}
 use mathlib.Core.Logic.{_≢_}
 use mathlib.Core.List.{List, [], _∷_, _++_}
@@ -25,23 +25,23 @@ use Rattle.history.specs.WellLaid.{WellLaid}
 use Rattle.history.specs.Demand3.{OtherExports}
 use Rattle.history_steps.specs.Wp.{Memory, Does}
 use Rattle.history_steps.specs.Windowed.{windowed}
-use Rattle.history_steps.specs.World.{Sound, All, put}
+use Rattle.history_steps.specs.World.{All, put}
 use Rattle.history_steps.specs.View.{View}
 use Rattle.history_steps.specs.Links.{Stands}
 use Rattle.history_steps.specs.Final.{Final}
 use Rattle.history_steps.specs.Own.{RecordedAll}
 use Rattle.history_steps.specs.Leaving.{skip, skip-below}
 use Rattle.history_steps.specs.Once.{Unlike, once}
-use Rattle.history_calls.specs.Gone.{fewer, fewer-sound}
-use Rattle.history_calls.specs.Unloads.{AtRest, unload-does}
-use Rattle.history_calls.specs.Scene.{Scene, Book, extended, listed-same, final-same, recorded-same}
+use Rattle.history_calls.specs.Gone.{fewer}
+use Rattle.history_calls.specs.Unloads.{unload-does}
+use Rattle.history_calls.specs.Scene.{AtRest, extended, listed-same, final-same, recorded-same}
 use Rattle.history_calls.specs.Bringing.{brought}
-use Rattle.history_calls.specs.Loads.{Joined, Came, Answered, Reach, Once, Names, loads, restOf}
+use Rattle.history_calls.specs.Loads.{Came, Answered, Reach, Once, Names, loads, restOf}
 use Rattle.history_calls.specs.Starts.{Started, Begun, starts}
 use Rattle.history_sessions.specs.Lists.{lacking, lacking-at, lacking-length}
 use Rattle.history_sessions.specs.Unique.{noArrival, imageAt}
 use Rattle.history_sessions.specs.Registers.{last-at}
-use Rattle.history_theorem.specs.Invariant.{restFor, restOfArrival, castOf, Alike, Resting, to-rest, resting-agree, more-length, more-at, cast-more, cast-less}
+use Rattle.history_theorem.specs.Invariant.{restFor, restOfArrival, castOf, Alike, Resting, resting-agree, more-length, more-at, cast-more, cast-less}
 
 -- what the premises say of the modules of a list, n bytes from at being the window
 pub record Fine (at n : ℕ) (S : List Arrival) : Type 0 where
@@ -82,18 +82,11 @@ in-window S at w fit m Q h =
     (runM m (byteAt at w) .1, rw (g .same) (h .gives), λ q s. sym (g .agree q s))
 
 joined-rests
-    : (S : List Arrival) (a : Arrival) {s : Register} {N : Memory} (T : Memory) → T ≡ restOfArrival a → Joined (castOf S) (imageOf a) T s N
+    : (S : List Arrival) (a : Arrival) {s : Register} {N : Memory} (T : Memory) → T ≡ restOfArrival a → AtRest (extended (castOf S) (imageOf a) T) s N
     → ((k : ℕ) → k < length S → Alike (getD S k noArrival)) → Alike a → Resting (S ++ (a ∷ [])) s N
 joined-rests S a {s} {N} T e j old new =
     let c : extended (castOf S) (imageOf a) T ≡ castOf (S ++ (a ∷ [])) = ap (extended (castOf S) (imageOf a)) e ∙ cast-more S a in
-    record {
-      links = j .links;
-      next = j .next;
-      previous = j .previous;
-      scene = subst (λ C. Scene C (j .links) (j .next) (j .previous) N) c (j .scene);
-      book = subst (λ C. Book C s) c (j .book);
-      alike = λ k l. each k l (ℕ-discrete k (length S));
-    }
+    record { rest = subst (λ C. AtRest C s N) c j; alike = λ k l. each k l (ℕ-discrete k (length S)) }
   where
     each : (k : ℕ) → k < length (S ++ (a ∷ [])) → Dec (k ≡ length S) → Alike (getD (S ++ (a ∷ [])) k noArrival)
     each k l (yes z) = rw z (subst Alike (sym (last-at S a noArrival)) new)
@@ -103,34 +96,16 @@ joined-rests S a {s} {N} T e j old new =
 
 -- one less
 fewer-rests
-    : (S : List Arrival) (d : ℕ) → 0 < d → (l : d < length S) → ((k : ℕ) → k < length S → baseOf (imageAt S k .coming) ≢ 0)
-    → (sound : Sound (fewer (castOf S) d)) {s : Register} {N : Memory} → AtRest (fewer (castOf S) d) sound s N
+    : (S : List Arrival) (d : ℕ) → d < length S → {s : Register} {N : Memory} → AtRest (fewer (castOf S) d) s N
     → ((k : ℕ) → k < length S → Alike (getD S k noArrival)) → Resting (lacking S d) s N
-fewer-rests S d above l nonzero sound {s} {N} h old =
-    let c = cast-less S d l in
+fewer-rests S d l {s} {N} h old =
     record {
-      links = h .links;
-      next = h .next;
-      previous = h .previous;
-      scene =
-          subst (λ C. Scene C (h .links) (h .next) (h .previous) N) c
-          (record {
-            sound = sound;
-            some = some;
-            nonzero = λ k g. nonzero (skip d k) (skip-below (length S) d k l g);
-            world = h .world;
-            listed = h .listed;
-            links = h .final;
-          });
-      book = subst (λ C. Book C s) c (record { recorded = h .recorded; many = h .many; crs = h .crs });
+      rest = subst (λ C. AtRest C s N) (cast-less S d l) h;
       alike =
           λ k g.
           let e = lacking-length S d l in
           subst Alike (sym (lacking-at S d noArrival k)) (old (skip d k) (skip-below (length S) d k l (omega (arith, e))));
     }
-  where
-    some : 0 < pred (length S)
-    some = omega arith
 
 -- a call on modules at rest in the window
 module _ (at : ℕ) (w : List ℕ) (S : List Arrival) (r : Register) (h : Resting S r (byteAt at w)) where
@@ -140,14 +115,14 @@ module _ (at : ℕ) (w : List ℕ) (S : List Arrival) (r : Register) (h : Restin
       → Resting (lacking S d) (removed r d) (byteAt at (run at (calls.unload (baseOf (imageAt S d .coming)) r) w .1))
   unload-rests f d above below =
       let C = castOf S in
-      let so = h .scene .sound in
+      let so = h .rest .scene .sound in
       let g =
       in-window (All C so) at w (λ q s. in-lies at (length w) q (f .top) (f .inside (s .0) q (s .1) (s .2)))
       (calls.unload (baseOf (imageAt S d .coming)) r)
-      (λ a N. (a ≡ Done 1 (removed r d)) × AtRest (fewer C d) (fewer-sound C so d below) (removed r d) N)
-      (unload-does C so (fine-unlike at (length w) S f) d above below r (to-rest S h)) in
+      (λ a N. (a ≡ Done 1 (removed r d)) × AtRest (fewer C d) (removed r d) N)
+      (unload-does C so (fine-unlike at (length w) S f) d above below r (h .rest)) in
       resting-agree (lacking S d) (λ k l q u. g .2 q (skip d k, inside k l, there k q u))
-      (fewer-rests S d above below (f .nonzero) (fewer-sound C so d below) (g .1 .1) (h .alike))
+      (fewer-rests S d below (g .1 .1) (h .alike))
     where
       inside : (k : ℕ) → k < length (lacking S d) → skip d k < length S
       inside k l = let e = lacking-length S d below in skip-below (length S) d k below (omega (arith, e))
@@ -228,7 +203,7 @@ module _ (at : ℕ) (w : List ℕ) (S : List Arrival) (r : Register) (h : Restin
 
         does : Does (Reach (castOf S) m) (calls.load l true level records names r) (Answered (castOf S) l m level (byteAt at w)) (byteAt at w)
         does =
-            loads (castOf S) l auto level (m .file) laid low bytes data-low bss-low off nonzero c d once other (h .scene) r (h .book)
+            loads (castOf S) l auto level (m .file) laid low bytes data-low bss-low off nonzero c d once other (h .rest .scene) r (h .rest .book)
             (λ o i. cut-fresh new o i) records names
 
 -- `initialize`, with no module before
@@ -240,32 +215,35 @@ module _ (at : ℕ) (w : List ℕ) (r : Register) (none-yet : r .modules ≡ [])
   unfolding restFor RecordedAll
   started-rests {s} {N} g =
       record {
-        links = λ _ _. none;
-        next = λ _. 0;
-        previous = λ _. 0;
-        scene =
+        rest =
             record {
-              sound =
+              links = λ _ _. none;
+              next = λ _. 0;
+              previous = λ _. 0;
+              scene =
                   record {
-                    laid = first (λ k x T. WellLaid x) (g .scene .sound .laid);
-                    low = first (λ k x T. Low (Area x)) (g .scene .sound .low);
-                    view = first (λ k x T. View x T) (g .scene .sound .view);
-                    apart = λ j k q l i o. absurd (o (omega arith));
+                    sound =
+                        record {
+                          laid = first (λ k x T. WellLaid x) (g .scene .sound .laid);
+                          low = first (λ k x T. Low (Area x)) (g .scene .sound .low);
+                          view = first (λ k x T. View x T) (g .scene .sound .view);
+                          apart = λ j k q l i o. absurd (o (omega arith));
+                        };
+                    some = lit< tt;
+                    nonzero = first (λ k x T. baseOf (x .coming) ≢ 0) (g .scene .nonzero);
+                    world = record { stands = first (λ k x T. Stands x T (λ _. none) 0 0 N) (g .scene .world .stands) };
+                    listed = listed-same 1 (first (λ k x T. base ≡ baseOf (x .coming)) (λ k l. refl)) (λ k l. refl) (λ k l. refl) (g .scene .listed);
+                    links = λ j l. final-same 1 (first (λ k x T. imageOf crs ≡ x) (λ k l. refl))
+                        (first (λ k x T. Final 1 (λ _. imageOf crs) x (λ _. none)) (g .scene .links) j l);
                   };
-              some = lit< tt;
-              nonzero = first (λ k x T. baseOf (x .coming) ≢ 0) (g .scene .nonzero);
-              world = record { stands = first (λ k x T. Stands x T (λ _. none) 0 0 N) (g .scene .world .stands) };
-              listed = listed-same 1 (first (λ k x T. base ≡ baseOf (x .coming)) (λ k l. refl)) (λ k l. refl) (λ k l. refl) (g .scene .listed);
-              links = λ j l. final-same 1 (first (λ k x T. imageOf crs ≡ x) (λ k l. refl))
-                  (first (λ k x T. Final 1 (λ _. imageOf crs) x (λ _. none)) (g .scene .links) j l);
-            };
-        book =
-            record {
-              recorded =
-                  recorded-same (λ _. imageOf crs) (imageAt (crs ∷ [])) (s .modules)
-                  (λ k l. first (λ k x T. imageOf crs ≡ x) (λ k l. refl) k (rw (g .book .many) at l)) (g .book .recorded);
-              many = g .book .many;
-              crs = g .book .crs;
+              book =
+                  record {
+                    recorded =
+                        recorded-same (λ _. imageOf crs) (imageAt (crs ∷ [])) (s .modules)
+                        (λ k l. first (λ k x T. imageOf crs ≡ x) (λ k l. refl) k (rw (g .book .many) at l)) (g .book .recorded);
+                    many = g .book .many;
+                    crs = g .book .crs;
+                  };
             };
         alike = alike;
       }

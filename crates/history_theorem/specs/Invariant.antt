@@ -11,14 +11,12 @@ use Rattle.linker.specs.Calls.{rebaseStatic}
 use Rattle.history.specs.Arrival.{Coming, initialized, loaded, Image, Arrival, imageOf, Area}
 use Rattle.history.specs.Sessions.{SameRegister}
 use Rattle.history_steps.specs.Wp.{Memory}
-use Rattle.history_steps.specs.Links.{Links}
 use Rattle.history_steps.specs.World.{Cast, put, put-same, put-other}
 use Rattle.history_calls.specs.Gone.{fewer}
-use Rattle.history_calls.specs.Unloads.{AtRest}
-use Rattle.history_calls.specs.Scene.{Scene, Book, extended}
+use Rattle.history_calls.specs.Scene.{AtRest, extended}
 use Rattle.history_calls.specs.Bringing.{brought}
 use Rattle.history_calls.specs.Loads.{restOf}
-use Rattle.history_calls.specs.Between.{scene-agree, book-same}
+use Rattle.history_calls.specs.Between.{rest-agree, rest-same}
 use Rattle.history_sessions.specs.Lists.{lacking, lacking-at, lacking-length}
 use Rattle.history_sessions.specs.Unique.{noArrival, imageAt}
 use Rattle.history_sessions.specs.Registers.{last-at}
@@ -41,37 +39,16 @@ Alike a =
 
 -- those of S stand at rest in M, and the register has their records
 pub record Resting (S : List Arrival) (r : Register) (M : Memory) : Type 0 where
-  pub links : ℕ → Links
-  pub next : ℕ → ℕ
-  pub previous : ℕ → ℕ
-  pub scene : Scene (castOf S) links next previous M
-  pub book : Book (castOf S) r
+  pub rest : AtRest (castOf S) r M
   pub alike : (k : ℕ) → k < length S → Alike (getD S k noArrival)
-
--- the same, as an unload takes it
-pub to-rest : (S : List Arrival) {r : Register} {M : Memory} (h : Resting S r M) → AtRest (castOf S) (h .scene .sound) r M
-to-rest S h =
-    record {
-      links = h .links;
-      next = h .next;
-      previous = h .previous;
-      world = h .scene .world;
-      listed = h .scene .listed;
-      final = h .scene .links;
-      recorded = h .book .recorded;
-      many = h .book .many;
-      crs = h .book .crs;
-    }
 
 -- bytes outside the areas do not matter, nor the order of named exports
 pub resting-agree
     : (S : List Arrival) {r : Register} {M N : Memory} → ((k : ℕ) → k < length S → Agree (Area (imageAt S k)) M N) → Resting S r M → Resting S r N
-resting-agree S e h =
-    record { links = h .links; next = h .next; previous = h .previous; scene = scene-agree e (h .scene); book = h .book; alike = h .alike }
+resting-agree S e h = record { rest = rest-agree e (h .rest); alike = h .alike }
 
 pub resting-same : (S : List Arrival) {r s : Register} {M : Memory} → SameRegister r s → Resting S r M → Resting S s M
-resting-same S e h =
-    record { links = h .links; next = h .next; previous = h .previous; scene = h .scene; book = book-same e (h .book); alike = h .alike }
+resting-same S e h = record { rest = rest-same e (h .rest); alike = h .alike }
 
 cast-same : {n o : ℕ} {x y : ℕ → Image} {T U : ℕ → Memory} → n ≡ o → ((k : ℕ) → x k ≡ y k) → ((k : ℕ) → T k ≡ U k)
     → _≡_ {A = Cast} (record { number = n; image = x; rest = T }) (record { number = o; image = y; rest = U })

@@ -128,7 +128,7 @@ module _ (at : ℕ) (t : Turn) (ts : List Turn) where
         let w = words (load l auto level) e in
         some-came (came-some (arrived at ts) a (x .0))
         (subst (λ T. isCrs (imageAt T 0 .coming) ≡ true) (sym (x .1))
-        (subst (λ y. isCrs (y .coming) ≡ true) (sym (List·getD-append S (a ∷ []) noArrival 0 (g .scene .some))) c))
+        (subst (λ y. isCrs (y .coming) ≡ true) (sym (List·getD-append S (a ∷ []) noArrival 0 (g .rest .scene .some))) c))
         (follow (load l auto level) e (S ++ (a ∷ [])) (x .1)
         (load-turn at b (typed .1) S l auto level (w .0) (w .1) (w .2) (w .4) auto-linked (kept .0) (kept .1) p g
         (fine at t ts h (S ++ (a ∷ [])) m (good-end at (b .window) (p .good)))))
@@ -160,7 +160,7 @@ module _ (at : ℕ) (t : Turn) (ts : List Turn) where
         bases = other-bases at (t ∷ ts) h S m
 
         registered : Registered S (lentRegister b)
-        registered = record { recorded = g .book .recorded; number = g .book .many }
+        registered = record { recorded = g .rest .book .recorded; number = g .rest .book .many }
 
         crs : Each (λ a. isCrs (a .coming) ≡ true → baseOf (a .coming) ≢ base) S
         crs =

@@ -57,12 +57,12 @@ pub concluded
     : (at : ℕ) (b : Bytes) (S : List Arrival) → RestingIn at S b → conclude.Resting (length S) (imageAt S) (castOf S .rest) (byteAt at (b .window))
 concluded at b S h =
     record {
-      links = h .links;
-      next = h .next;
-      previous = h .previous;
-      stands = h .scene .world .stands;
-      final = h .scene .links;
-      listed = h .scene .listed;
+      links = h .rest .links;
+      next = h .rest .next;
+      previous = h .rest .previous;
+      stands = h .rest .scene .world .stands;
+      final = h .rest .scene .links;
+      listed = h .rest .scene .listed;
     }
 
 all-hold

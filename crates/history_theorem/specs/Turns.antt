@@ -129,6 +129,6 @@ module _ (at : ℕ) (b : Bytes) (bytes : AreBytes b) where
   unload-turn S base d above below e p h f r z =
       let g = unload-known base at b p r d z in
       left-rests (unload base) at b 1 (removed (lentRegister b) d) (lacking S d) g
-      (unload-back (b .records) (b .names) (b .missing) (p .valid) (bytes .1) d (rw (h .book .many) below))
+      (unload-back (b .records) (b .names) (b .missing) (p .valid) (bytes .1) d (rw (h .rest .book .many) below))
       (subst (λ y. Resting (lacking S d) (removed (lentRegister b) d) (byteAt at (run at (calls.unload y (lentRegister b)) (b .window) .1))) e
       (unload-rests at (b .window) S (lentRegister b) h f d above below))
