@@ -8,7 +8,7 @@ use lib.ListN.{take}
 use Rattle.window.specs.Memory.{if_then_else_, _⊕_, wordAt}
 use Rattle.window.specs.Access.{Prog, ret, _>>=_, _>>_, run, run-bind}
 use Rattle.window.specs.Loop.{loop}
-use Rattle.name.specs.Name.{nameAt, nameAt-reads, nameAt-isName, laidOver}
+use Rattle.name.specs.Name.{nameAt, nameAt-reads, nameAt-isName, laidOver, name-is}
 use Rattle.layout.specs.Header.{importNamedSymbolTableOffset, importNamedSymbolNum, importNamedSymbolEntrySize}
 use Rattle.layout.specs.Segments.{field, entryAt}
 use Rattle.register.specs.Module.{Register}
@@ -24,7 +24,7 @@ use Rattle.linker.specs.Imports.{isUnresolved, resolve, noted, importNamed, app
 use Rattle.linker.specs.Calls.{missingNow}
 use Rattle.linker_relocation.specs.Runs.{after-reads, turn-made, turns-over}
 use Rattle.linker_imports.specs.Missing.{Noted}
-use Rattle.linker_sources.specs.Laws.{name-is, waiting-reads, unresolved-stays, resolved-by}
+use Rattle.linker_sources.specs.Laws.{waiting-reads, unresolved-stays, resolved-by}
 use Rattle.linker_imports.proofs.Laws.{first-read}
 
 -- one import

@@ -1,14 +1,11 @@
 -- From the code's steps to what they give.
 use Prim.Native.Nat.{ℕ, _≤_, _<_}
-use mathlib.Core.Path.{_≡_, sym, ap, _∙_}
-use mathlib.Core.List.{List, _++_}
-use native.Mathlib.Omega.{arith}
-use lib.ListN.{length, take, drop, length-append}
-use lib.Seq.{length-take-le, take-append-seam}
+use mathlib.Core.Path.{_≡_, ap, _∙_}
+use mathlib.Core.List.{List}
 use borrow.Author.Tests.{lt-ltb, le-ltb}
 use Rattle.window.specs.Memory.{wordAt}
 use Rattle.window.specs.Access.{run}
-use Rattle.name.specs.Name.{nameAt, laidOver}
+use Rattle.name.specs.Name.{nameAt}
 use Rattle.layout.specs.Header.{moduleNameOffset}
 use Rattle.layout.specs.Segments.{field, field-word, tagToAddress}
 use Rattle.layout.specs.declared.segments.Address.{Address}
@@ -41,17 +38,6 @@ at-most n h = rw (lt-ltb 16 n h)
 pub at-most-all : (n : ℕ) → n ≤ 16 → n ≡ atMost16 n
 unfolding atMost16
 at-most-all n h = rw (le-ltb 16 n h)
-
--- a name in a buffer
-pub laid-name
-    : (name buffer : List ℕ) {n : ℕ} {buf : List ℕ} → _≡_ {A = ℕ × List ℕ} (n, buf) (laidOver name buffer)
-    → (n ≤ length buf) × (n ≡ length (take n buf)) × (take n buf ≡ name)
-unfolding laidOver
-laid-name name buffer {n} {buf} e =
-    let a : n ≡ length name = ap (λ (t : ℕ × List ℕ). t .0) e in
-    let b : buf ≡ name ++ drop (length name) buffer = ap (λ (t : ℕ × List ℕ). t .1) e in
-    let l : n ≤ length buf = rw (a, b) (omega (arith, length-append name (drop (length name) buffer))) in
-    (l, sym (length-take-le n buf l), rw (a, b) (take-append-seam name (drop (length name) buffer)))
 
 pub own-name : (at : ℕ) (w : List ℕ) (base : ℕ) {p : ℕ} → p ≡ run at (field base moduleNameOffset) w .0 → run at (nameAt p) w .0 ≡ ownName at w base
 own-name at w base e = ap (λ p. run at (nameAt p) w .0) (e ∙ field-word at base moduleNameOffset w)

@@ -1,38 +1,15 @@
--- A name read into a buffer, and a batch with or without its symbol.
-use Prim.Native.Nat.{ℕ, _≤_}
+-- A batch with or without its symbol.
+use Prim.Native.Nat.{ℕ}
 use mathlib.Core.Path.{_≡_, sym, ap, _∙_}
-use mathlib.Core.List.{List, _++_}
+use mathlib.Core.List.{List}
 use mathlib.Core.Bool.{true}
-use native.Mathlib.Omega.{arith}
-use lib.ListN.{length, take, drop, length-append}
-use lib.Seq.{take-append-seam}
 use lib.Dec.{eqb}
 use Rattle.window.specs.Access.{_>>=_, run, run-bind, Reads}
-use Rattle.name.specs.Name.{laidOver}
 use Rattle.layout.specs.Segments.{reads-if}
 use Rattle.register_read.specs.declared.Symbol.{Symbol}
 use Rattle.register_read.specs.declared.Symbol.the-variants.{At, Nothing}
 use Rattle.linker.specs.Relocation.{applyRelocationBatch, batchIsResolved}
 use Rattle.linker.specs.Imports.{isUnresolved, resolve}
-
--- a name read into a buffer
-module _ (name old : List ℕ) {n : ℕ} {buffer : List ℕ} (e : (n, buffer) ≡ laidOver name old) where
-  name-length : n ≡ length name
-  unfolding laidOver
-  name-length = ap (λ (x : ℕ × List ℕ). x .0) e
-
-  name-laid : buffer ≡ name ++ drop (length name) old
-  unfolding laidOver
-  name-laid = ap (λ (x : ℕ × List ℕ). x .1) e
-
-  pub name-fits : n ≤ length buffer
-  name-fits = let l = ap length name-laid ∙ length-append name (drop (length name) old) in omega (arith, name-length)
-
-  pub name-is : take n buffer ≡ name
-  name-is = rw (name-length, name-laid) (take-append-seam name (drop (length name) old))
-
-  pub name-taken : n ≡ length (take n buffer)
-  name-taken = name-length ∙ ap length (sym name-is)
 
 -- a symbol for a batch
 

@@ -6,7 +6,8 @@ use mathlib.Core.List.{List, [], _∷_, _++_}
 use mathlib.Core.Bool.{Bool, true, false, not, _&&_}
 use native.Mathlib.Omega.{arith}
 use native.Mathlib.Decide.{ℕ-discrete}
-use lib.ListN.{length, drop}
+use lib.ListN.{length, take, drop, length-append}
+use lib.Seq.{take-append-seam}
 use lib.Dec.{eqb, ltb, leb}
 use borrow.Author.Tests.{eq-eqb, ne-eqb, le-leb, lt-ltb, le-ltb, ltb-true, ltb-false}
 use Rattle.window.specs.Memory.{if_then_else_, _⊕_, byteAt}
@@ -159,6 +160,25 @@ module _ (at at′ : ℕ) (w w′ : List ℕ) where
 -- a name in a lent buffer: its length, and the buffer with the name at its start
 unfoldable pub laidOver : List ℕ → List ℕ → ℕ × List ℕ
 laidOver name buffer = (length name, name ++ drop (length name) buffer)
+
+-- so that many bytes of the buffer are the name
+module _ (name old : List ℕ) {n : ℕ} {buffer : List ℕ} (e : (n, buffer) ≡ laidOver name old) where
+  name-length : n ≡ length name
+  unfolding laidOver
+  name-length = ap (λ (x : ℕ × List ℕ). x .0) e
+
+  name-laid : buffer ≡ name ++ drop (length name) old
+  unfolding laidOver
+  name-laid = ap (λ (x : ℕ × List ℕ). x .1) e
+
+  pub name-fits : n ≤ length buffer
+  name-fits = let l = ap length name-laid ∙ length-append name (drop (length name) old) in omega (arith, name-length)
+
+  pub name-is : take n buffer ≡ name
+  name-is = rw (name-length, name-laid) (take-append-seam name (drop (length name) old))
+
+  pub name-taken : n ≡ length (take n buffer)
+  name-taken = name-length ∙ ap length (sym name-is)
 
 -- "Names compare as raw bytes": the first byte that differs decides, and a shorter name stands before its extensions
 unfoldable pub orderOf : List ℕ → List ℕ → NameOrder

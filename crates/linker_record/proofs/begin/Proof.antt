@@ -1,7 +1,8 @@
 use mathlib.Core.Path.{ap, _∙_}
 use borrow.Author.Needs.{needs}
+use Rattle.name.specs.Name.{name-fits, name-is, name-taken}
 use Rattle.register_append.specs.Draft.{beginRecord}
-use Rattle.linker_record.proofs.Laws.{laid-name, own-name}
+use Rattle.linker_record.proofs.Laws.{own-name}
 use Rattle.linker_record.proofs.begin.Statement.{statement}
 use Rattle.linker_record.proofs.begin.Tie as tie
 
@@ -12,10 +13,10 @@ read-name-requires : tie.Need-read-name-requires
 read-name-requires c κs = search needs
 
 array-share-prefix-buffer : tie.Need-array-share-prefix-buffer
-array-share-prefix-buffer c = laid-name _ _ (c .before .before .read-name .ensures) .0
+array-share-prefix-buffer c = name-fits _ _ (c .before .before .read-name .ensures)
 
 slice-aggregate-begin-record : tie.Need-slice-aggregate-begin-record
-slice-aggregate-begin-record c = laid-name _ _ (c .before .before .before .read-name .ensures) .1
+slice-aggregate-begin-record c = name-taken _ _ (c .before .before .before .read-name .ensures)
 
 begin-record-requires : tie.Need-begin-record-requires
 begin-record-requires c κs = search needs
@@ -33,7 +34,7 @@ returns c =
     let b₁₂ = b₈ .before .before .before .before in
     let a = b₁₂ .before .before .args in
     b₄ .begin-record .ensures ∙ ap (λ t. beginRecord (a .records .now) (a .names .now) (a .base) (a .size) (a .auto-link) t)
-    (laid-name _ _ (b₈ .read-name .ensures) .2 ∙ own-name (a .at) (a .w .now) (a .base) (b₈ .before .before .field .ensures))
+    (name-is _ _ (b₈ .read-name .ensures) ∙ own-name (a .at) (a .w .now) (a .base) (b₈ .before .before .field .ensures))
 
 pub begin-spec : {M : Type 1} → statement M
 begin-spec =

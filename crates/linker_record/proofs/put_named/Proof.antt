@@ -1,5 +1,6 @@
 use borrow.Author.Needs.{needs}
-use Rattle.linker_record.proofs.Laws.{laid-name, put-kept}
+use Rattle.name.specs.Name.{name-fits, name-is, name-taken}
+use Rattle.linker_record.proofs.Laws.{put-kept}
 use Rattle.linker_record.proofs.put_named.Statement.{statement}
 use Rattle.linker_record.proofs.put_named.Tie as tie
 
@@ -7,10 +8,10 @@ read-name-requires : tie.Need-read-name-requires
 read-name-requires c κs = search needs
 
 array-share-prefix-buffer : tie.Need-array-share-prefix-buffer
-array-share-prefix-buffer c = laid-name _ _ (c .before .before .read-name .ensures) .0
+array-share-prefix-buffer c = name-fits _ _ (c .before .before .read-name .ensures)
 
 slice-aggregate-put-export : tie.Need-slice-aggregate-put-export
-slice-aggregate-put-export c = laid-name _ _ (c .before .before .before .read-name .ensures) .1
+slice-aggregate-put-export c = name-taken _ _ (c .before .before .before .read-name .ensures)
 
 put-export-requires : tie.Need-put-export-requires
 put-export-requires c κs = search needs
@@ -33,7 +34,7 @@ returns c =
     let b₂₀ = b₁₆ .before .before .before .before in
     let a = b₂₀ .args in
     put-kept (a .before) (a .records .now) (a .names .now) _ (a .address)
-    (laid-name _ _ (b₁₂ .before .before .before .read-name .ensures) .2) (b₈ .before .before .before .put-export .ensures)
+    (name-is _ _ (b₁₂ .before .before .before .read-name .ensures)) (b₈ .before .before .before .put-export .ensures)
     (b₄ .kept .ensures)
 
 pub put-named-spec : {M : Type 1} → statement M

@@ -1,6 +1,6 @@
 -- By whether the batch waits, and whether an auto-linked module has the name.
 use borrow.Author.Needs.{needs}
-use Rattle.linker_sources.specs.Laws.{name-fits, name-taken}
+use Rattle.name.specs.Name.{name-fits, name-taken}
 use Rattle.linker_imports.proofs.Missing.{own-passed, own-found, own-missing}
 use Rattle.linker_imports.proofs.own.import_named.Statement.{statement}
 use Rattle.linker_imports.proofs.own.import_named.Tie as tie

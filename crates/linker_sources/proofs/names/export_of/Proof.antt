@@ -1,7 +1,7 @@
 use borrow.Author.Needs.{needs}
 use mathlib.Core.Path.{ap, _∙_}
+use Rattle.name.specs.Name.{name-fits, name-is, name-taken}
 use Rattle.register_read.specs.Read.{exportOf}
-use Rattle.linker_sources.specs.Laws.{name-fits, name-is, name-taken}
 use Rattle.linker_sources.proofs.names.export_of.Statement.{statement}
 use Rattle.linker_sources.proofs.names.export_of.Tie as tie
 
