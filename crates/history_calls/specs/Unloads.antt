@@ -23,11 +23,12 @@ use Rattle.history_steps.specs.World.{Cast, Sound, World, All, base}
 use Rattle.history_steps.specs.Listing.{Listed}
 use Rattle.history_steps.specs.Leaving.{skip, skip-low, skip-not, skip-below, distinct, unregisters}
 use Rattle.history_steps.specs.Final.{dropped}
+use Rattle.history_steps.specs.ByBase.{finds, finds-none}
 use Rattle.history_steps.specs.Reaching.{resets-world}
 use Rattle.history_rebase.specs.Unrebased.{unrebases}
 use Rattle.history_steps.specs.Once.{Unlike, once}
 use Rattle.history_calls.specs.Scene.{AtRest}
-use Rattle.history_calls.specs.Gone.{fewer, fewer-sound, fewer-world, recorded-without, length-without, finds, finds-none}
+use Rattle.history_calls.specs.Gone.{fewer, fewer-sound, fewer-world, recorded-without, length-without}
 
 module _ (C : Cast) (sound : Sound C) (unlike : Unlike C) where
   abbrev S : ℕ → Type 0

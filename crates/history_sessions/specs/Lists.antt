@@ -5,7 +5,7 @@ use mathlib.Core.Logic.{_≢_}
 use mathlib.Core.List.{List, [], _∷_, _++_, map}
 use mathlib.Core.Bool.{Bool, true, false, not, _||_}
 use native.Mathlib.Omega.{arith}
-use native.Mathlib.Decide.{decLt, ℕ-discrete}
+use native.Mathlib.Decide.{ℕ-discrete}
 use lib.ListN.{length, getD}
 use lib.Dec.{eqb}
 use borrow.Author.Tests.{eq-eqb, ne-eqb}
@@ -13,7 +13,7 @@ use Rattle.window.specs.Memory.{if_then_else_}
 use Rattle.history.specs.Arrival.{Arrival, baseOf, isCrs}
 use Rattle.history.specs.Sessions.{Call, initialize, load, unload, Turn, done, brought, arrived, others, stay, standing}
 use Rattle.history.specs.Demand3.{Each, Pairs}
-use Rattle.history_steps.specs.Leaving.{skip, skip-low, skip-high}
+use Rattle.history_steps.specs.Leaving.{skip, skip-low, skip-high, skip-suc}
 
 -- of each, by index and back
 pub each-at : {A : Type 0} (P : A → Type 0) (xs : List A) (d : A) → Each P xs → (k : ℕ) → k < length xs → P (getD xs k d)
@@ -174,13 +174,6 @@ unfoldable pub lacking : {A : Type 0} → List A → ℕ → List A
 lacking [] d = []
 lacking (x ∷ xs) zero = xs
 lacking (x ∷ xs) (suc d) = x ∷ lacking xs d
-
-pub skip-suc : (d i : ℕ) → skip (suc d) (suc i) ≡ suc (skip d i)
-skip-suc d i =
-    elim (decLt i d) [
-      | yes l ↦ skip-low (suc d) (suc i) (omega arith) ∙ ap suc (sym (skip-low d i l))
-      | no l ↦ skip-high (suc d) (suc i) (omega arith) ∙ ap suc (sym (skip-high d i (omega arith)))
-    ]
 
 pub lacking-at : {A : Type 0} (xs : List A) (d : ℕ) (e : A) (i : ℕ) → getD (lacking xs d) i e ≡ getD xs (skip d i) e
 unfolding lacking

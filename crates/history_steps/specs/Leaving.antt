@@ -34,6 +34,13 @@ pub skip-below : (n d i : ℕ) → d < n → i < pred n → skip d i < n
 skip-below n d i g l =
     elim (decLt i d) [ yes q ↦ rw (skip-low d i q) (omega arith) | no q ↦ rw (skip-high d i (omega arith)) (omega arith) ]
 
+pub skip-suc : (d i : ℕ) → skip (suc d) (suc i) ≡ suc (skip d i)
+skip-suc d i =
+    elim (decLt i d) [
+      | yes l ↦ skip-low (suc d) (suc i) (omega arith) ∙ ap suc (sym (skip-low d i l))
+      | no l ↦ skip-high (suc d) (suc i) (omega arith) ∙ ap suc (sym (skip-high d i (omega arith)))
+    ]
+
 pub skip-back : (d i : ℕ) → d < i → skip d (pred i) ≡ i
 skip-back d i l = let e : suc (pred i) ≡ i = omega arith in skip-high d (pred i) (omega arith) ∙ e
 

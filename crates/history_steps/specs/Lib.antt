@@ -26,4 +26,5 @@ pub mod Final
 pub mod Once
 pub mod Conclusions
 pub mod Own
+pub mod ByBase
 pub mod Reaching
