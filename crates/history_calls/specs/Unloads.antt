@@ -1,7 +1,6 @@
 -- An unload: the others' links to the module go, it leaves its list and gets its offsets back; the others are at rest without it.
 use Prim.Native.Nat.{ℕ, pred, _+_, _<_}
 use mathlib.Core.Path.{_≡_, refl, sym, ap, _∙_}
-use mathlib.Core.Logic.{_≢_}
 use native.Mathlib.Omega.{arith}
 use lib.ListN.{length}
 use Rattle.window.specs.Access.{ret, _>>_}
@@ -23,7 +22,7 @@ use Rattle.history_steps.specs.World.{Cast, Sound, World, All, base}
 use Rattle.history_steps.specs.Listing.{Listed}
 use Rattle.history_steps.specs.Leaving.{skip, skip-low, skip-not, skip-below, distinct, unregisters}
 use Rattle.history_steps.specs.Final.{dropped}
-use Rattle.history_steps.specs.ByBase.{finds, finds-none}
+use Rattle.history_steps.specs.ByBase.{finds}
 use Rattle.history_steps.specs.Reaching.{resets-world}
 use Rattle.history_rebase.specs.Unrebased.{unrebases}
 use Rattle.history_steps.specs.Once.{Unlike, once}
@@ -104,11 +103,3 @@ module _ (C : Cast) (sound : Sound C) (unlike : Unlike C) where
                 record { recorded = recs; many = fewer-many; crs = s .book .crs ∙ ap (λ k. Known (b k)) (sym (skip-low d 0 above)) };
           },
         ))))
-
-  -- "Unload of an unknown base changes nothing."
-  pub unload-unknown
-      : (r : Register) {M : Memory} → AtRest C r M → (at : ℕ) → ((k : ℕ) → k < C .number → b k ≢ at)
-      → Does S (unload at r) (λ a N. (a ≡ calls.Kept) × (N ≡ M)) M
-  unfolding unload leave
-  unload-unknown r s at o =
-      rw (finds-none (C .image) (r .modules) 0 at (λ k l. o k (rw (← s .book .many) l)) (s .book .recorded)) (does-ret S (refl, refl))
