@@ -7,8 +7,8 @@ use Rattle.window.specs.Within.{In}
 use Rattle.window.specs.Mirror.{word}
 use Rattle.layout.specs.Header.{headerSize, nextCro, previousCro, moduleNameOffset}
 use Rattle.layout.specs.Format.{relocationType, tagSegment, tagOffset}
-use Rattle.layout.specs.Relocation.{relocatedWord}
-use Rattle.layout.specs.declared.relocation.Patch.the-variants.{Word}
+use Rattle.layout_relocation.specs.Relocation.{relocatedWord}
+use Rattle.layout_relocation.specs.declared.Patch.the-variants.{Word}
 use Rattle.layout.specs.declared.segments.Address.the-variants.{At}
 use Rattle.linker.specs.Relocation.{writePlace}
 use Rattle.history.specs.Image.{Table, tables, segments, namedExports, moduleEntries, externals, namedImports, internals, start, count, entry, fileSegment, tag, kind, symbolSegment}

@@ -11,7 +11,7 @@ use Rattle.window.specs.Within.{In, Low}
 use Rattle.window.specs.Mirror.{word, put4-off}
 use Rattle.layout.specs.Header.{internalRelocationTableOffset, internalRelocationNum, relocationEntrySize}
 use Rattle.layout.specs.Format.{relocationType, tagSegment, tagOffset}
-use Rattle.layout.specs.Relocation.{relocatedWord, patch, applyRelocation}
+use Rattle.layout_relocation.specs.Relocation.{relocatedWord, patch, applyRelocation}
 use Rattle.layout.specs.Segments.{field, entryAt, segment, addressIn}
 use Rattle.layout.specs.declared.format.Segment.{Segment}
 use Rattle.layout.specs.declared.segments.FoundSegment.{FoundSegment}

@@ -12,7 +12,7 @@ use Rattle.window.specs.Within.{In, Low}
 use Rattle.window.specs.Mirror.{put1-on, put1-off, put4-on, put4-off}
 use Rattle.layout.specs.Header.{relocationEntrySize, externalRelocationTableOffset, externalRelocationNum}
 use Rattle.layout.specs.Format.{relocationType}
-use Rattle.layout.specs.Relocation.{relocatedWord, patch, applyRelocation}
+use Rattle.layout_relocation.specs.Relocation.{relocatedWord, patch, applyRelocation}
 use Rattle.layout.specs.Segments.{field, entryAt, tagToAddress}
 use Rattle.layout.specs.declared.segments.Address.{Address}
 use Rattle.layout.specs.declared.segments.Address.the-variants.{At, Nowhere}

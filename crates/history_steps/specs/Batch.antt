@@ -13,12 +13,12 @@ use Rattle.window.specs.Within.{In, Four, Low}
 use Rattle.window.specs.Mirror.{word, put1, put4}
 use Rattle.layout.specs.Header.{relocationEntrySize}
 use Rattle.layout.specs.Format.{relocationType}
-use Rattle.layout.specs.Relocation.{relocatedWord, patch, applyRelocation}
+use Rattle.layout_relocation.specs.Relocation.{relocatedWord, patch, applyRelocation}
 use Rattle.layout.specs.Segments.{tagToAddress}
 use Rattle.layout.specs.declared.format.RelocationType.{RelocationType}
 use Rattle.layout.specs.declared.format.RelocationType.the-variants.{AbsoluteAddress, RelativeAddress, ThumbBranch, ArmBranch, ModifyArmBranch, AlignedRelativeAddress, Unknown}
-use Rattle.layout.specs.declared.relocation.Patch.{Patch}
-use Rattle.layout.specs.declared.relocation.Patch.the-variants.{Word}
+use Rattle.layout_relocation.specs.declared.Patch.{Patch}
+use Rattle.layout_relocation.specs.declared.Patch.the-variants.{Word}
 use Rattle.layout.specs.declared.segments.Address.{Address}
 use Rattle.layout.specs.declared.segments.Address.the-variants.{At, Nowhere}
 use Rattle.linker.specs.Relocation.{relocateAt, walk, batchLimit, mark, applyRelocationBatch, batchIsResolved}

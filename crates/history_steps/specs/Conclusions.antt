@@ -9,11 +9,11 @@ use Rattle.window.specs.Bytes.{byteOf, join-bytes, join-at}
 use Rattle.window.specs.Within.{Agree}
 use Rattle.window.specs.Mirror.{word}
 use Rattle.layout.specs.Format.{relocationType}
-use Rattle.layout.specs.Relocation.{relocatedWord}
+use Rattle.layout_relocation.specs.Relocation.{relocatedWord}
 use Rattle.layout.specs.declared.format.RelocationType.{RelocationType}
 use Rattle.layout.specs.declared.format.RelocationType.the-variants.{AbsoluteAddress, RelativeAddress, ThumbBranch, ArmBranch, ModifyArmBranch, AlignedRelativeAddress, Unknown}
-use Rattle.layout.specs.declared.relocation.Patch.{Patch}
-use Rattle.layout.specs.declared.relocation.Patch.the-variants.{Word}
+use Rattle.layout_relocation.specs.declared.Patch.{Patch}
+use Rattle.layout_relocation.specs.declared.Patch.the-variants.{Word}
 use Rattle.layout.specs.declared.segments.Address.{Address}
 use Rattle.layout.specs.declared.segments.Address.the-variants.{At}
 use Rattle.history.specs.Image.{externals, count, tag, kind, addend}

@@ -12,9 +12,9 @@ use Rattle.window.specs.Bytes.{byteOf}
 use Rattle.window.specs.Within.{In, dec-in, in-range, Agree}
 use Rattle.window.specs.Mirror.{put1, put4, put1-on, put1-off, put4-on, put4-off}
 use Rattle.layout.specs.Format.{relocationType}
-use Rattle.layout.specs.Relocation.{relocatedWord}
-use Rattle.layout.specs.declared.relocation.Patch.{Patch}
-use Rattle.layout.specs.declared.relocation.Patch.the-variants.{Word, Nothing}
+use Rattle.layout_relocation.specs.Relocation.{relocatedWord}
+use Rattle.layout_relocation.specs.declared.Patch.{Patch}
+use Rattle.layout_relocation.specs.declared.Patch.the-variants.{Word, Nothing}
 use Rattle.layout.specs.declared.segments.Address.{Address}
 use Rattle.layout.specs.declared.segments.Address.the-variants.{At, Nowhere}
 use Rattle.linker.specs.Relocation.{addressOr0}

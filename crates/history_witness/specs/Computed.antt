@@ -16,7 +16,7 @@ use Rattle.window.specs.Bytes as windowBytes
 use Rattle.layout.specs.Tables as layoutTables
 use Rattle.layout.specs.Segments as layoutSegments
 use Rattle.layout.specs.Format as layoutFormat
-use Rattle.layout.specs.Relocation as layoutRelocation
+use Rattle.layout_relocation.specs.Relocation as layoutRelocation
 use Rattle.register.specs.Words as registerWords
 use Rattle.register.specs.Module as registerModule
 use Rattle.register.specs.Encode as registerEncode

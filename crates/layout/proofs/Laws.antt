@@ -7,20 +7,16 @@ use native.Mathlib.Nat.{le-of-lt, lt-of-le-of-lt, mul-le-mul-left, mul-lt-mul-of
 use lib.ListN.{getD, getD-replicate, List·getD-append}
 use lib.Seq.{getD-append-add}
 use lib.Dec.{lit<}
-use Rattle.window.specs.Memory.{_⊕_, _⊖_, wordAt, putWord, putPrivileged}
+use Rattle.window.specs.Memory.{_⊕_, _⊖_, wordAt, putWord}
 use Rattle.window.specs.Access.{run}
 use Rattle.layout.specs.Header.{segmentNum, segmentTableOffset, segmentEntrySize}
 use Rattle.layout.specs.Format.{segmentType, segmentTypeNumber, tagSegment, tagOffset}
-use Rattle.layout.specs.Relocation.{relocatedWord, applyRelocation, relocation-word}
 use Rattle.layout.specs.Segments.{field, segment, setSegment, entryAt, segmentPlace, field-word, segment-found, setSegment-words, tagToAddress, tag-at}
 use Rattle.layout.specs.declared.format.Segment.{Segment}
 use Rattle.layout.specs.declared.format.SegmentType.{SegmentType}
 use Rattle.layout.specs.declared.segments.FoundSegment.{FoundSegment}
 use Rattle.layout.specs.declared.segments.FoundSegment.the-variants.{Found}
 use Rattle.layout.specs.declared.segments.Address.the-variants.{At}
-use Rattle.layout.specs.declared.format.RelocationType.{RelocationType}
-use Rattle.layout.specs.declared.relocation.Patch.{Patch}
-use Rattle.layout.specs.declared.relocation.Patch.the-variants.{Word}
 use Rattle.layout.specs.Tables.{noTable, pointerWords}
 use Rattle.layout.specs.declared.tables.PointerTable.{PointerTable}
 
@@ -49,7 +45,7 @@ module _ (at base i : ℕ) (w : List ℕ) {table entry p₄ p₈ : ℕ} (et : ta
       → word ≡ segmentTypeNumber (s .kind) → w₃ ≡ putWord at w₂ p₈ word → w₃ ≡ run at (setSegment base i s) w .1
   set-in-words s f₁ f₂ ew f₃ = rw (f₃, ew, f₂, f₁, e₄, e₈, place) (sym (setSegment-words at base i w s))
 
--- the segment of a tag, an address inside it, and a relocated word, as the code finds them
+-- the segment of a tag, and an address inside it, as the code finds them
 
 pub tag-segment
     : (at base : ℕ) (w : List ℕ) {i j : ℕ} {r s : FoundSegment} → i ≡ j → r ≡ run at (segment base i) w .0 → r ≡ s → run at (segment base j) w .0 ≡ s
@@ -60,12 +56,6 @@ pub tag-found
     → a ≡ s .offset ⊕ x → At a ≡ run at (tagToAddress base tag) w .0
 tag-found at base tag w s e ex h ea =
     rw (ea, ex) (sym (tag-at at base tag w e (rw ex at h)))
-
-pub word-written
-    : (at target : ℕ) (kind : RelocationType) (addend symbol final : ℕ) (w : List ℕ) (v : ℕ) {p : Patch} {after : List ℕ}
-    → p ≡ relocatedWord kind addend symbol final → p ≡ Word v → after ≡ putPrivileged at w target v
-    → after ≡ run at (applyRelocation target kind addend symbol final) w .1
-word-written at target kind addend symbol final w v e f g = g ∙ sym (relocation-word at target kind addend symbol final w (sym e ∙ f))
 
 -- a flat table of rows of seven words: word k of row i stands at i * 7 + k
 

@@ -3,5 +3,4 @@ pub mod Header
 pub mod Format
 pub mod Tables
 pub mod Segments
-pub mod Relocation
 pub mod Cases

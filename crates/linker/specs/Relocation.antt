@@ -8,7 +8,7 @@ use Rattle.window.specs.Loop.{loop}
 use Rattle.layout.specs.Header.{internalRelocationTableOffset, internalRelocationNum, externalRelocationTableOffset, externalRelocationNum, relocationEntrySize, onUnresolvedSegmentTag}
 use Rattle.layout.specs.Format.{relocationType, tagSegment, tagOffset}
 use Rattle.layout.specs.Segments.{field, entryAt, segment, tagToAddress}
-use Rattle.layout.specs.Relocation.{applyRelocation}
+use Rattle.layout_relocation.specs.Relocation.{applyRelocation}
 use Rattle.layout.specs.declared.format.Segment.{Segment}
 use Rattle.layout.specs.declared.format.SegmentType.{SegmentType}
 use Rattle.layout.specs.declared.format.SegmentType.the-variants.{Code, RoData, Data, Bss}

@@ -10,7 +10,7 @@ use Rattle.window.specs.Loop.{loop}
 use Rattle.layout.specs.Header.{internalRelocationTableOffset, internalRelocationNum, relocationEntrySize}
 use Rattle.layout.specs.Format.{relocationType, tagSegment, tagOffset}
 use Rattle.layout.specs.Segments.{field, entryAt, segment, segment-reads}
-use Rattle.layout.specs.Relocation.{applyRelocation}
+use Rattle.layout_relocation.specs.Relocation.{applyRelocation}
 use Rattle.layout.specs.declared.format.RelocationType.{RelocationType}
 use Rattle.layout.specs.declared.format.Segment.{Segment}
 use Rattle.layout.specs.declared.segments.FoundSegment.the-variants.{Found, Missing}

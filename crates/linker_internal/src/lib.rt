@@ -10,9 +10,9 @@ use layout::format::SegmentTag;
 use layout::format::SegmentType;
 use layout::header::INTERNAL_RELOCATION_NUM;
 use layout::header::INTERNAL_RELOCATION_TABLE_OFFSET;
-use layout::relocation::apply_relocation;
 use layout::segments::FoundSegment;
 use layout::segments::segment;
+use layout_relocation::apply_relocation;
 
 // Where the word goes: one for Data is written to the copy still sitting in the module's image, which nobody has moved yet.
 fn write_place(kind: SegmentType, old: u32, offset: u32, target_final: u32) -> u32

@@ -13,7 +13,7 @@ use Rattle.window.specs.Loop.{loop}
 use Rattle.layout.specs.Header.{externalRelocationTableOffset, externalRelocationNum, relocationEntrySize, onUnresolvedSegmentTag}
 use Rattle.layout.specs.Format.{relocationType}
 use Rattle.layout.specs.Segments.{field, entryAt, tagToAddress, tagToAddress-reads}
-use Rattle.layout.specs.Relocation.{applyRelocation}
+use Rattle.layout_relocation.specs.Relocation.{applyRelocation}
 use Rattle.layout.specs.declared.format.RelocationType.{RelocationType}
 use Rattle.layout.specs.declared.segments.Address.the-variants.{At, Nowhere}
 use Rattle.linker.specs.Relocation.{addressOr0, unresolvedSymbol, relocateAt, resetEntry, resetExternalRelocations, walk, batchLimit, mark, applyRelocationBatch, batchIsResolved}

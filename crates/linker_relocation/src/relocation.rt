@@ -11,9 +11,9 @@ use layout::format::SegmentTag;
 use layout::header::EXTERNAL_RELOCATION_NUM;
 use layout::header::EXTERNAL_RELOCATION_TABLE_OFFSET;
 use layout::header::ON_UNRESOLVED_SEGMENT_TAG;
-use layout::relocation::apply_relocation;
 use layout::segments::Address;
 use layout::segments::tag_to_address;
+use layout_relocation::apply_relocation;
 
 // Applies one external relocation with symbol, if its tag is usable.
 fn apply_entry(at: u32, w: &mut [u8], base: u32, symbol: u32, entry: u32)

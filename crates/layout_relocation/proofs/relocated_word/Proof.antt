@@ -1,10 +1,10 @@
 -- Each arm has the definition at its constructor; the difference that wraps is `_⊖_`.
 use mathlib.Core.Path.{_∙_, ap}
 use borrow.Author.Needs.{needs}
-use Rattle.layout.specs.declared.relocation.Patch.the-variants.{Word}
+use Rattle.layout_relocation.specs.declared.Patch.the-variants.{Word}
 use Rattle.layout.proofs.Laws.{difference}
-use Rattle.layout.proofs.relocation.relocated_word.Statement.{statement}
-use Rattle.layout.proofs.relocation.relocated_word.Tie as tie
+use Rattle.layout_relocation.proofs.relocated_word.Statement.{statement}
+use Rattle.layout_relocation.proofs.relocated_word.Tie as tie
 
 enum-told : tie.Need-enum-told
 enum-told c = search needs

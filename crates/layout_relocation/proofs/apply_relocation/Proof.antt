@@ -1,10 +1,10 @@
 -- By what the relocation writes: `relocation-nothing` and `word-written`.
 use mathlib.Core.Path.{sym, _∙_}
 use borrow.Author.Needs.{needs}
-use Rattle.layout.specs.Relocation.{relocation-nothing}
-use Rattle.layout.proofs.Laws.{word-written}
-use Rattle.layout.proofs.relocation.apply_relocation.Statement.{statement}
-use Rattle.layout.proofs.relocation.apply_relocation.Tie as tie
+use Rattle.layout_relocation.specs.Relocation.{relocation-nothing}
+use Rattle.layout_relocation.proofs.Laws.{word-written}
+use Rattle.layout_relocation.proofs.apply_relocation.Statement.{statement}
+use Rattle.layout_relocation.proofs.apply_relocation.Tie as tie
 
 relocated-word-requires : tie.Need-relocated-word-requires
 relocated-word-requires c κs = search needs

@@ -4,10 +4,10 @@ use mathlib.Core.Path.{_≡_}
 use mathlib.Core.List.{List}
 use Rattle.window.specs.Memory.{_⊕_, _⊖_, putPrivileged}
 use Rattle.window.specs.Access.{Prog, ret, put32Privileged, run}
 use Rattle.layout.specs.declared.format.RelocationType.{RelocationType}
 use Rattle.layout.specs.declared.format.RelocationType.the-variants.{AbsoluteAddress, RelativeAddress, ThumbBranch, ArmBranch, ModifyArmBranch, AlignedRelativeAddress, Unknown}
-use Rattle.layout.specs.declared.relocation.Patch.{Patch}
-use Rattle.layout.specs.declared.relocation.Patch.the-variants.{Word}
+use Rattle.layout_relocation.specs.declared.Patch.{Patch}
+use Rattle.layout_relocation.specs.declared.Patch.the-variants.{Word}
 
 -- "2 and 10 write symbol + addend, 3 writes symbol + addend − final place, all others nothing."
 abbrev pub relocatedWord : RelocationType → ℕ → ℕ → ℕ → Patch

@@ -1,8 +1,8 @@
 // What a relocation writes, and the write.
 ghost use mathlib.Core.Path.{_≡_};
 ghost use Rattle.window.specs.Access.{run};
-ghost use Rattle.layout.specs.Relocation.{relocatedWord, applyRelocation};
-use super::format::RelocationType;
+ghost use Rattle.layout_relocation.specs.Relocation.{relocatedWord, applyRelocation};
+use layout::format::RelocationType;
 
 // The word that a relocation writes, if it writes one.
 pub enum Patch {

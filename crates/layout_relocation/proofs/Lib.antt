@@ -1,0 +1,2 @@
+-- What the proofs of `layout_relocation` share.
+pub mod Laws
