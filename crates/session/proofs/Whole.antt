@@ -18,7 +18,7 @@ use Rattle.text.specs.Laws.{put-append, put-whole}
 use Rattle.session_head.specs.Head.{stepCount, windowLength, windowOffset}
 use Rattle.session_file.specs.File.{isSession}
 use Rattle.session_file.specs.Parts.{session-parts}
-use Rattle.session_lines.specs.Lines.{moduleLines, missingLines}
+use Rattle.session_register.specs.Lines.{moduleLines, missingLines}
 use Rattle.session.specs.Run.{start}
 use Rattle.session.specs.Session.{steps, registerLines, sessionText}
 use Rattle.session.specs.Fits.{bad-fits, text-fits}

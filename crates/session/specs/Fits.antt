@@ -22,7 +22,8 @@ use Rattle.session_head.specs.Head.{stepCount}
 use Rattle.session_step.specs.Steps.{stepAt}
 use Rattle.session_file.specs.File.{isSession}
 use Rattle.session_file.specs.Parts.{session-parts}
-use Rattle.session_lines.specs.Lines.{callName, stepLine, nameText, moduleLine, moduleLines, nameLines, missingLines}
+use Rattle.session_lines.specs.Lines.{callName, stepLine}
+use Rattle.session_register.specs.Lines.{nameText, moduleLine, moduleLines, nameLines, missingLines}
 use Rattle.session.specs.Run.{start}
 use Rattle.session.specs.Session.{outcomeAt, steps, registerLines, sessionText}
 

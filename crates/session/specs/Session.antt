@@ -9,7 +9,8 @@ use Rattle.text.specs.Text.{bytes, decimalOf}
 use Rattle.session_head.specs.Head.{stepCount, windowAddress}
 use Rattle.session_step.specs.Steps.{stepAt}
 use Rattle.session_file.specs.File.{isSession}
-use Rattle.session_lines.specs.Lines.{stepLine, moduleLines, missingLines}
+use Rattle.session_lines.specs.Lines.{stepLine}
+use Rattle.session_register.specs.Lines.{moduleLines, missingLines}
 use Rattle.session.specs.Run.{start, stepOutcome}
 
 -- step k, on the bytes that the ones before it left

@@ -15,7 +15,7 @@ use Rattle.session.proofs.run_steps.Reads as run-steps-reads
 use Rattle.session_file.proofs.is_session.Reads as is-session-reads
 use Rattle.session_head.proofs.step_count.Reads as step-count-reads
 use Rattle.session_head.proofs.window_bytes.Reads as window-bytes-reads
-use Rattle.session_lines.proofs.put_register.Reads as put-register-reads
+use Rattle.session_register.proofs.put_register.Reads as put-register-reads
 use Rattle.text.proofs.put_decimal.Reads as put-decimal-reads
 use Rattle.text.proofs.put_text.Reads as put-text-reads
 

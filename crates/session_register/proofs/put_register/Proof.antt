@@ -2,8 +2,8 @@
 use borrow.Author.Needs.{needs}
 use Rattle.register_read.specs.Encoded.{modules-are}
 use Rattle.text.specs.Laws.{put-then}
-use Rattle.session_lines.proofs.put_register.Statement.{statement}
-use Rattle.session_lines.proofs.put_register.Tie as tie
+use Rattle.session_register.proofs.put_register.Statement.{statement}
+use Rattle.session_register.proofs.put_register.Tie as tie
 
 put-modules-requires : tie.Need-put-modules-requires
 put-modules-requires c κs = search needs

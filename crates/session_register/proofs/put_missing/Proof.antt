@@ -4,10 +4,10 @@ use mathlib.Core.Path.{_≡_, refl, _∙_}
 use native.Mathlib.Omega.{arith}
 use lib.ListN.{length, drop}
 use Rattle.text.specs.Text.{bytes, put}
-use Rattle.session_lines.specs.Lines.{nameLines}
-use Rattle.session_lines.proofs.Laws.{missingIn, any-names, slot-fits, missing-line, names-more, names-done}
-use Rattle.session_lines.proofs.put_missing.Statement.{statement}
-use Rattle.session_lines.proofs.put_missing.Tie as tie
+use Rattle.session_register.specs.Lines.{nameLines}
+use Rattle.session_register.proofs.Laws.{missingIn, any-names, slot-fits, missing-line, names-more, names-done}
+use Rattle.session_register.proofs.put_missing.Statement.{statement}
+use Rattle.session_register.proofs.put_missing.Tie as tie
 
 abbrev Inv-loop : tie.InvT-loop
 Inv-loop out₀ at records missing count i₀ k₀ t10 out i k =

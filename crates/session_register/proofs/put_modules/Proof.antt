@@ -3,9 +3,9 @@ use Prim.Native.Nat.{_-_}
 use mathlib.Core.Path.{_≡_, refl, _∙_}
 use native.Mathlib.Omega.{arith}
 use lib.ListN.{length}
-use Rattle.session_lines.proofs.Laws.{Left, left-starts, left-here, left-goes, left-ends}
-use Rattle.session_lines.proofs.put_modules.Statement.{statement}
-use Rattle.session_lines.proofs.put_modules.Tie as tie
+use Rattle.session_register.proofs.Laws.{Left, left-starts, left-here, left-goes, left-ends}
+use Rattle.session_register.proofs.put_modules.Statement.{statement}
+use Rattle.session_register.proofs.put_modules.Tie as tie
 
 abbrev Inv-loop : tie.InvT-loop
 Inv-loop out₀ at records names count i₀ place₀ k₀ out i place k =

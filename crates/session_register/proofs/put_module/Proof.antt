@@ -2,9 +2,9 @@
 use mathlib.Core.Path.{refl}
 use Rattle.text.specs.Text.{bytes}
 use Rattle.text.specs.Laws.{put-kept}
-use Rattle.session_lines.proofs.Laws.{name-fits, module-line}
-use Rattle.session_lines.proofs.put_module.Statement.{statement}
-use Rattle.session_lines.proofs.put_module.Tie as tie
+use Rattle.session_register.proofs.Laws.{name-fits, module-line}
+use Rattle.session_register.proofs.put_module.Statement.{statement}
+use Rattle.session_register.proofs.put_module.Tie as tie
 
 record-at-requires : tie.Need-record-at-requires
 record-at-requires c κs = tt

@@ -2,9 +2,9 @@
 use mathlib.Core.Path.{refl}
 use borrow.Author.Needs.{needs}
 use Rattle.text.specs.Text.{bytes}
-use Rattle.session_lines.proofs.Laws.{name-empty, name-bytes}
-use Rattle.session_lines.proofs.put_name.Statement.{statement}
-use Rattle.session_lines.proofs.put_name.Tie as tie
+use Rattle.session_register.proofs.Laws.{name-empty, name-bytes}
+use Rattle.session_register.proofs.put_name.Statement.{statement}
+use Rattle.session_register.proofs.put_name.Tie as tie
 
 cast-put-decimal : tie.Need-cast-put-decimal
 cast-put-decimal c = search needs

@@ -1,0 +1,2 @@
+-- What the proofs of `session_register` share.
+pub mod Laws

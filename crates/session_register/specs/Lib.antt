@@ -1,0 +1,3 @@
+-- The definitions that the contracts of `session_register` cite.
+pub mod Lines
+pub mod Examples
