@@ -1,0 +1,2 @@
+-- What the proofs of `register_close` share.
+pub mod Laws
