@@ -1,13 +1,12 @@
 -- What each change does to the bytes of the buffers.
-use Prim.Native.Nat.{ℕ, _+_, _*_, _/_, _%_}
+use Prim.Native.Nat.{ℕ, zero, suc, _+_, _*_, _/_, _%_}
 use mathlib.Core.List.{List, _∷_, _++_}
-use lib.ListN.{length, take, drop}
+use lib.ListN.{length, take, drop, replicate}
 use lib.Seq.{sets}
 use lib.Dec.{eqb, ltb, leb}
 use mathlib.Core.Bool.{Bool, _&&_}
-use Rattle.window.specs.Memory.{if_then_else_}
+use Rattle.window.specs.Memory.{if_then_else_, _⊖_}
 use Rattle.window.specs.Word.{wordIn, setWordIn}
-use Rattle.register_close.specs.Bytes.{closed, lowerWord}
 
 -- header words 1 and 2, where there is a header
 unfoldable pub setCrs : List ℕ → ℕ → List ℕ
@@ -27,6 +26,25 @@ pushMissing records missing name =
     if takesName (length records) (length missing) (length name) && ltb (wordIn records 20) 64
     then (setWordIn records 20 (wordIn records 20 + 1), putSlot missing (514 * wordIn records 20) name)
     else (records, missing)
+
+-- the gap at `from` closed, and as many zeros at the end
+unfoldable pub closed : List ℕ → ℕ → ℕ → List ℕ
+closed bytes from gap = take from bytes ++ (drop (from + gap) bytes ++ replicate gap 0)
+
+-- name offsets that fall by d
+
+unfoldable pub lowerWord : List ℕ → ℕ → ℕ → List ℕ
+lowerWord bytes place d = setWordIn bytes place (wordIn bytes place ⊖ d)
+
+-- of n exports from `place` on
+unfoldable pub lowerExports : ℕ → List ℕ → ℕ → ℕ → List ℕ
+lowerExports zero bytes place d = bytes
+lowerExports (suc n) bytes place d = lowerExports n (lowerWord bytes place d) (place + 12) d
+
+-- of the record at `place`: its own, in word 3, and its exports'
+unfoldable pub lowerRecord : List ℕ → ℕ → ℕ → List ℕ
+lowerRecord bytes place d =
+    lowerExports (wordIn bytes (place + 24)) (lowerWord bytes (place + 12) d) (place + 4 * (8 + wordIn bytes (place + 20))) d
 
 -- where the names end of the record before `next`: at the next record's own, or with the last ones
 unfoldable pub namesEnd : List ℕ → ℕ → ℕ

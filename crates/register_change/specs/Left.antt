@@ -16,7 +16,7 @@ use Rattle.register.specs.Change.{without, removed}
 use Rattle.register.specs.Buffers.{Below, padded, names-are, encodeMissing, encode-encodes}
 use Rattle.register_append.specs.Laid.{below-append}
 use Rattle.register_append.specs.Stands.{encoded-small}
-use Rattle.register_close.specs.Lower.{below-left, below-right, length-records}
+use Rattle.register_change.specs.Lower.{below-left, below-right, length-records}
 use Rattle.register_change.specs.Encoded.{whole-fits}
 use Rattle.register_change.specs.Remove.{Stands, remaining}
 

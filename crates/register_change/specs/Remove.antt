@@ -21,9 +21,8 @@ use Rattle.register_append.specs.Sets.{flat-append}
 use Rattle.register_append.specs.Held.{words-long, below-set}
 use Rattle.register_append.specs.Append.{names-append, words-append}
 use Rattle.register_append.specs.Stands.{encoded-small}
-use Rattle.register_close.specs.Bytes.{closed}
-use Rattle.register_close.specs.Lower.{Records, word-amid, lower-amid, group, length-group, below-left, below-right, length-records, size-amid}
-use Rattle.register_change.specs.Bytes.{namesEnd, lowerHeader, cutRecord}
+use Rattle.register_change.specs.Bytes.{closed, namesEnd, lowerHeader, cutRecord}
+use Rattle.register_change.specs.Lower.{Records, word-amid, lower-amid, group, length-group, below-left, below-right, length-records, size-amid}
 use Rattle.register_change.specs.Encoded.{whole-fits, records-exact}
 
 -- the record of module number `number` begins at byte `place` of a register

@@ -5,12 +5,12 @@ ghost use lib.ListN.{length};
 ghost use Rattle.window.specs.Word.{wordIn};
 ghost use Rattle.register.specs.Words.{part, flat};
 ghost use Rattle.register.specs.Encode.{recordWords};
-ghost use Rattle.register_close.specs.Lower.{Records};
 ghost use Rattle.register_change.specs.Bytes.{namesEnd, lowerHeader, cutRecord};
+ghost use Rattle.register_change.specs.Lower.{Records};
 ghost use Rattle.register_change.specs.Remove.{Stands, remaining};
+use crate::gap;
+use crate::lower;
 use register::record;
-use register_close::gap;
-use register_close::lower;
 
 // Where the names end of the record before `next`: at the next record's own, or with the last ones.
 fn names_end(records: &[u8], next: usize) -> u32

@@ -1,7 +1,7 @@
 use borrow.Author.Needs.{needs}
-use Rattle.register_close.specs.Bytes.{lowerRecord}
-use Rattle.register_close.proofs.lower.lower_record.Statement.{statement}
-use Rattle.register_close.proofs.lower.lower_record.Tie as tie
+use Rattle.register_change.specs.Bytes.{lowerRecord}
+use Rattle.register_change.proofs.lower.lower_record.Statement.{statement}
+use Rattle.register_change.proofs.lower.lower_record.Tie as tie
 
 add-load32 : tie.Need-add-load32
 add-load32 c = search needs

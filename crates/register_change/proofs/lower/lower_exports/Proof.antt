@@ -3,10 +3,10 @@ use mathlib.Core.Path.{_≡_, refl, _∙_}
 use native.Mathlib.Omega.{arith}
 use lib.ListN.{length}
 use borrow.Author.Needs.{needs}
-use Rattle.register_close.specs.Bytes.{lowerExports}
-use Rattle.register_close.proofs.Laws.{exports-turn, exports-end}
-use Rattle.register_close.proofs.lower.lower_exports.Statement.{statement}
-use Rattle.register_close.proofs.lower.lower_exports.Tie as tie
+use Rattle.register_change.specs.Bytes.{lowerExports}
+use Rattle.register_change.proofs.Laws.{exports-turn, exports-end}
+use Rattle.register_change.proofs.lower.lower_exports.Statement.{statement}
+use Rattle.register_change.proofs.lower.lower_exports.Tie as tie
 
 abbrev Inv-loop : tie.InvT-loop
 Inv-loop bytes₀ place count d k₀ next₀ bytes k next =

@@ -5,10 +5,10 @@ use lib.ListN.{length}
 use borrow.Author.Needs.{needs}
 use Rattle.register.specs.Words.{flat}
 use Rattle.register.specs.Encode.{recordWords}
-use Rattle.register_close.specs.Lower.{Records, Walked, walk-start, walk-next, walk-end}
-use Rattle.register_close.proofs.Laws.{size-part}
-use Rattle.register_close.proofs.lower.lower_records.Statement.{statement}
-use Rattle.register_close.proofs.lower.lower_records.Tie as tie
+use Rattle.register_change.specs.Lower.{Records, Walked, walk-start, walk-next, walk-end}
+use Rattle.register_change.proofs.Laws.{size-part}
+use Rattle.register_change.proofs.lower.lower_records.Statement.{statement}
+use Rattle.register_change.proofs.lower.lower_records.Tie as tie
 
 abbrev Inv-loop : tie.InvT-loop
 Inv-loop bytes₀ d place₀ bytes place =

@@ -15,7 +15,7 @@ use Rattle.register.specs.CheckComplete.{record-size}
 use Rattle.register.specs.Buffers.{Below, length-flat, words-flat}
 use Rattle.register_append.specs.Sets.{change-laid, word-laid, flat-append}
 use Rattle.register_append.specs.Held.{words-long}
-use Rattle.register_close.specs.Bytes.{lowerWord, lowerExports, lowerRecord}
+use Rattle.register_change.specs.Bytes.{lowerWord, lowerExports, lowerRecord}
 
 -- words in the middle of bytes: read, and changed
 

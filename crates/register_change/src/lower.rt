@@ -5,12 +5,12 @@ ghost use lib.ListN.{length};
 ghost use Rattle.window.specs.Word.{wordIn};
 ghost use Rattle.register.specs.Words.{flat};
 ghost use Rattle.register.specs.Encode.{recordWords};
-ghost use Rattle.register_close.specs.Bytes.{lowerWord, lowerExports, lowerRecord};
-ghost use Rattle.register_close.specs.Lower.{Records};
+ghost use Rattle.register_change.specs.Bytes.{lowerWord, lowerExports, lowerRecord};
+ghost use Rattle.register_change.specs.Lower.{Records};
 use register::record;
 
 // Lowers the word at `place` by d.
-pub fn lower_word(bytes: &mut [u8], place: usize, d: u32)
+pub(crate) fn lower_word(bytes: &mut [u8], place: usize, d: u32)
     requires { ⌜ place + 4 ≤ length (now bytes) ⌝ }
     ensures { λ _. ⌜ now (bytes .exit) ≡ lowerWord (now (bytes .entry)) place d ⌝ }
 {
@@ -44,7 +44,7 @@ fn lower_record(bytes: &mut [u8], place: usize, d: u32)
 }
 
 // Lowers the name offsets of records, one after another to the end of the bytes.
-pub fn lower_records(bytes: &mut [u8], d: u32)
+pub(crate) fn lower_records(bytes: &mut [u8], d: u32)
     requires { ⌜ Records d (now bytes) ⌝ }
     ensures { λ _. ⌜ ((s : Records d (now (bytes .entry))) → now (bytes .exit) ≡ flat (recordWords (s .from - d) (s .modules))) ⌝ }
 {

@@ -3,7 +3,7 @@ ghost use mathlib.Core.Path.{_≡_};
 ghost use Prim.Native.Nat.{_+_, _-_, _≤_};
 ghost use lib.ListN.{length, drop};
 ghost use lib.Seq.{sets};
-ghost use Rattle.register_close.specs.Bytes.{closed};
+ghost use Rattle.register_change.specs.Bytes.{closed};
 use register_append::bytes;
 
 // Moves the bytes after the gap down over it.
@@ -20,7 +20,7 @@ fn move_down(buffer: &mut [u8], from: usize, gap: usize)
 }
 
 // Closes the gap of `gap` bytes at `from`; as many bytes at the end become 0.
-pub fn close_gap(buffer: &mut [u8], from: usize, gap: usize)
+pub(crate) fn close_gap(buffer: &mut [u8], from: usize, gap: usize)
     requires { ⌜ from + gap ≤ length (now buffer) ⌝ }
     ensures { λ _. ⌜ now (buffer .exit) ≡ closed (now (buffer .entry)) from gap ⌝ }
 {

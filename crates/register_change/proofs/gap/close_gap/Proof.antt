@@ -1,8 +1,8 @@
 use mathlib.Core.Path.{refl}
 use borrow.Author.Needs.{needs}
-use Rattle.register_close.proofs.Laws.{closed-in-steps}
-use Rattle.register_close.proofs.gap.close_gap.Statement.{statement}
-use Rattle.register_close.proofs.gap.close_gap.Tie as tie
+use Rattle.register_change.proofs.Laws.{closed-in-steps}
+use Rattle.register_change.proofs.gap.close_gap.Statement.{statement}
+use Rattle.register_change.proofs.gap.close_gap.Tie as tie
 
 move-down-requires : tie.Need-move-down-requires
 move-down-requires c κs = search needs

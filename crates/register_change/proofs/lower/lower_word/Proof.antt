@@ -2,9 +2,9 @@ use mathlib.Core.Path.{_≡_}
 use native.Mathlib.Omega.{arith}
 use borrow.Author.Needs.{needs}
 use Rattle.window.specs.Memory.{_⊖_}
-use Rattle.register_close.specs.Bytes.{lowerWord}
-use Rattle.register_close.proofs.lower.lower_word.Statement.{statement}
-use Rattle.register_close.proofs.lower.lower_word.Tie as tie
+use Rattle.register_change.specs.Bytes.{lowerWord}
+use Rattle.register_change.proofs.lower.lower_word.Statement.{statement}
+use Rattle.register_change.proofs.lower.lower_word.Tie as tie
 
 load32-requires : tie.Need-load32-requires
 load32-requires c κs = search needs

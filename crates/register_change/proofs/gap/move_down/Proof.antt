@@ -4,9 +4,9 @@ use native.Mathlib.Omega.{arith}
 use lib.ListN.{length, drop, length-set}
 use lib.Seq.{sets}
 use borrow.Author.Needs.{needs}
-use Rattle.register_close.proofs.Laws.{move-turn, move-rest, move-end}
-use Rattle.register_close.proofs.gap.move_down.Statement.{statement}
-use Rattle.register_close.proofs.gap.move_down.Tie as tie
+use Rattle.register_change.proofs.Laws.{move-turn, move-rest, move-end}
+use Rattle.register_change.proofs.gap.move_down.Statement.{statement}
+use Rattle.register_change.proofs.gap.move_down.Tie as tie
 
 abbrev Inv-loop : tie.InvT-loop
 Inv-loop buffer₀ from gap last i₀ buffer i =

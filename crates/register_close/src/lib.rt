@@ -1,3 +1,0 @@
-// What a removal does to the bytes that stay: a gap closed, and name offsets that fall.
-pub mod gap;
-pub mod lower;
