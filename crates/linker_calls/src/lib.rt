@@ -30,8 +30,8 @@ use register::exports::Found;
 use register::words::Crs;
 use register::words::read_crs;
 use register::words::used_bytes;
-use register_change::header::set_crs;
 use register_change::remove::remove_record;
+use register_header::crs::set_crs;
 use register_read::modules::first_with_base;
 
 // The static module heads no list yet.

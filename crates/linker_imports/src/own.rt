@@ -20,7 +20,7 @@ use linker_sources::names::module_by_name;
 use linker_sources::source::imports_of;
 use name::read_name;
 use register::exports::Found;
-use register_change::missing::push_missing;
+use register_header::missing::push_missing;
 use register_read::Symbol;
 use register_read::modules::lookup;
 

@@ -1,49 +1,20 @@
 -- From the code's loops to the definitions of `Bytes`.
 use Prim.Native.Nat.{ℕ, suc, _+_, _-_, _*_, _≤_, _<_}
 use mathlib.Core.Path.{_≡_, sym, ap, _∙_, subst}
-use mathlib.Core.List.{List, [], _++_, append-assoc, append-nil}
-use mathlib.Core.Bool.{Bool, true, false, _&&_}
+use mathlib.Core.List.{List, _++_, append-assoc, append-nil}
+use mathlib.Core.Bool.{Bool}
 use native.Mathlib.Omega.{arith}
 use native.Mathlib.Numerals.{add-one}
 use lib.ListN.{length, take, drop, getD, set, replicate, length-append, length-drop, length-replicate, drop-of-length-le}
 use lib.Seq.{sets, sets-eq, drop-cons, drop-drop, drop-set-lt, getD-drop, length-take-le, take-append-seam, take-all}
-use lib.Dec.{eqb, leb}
-use borrow.Author.Tests.{leb-true, eqb-true, lt-ltb, le-ltb}
 use borrow.Rule.Slice.PartMut.{putMid, post-is}
-use Rattle.window.specs.Word.{wordIn, setWordIn}
-use Rattle.window.specs.Tests.{both}
-use Rattle.window.specs.Memory.{if_then_else_}
+use Rattle.window.specs.Word.{wordIn}
 use Rattle.register.specs.Words.{part, flat, wordsIn}
 use Rattle.register.specs.Decode.{moduleSize}
 use Rattle.register.specs.Encode.{recordWords}
-use Rattle.register_change.specs.Bytes.{takesName, putSlot, pushMissing, closed, namesEnd, lowerWord, lowerExports, lowerHeader, cutRecord}
+use Rattle.register_change.specs.Bytes.{closed, namesEnd, lowerWord, lowerExports, lowerHeader, cutRecord}
 use Rattle.register_change.specs.Lower.{Records}
 use Rattle.register_change.specs.Remove.{Leaving}
-
--- a missing name
-
-pub takes-lengths : (r m n : ℕ) {t : Bool} → t ≡ takesName r m n → t ≡ true → (32 ≤ r) × (m ≡ 32896) × (n ≤ 512)
-unfolding takesName
-takes-lengths r m n e z =
-    let a = both (leb 32 r) (eqb m 32896 && leb n 512) (sym e ∙ z) in
-    let b = both (eqb m 32896) (leb n 512) (a .1) in
-    (leb-true 32 r (a .0), eqb-true m 32896 (b .0), leb-true n 512 (b .1))
-
-module _ (records missing name : List ℕ) {t : Bool} (e : t ≡ takesName (length records) (length missing) (length name)) where
-  pub push-shut : t ≡ false → _≡_ {A = List ℕ × List ℕ} (records, missing) (pushMissing records missing name)
-  unfolding pushMissing
-  push-shut z = rw (← e, z)
-
-  module _ (y : t ≡ true) {n : ℕ} (en : n ≡ wordIn records 20) where
-    pub push-many : 64 ≤ n → _≡_ {A = List ℕ × List ℕ} (records, missing) (pushMissing records missing name)
-    unfolding pushMissing
-    push-many h = rw (← e, y, ← en, le-ltb n 64 h)
-
-    pub push-one
-        : {rs ms : List ℕ} → n < 64 → ms ≡ putSlot missing (514 * n) name → rs ≡ setWordIn records 20 (n + 1)
-        → _≡_ {A = List ℕ × List ℕ} (rs, ms) (pushMissing records missing name)
-    unfolding pushMissing
-    push-one h em er = rw (← e, y, ← en, lt-ltb n 64 h, em, er)
 
 -- bytes moved down, those below i done; those from i on still as they were
 

@@ -1,6 +1,4 @@
-// Changes of a register that stands: the CRS, a missing name more, and a record that leaves.
+// A register that stands, with a record less; the definitions of its other changes are here too, their code is in `register_header`.
 pub mod gap;
-pub mod header;
 pub mod lower;
-pub mod missing;
 pub mod remove;

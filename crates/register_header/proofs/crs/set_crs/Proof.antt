@@ -1,8 +1,8 @@
 use borrow.Author.Tests.{lt-ltb, le-ltb}
 use borrow.Author.Needs.{needs}
 use Rattle.register_change.specs.Bytes.{setCrs}
-use Rattle.register_change.proofs.header.set_crs.Statement.{statement}
-use Rattle.register_change.proofs.header.set_crs.Tie as tie
+use Rattle.register_header.proofs.crs.set_crs.Statement.{statement}
+use Rattle.register_header.proofs.crs.set_crs.Tie as tie
 
 returns : tie.Need-returns
 unfolding setCrs

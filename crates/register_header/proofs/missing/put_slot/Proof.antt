@@ -3,9 +3,9 @@ use mathlib.Core.Path.{_≡_, _∙_}
 use native.Mathlib.Omega.{arith}
 use lib.ListN.{length-set}
 use borrow.Author.Needs.{needs}
 use Rattle.register_change.specs.Bytes.{putSlot}
-use Rattle.register_change.proofs.missing.put_slot.Statement.{statement}
-use Rattle.register_change.proofs.missing.put_slot.Tie as tie
+use Rattle.register_header.proofs.missing.put_slot.Statement.{statement}
+use Rattle.register_header.proofs.missing.put_slot.Tie as tie
 
 cast-missing : tie.Need-cast-missing
 cast-missing c = search needs

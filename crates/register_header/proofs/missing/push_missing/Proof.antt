@@ -1,9 +1,9 @@
 use native.Mathlib.Omega.{arith}
 use borrow.Author.Tests.{not-true, not-false}
 use borrow.Author.Needs.{needs}
-use Rattle.register_change.proofs.Laws.{takes-lengths, push-shut, push-many, push-one}
-use Rattle.register_change.proofs.missing.push_missing.Statement.{statement}
-use Rattle.register_change.proofs.missing.push_missing.Tie as tie
+use Rattle.register_header.proofs.Laws.{takes-lengths, push-shut, push-many, push-one}
+use Rattle.register_header.proofs.missing.push_missing.Statement.{statement}
+use Rattle.register_header.proofs.missing.push_missing.Tie as tie
 
 takes-name-requires : tie.Need-takes-name-requires
 takes-name-requires c κs = search needs

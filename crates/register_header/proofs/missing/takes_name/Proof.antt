@@ -1,7 +1,7 @@
 use borrow.Author.Tests.{lt-leb, le-leb, eq-eqb, ne-eqb}
 use Rattle.register_change.specs.Bytes.{takesName}
-use Rattle.register_change.proofs.missing.takes_name.Statement.{statement}
-use Rattle.register_change.proofs.missing.takes_name.Tie as tie
+use Rattle.register_header.proofs.missing.takes_name.Statement.{statement}
+use Rattle.register_header.proofs.missing.takes_name.Tie as tie
 
 returns : tie.Need-returns
 unfolding takesName

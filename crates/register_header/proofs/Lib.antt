@@ -1,0 +1,2 @@
+-- What the proofs of `register_header` share.
+mod Laws
