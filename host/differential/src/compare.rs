@@ -284,7 +284,11 @@ fn break_register(buffers: &mut Buffers, random: &mut Random, way: u32) -> u32 {
         4 => buffers.records[0] = 65,
         5 => buffers.records.truncate(random.below(32) as usize),
         6 => buffers.missing.truncate(buffers.missing.len() - 1),
-        _ => *buffers.missing.last_mut().unwrap() ^= 0xFF,
+        _ => {
+            // a byte after the last name, or a zero in one of 512 bytes
+            let last = buffers.missing.last_mut().unwrap();
+            *last = if *last == 0 { 0xFF } else { 0 };
+        }
     }
     4
 }
