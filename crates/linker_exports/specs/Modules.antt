@@ -19,6 +19,7 @@ use Rattle.register_append.specs.declared.draft.Drafted.{Drafted}
 use Rattle.register_append.specs.declared.draft.Drafted.the-variants.{Open, Full}
 use Rattle.register_append.specs.Held.{words-long}
 use Rattle.linker.specs.Exports.{putUsable}
+use Rattle.linker.specs.Fit.{put-grows}
 use Rattle.linker_record.specs.Read.{namedTo, indexedTo, indexedOf, nameOf, addressOf}
 use Rattle.linker_exports.specs.Writing.{Ground, Writing, Grows, named, none-greater}
 
@@ -93,27 +94,10 @@ full-greater g m m′ rs ns h e = (e .0, e .1, none-greater g m m′ h (e .2))
 
 -- exports put one after another
 
-put-longer : (xs : List Export) (name : List ℕ) (a : ℕ)
-    → (length xs ≤ length (putNamed xs name a)) × (length (exportNames xs) ≤ length (exportNames (putNamed xs name a)))
-unfolding putNamed exportNames
-put-longer [] name a = (omega arith, omega arith)
-put-longer (x ∷ xs) name a = go (same name (x .name)) (put-longer xs name a)
-  where
-    go
-        : (t : Bool) → (length xs ≤ length (putNamed xs name a)) × (length (exportNames xs) ≤ length (exportNames (putNamed xs name a)))
-        → (length (x ∷ xs) ≤ length (if t then record { name = x .name; address = a } ∷ xs else x ∷ putNamed xs name a))
-        × (length (x .name ++ exportNames xs)
-        ≤ length (exportNames (if t then record { name = x .name; address = a } ∷ xs else x ∷ putNamed xs name a)))
-    go true ih = (omega arith, omega arith)
-    go false ih = (
-      omega (arith, ih .0),
-      omega (arith, ih .1, length-append (x .name) (exportNames xs), length-append (x .name) (exportNames (putNamed xs name a))),
-    )
-
 usable-longer : (xs : List Export) (name : List ℕ) (a : Address)
     → (length xs ≤ length (putUsable xs name a)) × (length (exportNames xs) ≤ length (exportNames (putUsable xs name a)))
 unfolding putUsable
-usable-longer xs name (At a) = put-longer xs name a
+usable-longer xs name (At a) = put-grows xs name a
 usable-longer xs name Nowhere = (omega arith, omega arith)
 
 put-ok : (xs : List Export) (name : List ℕ) (a : ℕ) → named-ok xs ≡ true → isName name ≡ true → named-ok (putNamed xs name a) ≡ true
