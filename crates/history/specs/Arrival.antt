@@ -26,7 +26,7 @@ use Rattle.history.specs.Image.{segments, namedExports, indexedExports, 
 -- the two calls that bring a module, with their arguments: "Its places and parameters are that call's arguments."
 pub data Coming : Type 0 where
   initialized : ℕ → ℕ → Coming
-  loaded : Lent → ℕ → ℕ → Coming
+  loaded : Lent → Bool → ℕ → Coming
 
 abbrev pub baseOf : Coming → ℕ
 baseOf (initialized base size) = base

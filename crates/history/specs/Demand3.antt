@@ -1,4 +1,4 @@
--- Demand 3: history must not show. The premises, each under its own name, and the claim about any two whole sessions.
+-- Demand 3: history must not show. The premises, each under its own name, and the claim about a linker and any two whole sessions.
 use Prim.Native.Nat.{ℕ, _<_}
 use mathlib.Core.Path.{_≡_}
 use mathlib.Core.Logic.{_≢_}
@@ -8,11 +8,14 @@ use lib.ListN.{length}
 use Rattle.window.specs.Memory.{byteAt}
 use Rattle.window.specs.Within.{In, Agree}
 use Rattle.layout.specs.declared.segments.Address.the-variants.{At}
+use Rattle.linker.specs.declared.call.Call.{Call}
+use Rattle.linker.specs.declared.call.Call.the-variants.{Initialize, Load, Unload}
 use Rattle.history.specs.Image.{namedExports, count, moduleName}
 use Rattle.history.specs.Arrival.{Coming, initialized, loaded, Image, Arrival, imageOf, baseOf, isCrs, handler, Area, exportName, exportAddress, exportOf}
 use Rattle.history.specs.Imports.{Import, IsImport, Exports, Exporter, Holds}
 use Rattle.history.specs.WellLaid.{WellLaid}
-use Rattle.history.specs.Sessions.{Call, initialize, load, unload, Turn, after, expected, done, arrived, standing, Session}
+use Rattle.history.specs.Sessions.{Turn, after, expected, done, own, arrived, standing, Trace}
+use Rattle.history.specs.Outcomes.{Linker, Made, Follows}
 
 -- it holds of each of a list; of each pair of a list
 unfoldable pub Each : {A : Type 0} → (A → Type 0) → List A → Type 0
@@ -25,14 +28,14 @@ Pairs R (x ∷ xs) = Each (R x) xs × Pairs R xs
 
 -- "the CRS is initialised first" and once, "and stays"; S has come before the call
 unfoldable pub InOrder : Call → List Arrival → Type 0
-InOrder (initialize base size) S = S ≡ []
-InOrder (load l auto level) S = S ≢ []
-InOrder (unload base) S = Each (λ a. isCrs (a .coming) ≡ true → baseOf (a .coming) ≢ base) S
+InOrder (Initialize base size) S = S ≡ []
+InOrder (Load l auto level) S = S ≢ []
+InOrder (Unload base) S = Each (λ a. isCrs (a .coming) ≡ true → baseOf (a .coming) ≢ base) S
 
 -- of the modules that come: auto-linked, fixed at no level 2 or 3, at no base 0
 unfoldable pub AutoLinked : Coming → Type 0
 AutoLinked (initialized base size) = Unit {0}
-AutoLinked (loaded l auto level) = auto ≢ 0
+AutoLinked (loaded l auto level) = auto ≡ true
 
 unfoldable pub ImportsKept : Coming → Type 0
 ImportsKept (initialized base size) = Unit {0}
@@ -57,36 +60,35 @@ ExportsOnce a =
     (i j : ℕ) → i < count (a .file) namedExports → j < count (a .file) namedExports → exportName a i ≡ exportName a j
     → (p q : ℕ) → exportAddress a i ≡ At p → exportAddress a j ≡ At q → i ≡ j
 
-module _ (at : ℕ) where
-  -- "A refused call that leaves all unchanged .. may come anywhere ..; no other call is refused"
-  unfoldable pub Harmless : Turn → Type 0
-  Harmless t = done at t ≡ false → expected at t .left ≡ t .before
+-- "A refused call that leaves all unchanged .. may come anywhere ..; no other call is refused"
+unfoldable pub Harmless : Turn → Type 0
+Harmless t = done t ≡ false → expected t .left ≡ t .before
 
-  unfoldable pub CrsFirst : List Turn → Type 0
-  CrsFirst [] = Unit {0}
-  CrsFirst (t ∷ ts) = (done at t ≡ true → InOrder (t .call) (arrived at ts)) × CrsFirst ts
+unfoldable pub CrsFirst : List Turn → Type 0
+CrsFirst [] = Unit {0}
+CrsFirst (t ∷ ts) = (done t ≡ true → InOrder (t .call) (arrived ts)) × CrsFirst ts
 
-  -- the window never changes its length: that of the last call is any call's
-  unfoldable pub InWindow : List Turn → Image → Type 0
-  InWindow [] a = Unit {0}
-  InWindow (t ∷ ts) a = (q : ℕ) → Area a q → In at (length (t .before .window)) q
+-- of calls on the session's own window, which never changes its length: that of the last call is any call's
+unfoldable pub InWindow : List Turn → Image → Type 0
+InWindow [] a = Unit {0}
+InWindow (t ∷ ts) a = (q : ℕ) → Area a q → In (t .at) (length (t .before .window)) q
 
-  -- the images that came
-  abbrev pub images : List Turn → List Image
-  images ts = map imageOf (arrived at ts)
+-- the images that came
+abbrev pub images : List Turn → List Image
+images ts = map imageOf (arrived ts)
 
-  pub record Premises (ts : List Turn) : Type 0 where
-    pub harmless : Each Harmless ts
-    pub crs-first : CrsFirst ts
-    pub auto-linked : Each (λ m. AutoLinked (m .coming)) (images ts)
-    pub imports-kept : Each (λ m. ImportsKept (m .coming)) (images ts)
-    pub base-not-0 : Each (λ m. BaseNot0 (m .coming)) (images ts)
-    pub in-window : Each (InWindow ts) (images ts)
-    pub areas-apart : Pairs Apart (images ts)
-    pub other-names : Pairs OtherName (images ts)
-    pub other-exports : Pairs OtherExports (images ts)
-    pub exports-once : Each ExportsOnce (images ts)
-    pub well-laid : Each WellLaid (images ts)
+pub record Premises (ts : List Turn) : Type 0 where
+  pub harmless : Each Harmless ts
+  pub crs-first : CrsFirst ts
+  pub auto-linked : Each (λ m. AutoLinked (m .coming)) (images ts)
+  pub imports-kept : Each (λ m. ImportsKept (m .coming)) (images ts)
+  pub base-not-0 : Each (λ m. BaseNot0 (m .coming)) (images ts)
+  pub in-window : Each (InWindow (own ts)) (images ts)
+  pub areas-apart : Pairs Apart (images ts)
+  pub other-names : Pairs OtherName (images ts)
+  pub other-exports : Pairs OtherExports (images ts)
+  pub exports-once : Each ExportsOnce (images ts)
+  pub well-laid : Each WellLaid (images ts)
 
 -- "every import .. holds its exporter's address if that stands and has the export, else the handler's": M are the bytes, S stands
 unfoldable pub ImportClause : List Image → (ℕ → ℕ) → Image → Type 0
@@ -107,26 +109,31 @@ SameStanding (a ∷ S) (b ∷ T) = (a .coming ≡ b .coming) × Agree (Area (ima
 SameStanding [] (b ∷ T) = ⊥
 SameStanding (a ∷ S) [] = ⊥
 
--- the bytes that a session ends with
-unfoldable pub ends : ℕ → List Turn → ℕ → ℕ
-ends at [] q = 0
-ends at (t ∷ ts) q = byteAt at (after t .window) q
+-- the bytes that calls on the session's own window leave
+unfoldable pub lefts : List Turn → ℕ → ℕ
+lefts [] q = 0
+lefts (t ∷ ts) q = byteAt (t .at) (after t .window) q
+
+-- the session's bytes after all its calls
+abbrev pub ends : List Turn → ℕ → ℕ
+ends ts = lefts (own ts)
 
 -- M are the bytes, S stands: of every module in S
 unfoldable pub AllHold : List Image → (ℕ → ℕ) → Type 0
 AllHold S M = Each (λ m. ImportClause S M m × CrsClause M m) S
 
 -- after every call
-unfoldable pub Linked : ℕ → List Turn → Type 0
-Linked at [] = Unit {0}
-Linked at (t ∷ ts) = AllHold (map imageOf (standing at (t ∷ ts))) (ends at (t ∷ ts)) × Linked at ts
+unfoldable pub Linked : List Turn → Type 0
+Linked [] = Unit {0}
+Linked (t ∷ ts) = AllHold (map imageOf (standing (t ∷ ts))) (ends (t ∷ ts)) × Linked ts
 
 -- "no byte of the CRS's or a standing module's areas differs"
-unfoldable pub NoByteDiffers : ℕ → List Turn → ℕ → List Turn → Type 0
-NoByteDiffers at ts bt us = Each (λ a. Agree (Area (imageOf a)) (ends at ts) (ends bt us)) (standing at ts)
+unfoldable pub NoByteDiffers : List Turn → List Turn → Type 0
+NoByteDiffers ts us = Each (λ a. Agree (Area (imageOf a)) (ends ts) (ends us)) (standing ts)
 
--- each call of a session gives the definition's outcome (`Session`, by `Follows`); of any two sessions under the premises:
-unfoldable pub Demand3 : Type 0
-Demand3 =
-    (at bt : ℕ) (ts us : List Turn) → Session at ts → Session bt us → Premises at ts → Premises bt us
-    → Linked at ts × Linked bt us × (SameStanding (standing at ts) (standing bt us) → NoByteDiffers at ts bt us)
+-- of a linker and any two whole sessions that it was called in, under the premises: each call gives document 01's outcome, after
+-- each call every import holds its address, and where the sessions end alike no byte differs
+unfoldable pub Demand3 : Linker → Type 0
+Demand3 L =
+    (at bt : ℕ) (ts us : List Turn) → Trace at ts → Trace bt us → Made L ts → Made L us → Premises ts → Premises us
+    → (Made Follows ts × Linked ts) × (Made Follows us × Linked us) × (SameStanding (standing ts) (standing us) → NoByteDiffers ts us)

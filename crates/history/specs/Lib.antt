@@ -5,5 +5,6 @@ pub mod Arrival
 pub mod Imports
 pub mod WellLaid
 pub mod Sessions
+pub mod Outcomes
 pub mod Windows
 pub mod Demand3

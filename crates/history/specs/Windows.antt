@@ -14,7 +14,9 @@ use Rattle.linker.specs.Calls.{Answer, NotACro, BadSegment, NoRoom, Kept, Done}
 use Rattle.linker.specs.Outcome.{Bytes, registerAfter, settle, chain, outcome, initializeOutcome, loadOutcome, unloadOutcome}
 use Rattle.linker.specs.Refusals.{lentRegister}
 use Rattle.linker.specs.Valid.{Valid, AreBytes, initialize-valid, load-valid, unload-valid}
-use Rattle.history.specs.Sessions.{Call, initialize, load, unload, given, Words}
+use Rattle.linker.specs.declared.call.Call.{Call}
+use Rattle.linker.specs.declared.call.Call.the-variants.{Initialize, Load, Unload}
+use Rattle.history.specs.Sessions.{given, Words}
 
 -- a run that leaves such a window
 abbrev pub Ran : ℕ → List ℕ → List ℕ → Type 0
@@ -50,15 +52,15 @@ outcome-ran call at b =
 
 pub given-ran : (c : Call) (at : ℕ) (b : Bytes) → Ran at (b .window) (given c at b .left .window)
 unfolding given initializeOutcome loadOutcome unloadOutcome
-given-ran (initialize base size) at b = outcome-ran (calls.initialize base size) at b
-given-ran (load l auto level) at b = outcome-ran (calls.load l (not (eqb auto 0)) level) at b
-given-ran (unload base) at b = outcome-ran (λ records names. calls.unload base) at b
+given-ran (Initialize base size) at b = outcome-ran (calls.initialize base size) at b
+given-ran (Load l auto level) at b = outcome-ran (calls.load l (not (eqb auto 0)) level) at b
+given-ran (Unload base) at b = outcome-ran (λ records names. calls.unload base) at b
 
 pub given-length : (c : Call) (at : ℕ) (b : Bytes) → length (given c at b .left .window) ≡ length (b .window)
 given-length c at b = let g = given-ran c at b in rw (g .1) (length-run at (g .0) (b .window))
 
 pub given-valid : (c : Call) (at : ℕ) (b : Bytes) → Words c → Valid b → AreBytes b → Valid (given c at b .left) × AreBytes (given c at b .left)
 unfolding given Words
-given-valid (initialize base size) at b w v t = let g = initialize-valid b v t base size at (w .0) (w .1) in (g .0, g .1)
-given-valid (load l auto level) at b w v t = let g = load-valid b v t l auto level at (w .0) (w .1) in (g .0, g .1)
-given-valid (unload base) at b w v t = let g = unload-valid b v t base at in (g .0, g .1)
+given-valid (Initialize base size) at b w v t = let g = initialize-valid b v t base size at (w .0) (w .1) in (g .0, g .1)
+given-valid (Load l auto level) at b w v t = let g = load-valid b v t l auto level at (w .0) (w .1) in (g .0, g .1)
+given-valid (Unload base) at b w v t = let g = unload-valid b v t base at in (g .0, g .1)
