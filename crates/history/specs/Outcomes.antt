@@ -17,10 +17,13 @@ use Rattle.history.specs.Sessions.{given, Turn, SameBytes}
 abbrev pub Linker : Type 1
 Linker = Call → ℕ → Bytes → Outcome → Type 0
 
--- each of the calls was made by such a linker
+-- such a linker may have made the call, and each of the calls
+abbrev pub Gave : Linker → Turn → Type 0
+Gave L t = L (t .call) (t .at) (t .before) (t .gave)
+
 unfoldable pub Made : Linker → List Turn → Type 0
 Made L [] = Unit {0}
-Made L (t ∷ ts) = L (t .call) (t .at) (t .before) (t .gave) × Made L ts
+Made L (t ∷ ts) = Gave L t × Made L ts
 
 -- what the exported calls promise: their contracts, word for word
 unfoldable pub Promised : Linker

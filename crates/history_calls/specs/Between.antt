@@ -6,7 +6,7 @@ use lib.ListN.{length}
 use Rattle.window.specs.Within.{Agree}
 use Rattle.register.specs.Module.{Module, Register}
 use Rattle.history.specs.Arrival.{Image, Area}
-use Rattle.history.specs.Sessions.{SameModules, SameRegister}
+use Rattle.history.specs.Outcomes.{SameModules, SameRegister}
 use Rattle.history_steps.specs.Wp.{Memory}
 use Rattle.history_steps.specs.Shows.{shows-agree}
 use Rattle.history_steps.specs.Links.{Links}

@@ -156,9 +156,9 @@ module _ (C : Cast) (m : Image) (laid : WellLaid m) (low : Low (Area m))
           ∙ put-other (C .rest) n N k o
           ∙ sym (put-other (C .rest) n (fixedAt m level N) k o)
 
-module _ (C : Cast) (l : Lent) (given level : ℕ) (f : ℕ → ℕ) where
+module _ (C : Cast) (l : Lent) (auto : Bool) (level : ℕ) (f : ℕ → ℕ) where
   abbrev m : Image
-  m = record { coming = loaded l given level; file = f }
+  m = record { coming = loaded l auto level; file = f }
 
   abbrev images : ℕ → Image
   images = put (C .image) (C .number) m
@@ -173,7 +173,7 @@ module _ (C : Cast) (l : Lent) (given level : ℕ) (f : ℕ → ℕ) where
   unfolding calls.load Answered restOf
   loads laid low bytes data-low bss-low off nonzero c d once names {φ} {x} {y} {B} scene r book fresh recordRoom nameRoom =
       brings S Q m laid low bytes inside recordRoom nameRoom r true (linked r l true level) (rebase l)
-      (rebased l given level f laid low bytes data-low bss-low fresh) refuses after
+      (rebased l auto level f laid low bytes data-low bss-low fresh) refuses after
     where
       S : ℕ → Type 0
       S = Reach C m

@@ -9,7 +9,7 @@ use Rattle.register.specs.Module.{Module}
 use Rattle.register.specs.Change.{without}
 use Rattle.register_read.specs.Read.{lookupIn, exportOf}
 use Rattle.linker.specs.Calls.{Standing, unknown, stands, firstWithBase}
-use Rattle.history.specs.Sessions.{SameModule, SameModules}
+use Rattle.history.specs.Outcomes.{SameModule, SameModules}
 
 -- what holds of the branches of two tests holds of what they choose, if the tests agree
 pub choose

@@ -16,7 +16,7 @@ use Rattle.linker.specs.Imports.{applyImportNamedSymbols}
 use Rattle.linker.specs.Calls.{Answer, Done, number, value, enter, initialized, initialize, missingNow, linked, load, Standing, leave, unload}
 use Rattle.linker.specs.Outcome.{Bytes, Outcome, refused, registerAfter, settle, outcome, initializeOutcome, loadOutcome, unloadOutcome}
 use Rattle.linker.specs.Refusals.{lentRegister, windowed}
-use Rattle.history.specs.Sessions.{SameModules, SameEncoded}
+use Rattle.history.specs.Outcomes.{SameModules, SameEncoded}
 use Rattle.history_order.specs.Modules.{choose, same-with, same-without, BothFind, neither, both, find-same}
 use Rattle.history_order.specs.Steps.{named-imports-same, module-imports-same, exports-same, importers-same}
 use Rattle.history_order.specs.Room.{fits-same, missing-same}

@@ -20,7 +20,7 @@ use Rattle.linker.specs.Outcome.{Bytes}
 use Rattle.linker.specs.Refusals.{lentRegister}
 use Rattle.linker.specs.Valid.{Valid}
 use Rattle.linker.specs.Fit.{words-of, names-of}
-use Rattle.history.specs.Sessions.{SameEncoded}
+use Rattle.history.specs.Outcomes.{SameEncoded}
 
 -- how word 3 is read is a matter of the header alone
 settled-header : (ws : List ℕ) → take 8 (settled ws) ≡ settled (take 8 ws)

@@ -8,7 +8,7 @@ use Rattle.register.specs.Module.{Module}
 use Rattle.register_read.specs.Read.{exportOf}
 use Rattle.linker.specs.Imports.{anonymousOf, importNamed, applyImportNamedSymbols, linkFrom, importsOf, moduleByName, importModule, applyModuleImports, applyExportsToLoaded}
 use Rattle.linker.specs.Resets.{resetNamed, resetModule, resetImports, resetImporters}
-use Rattle.history.specs.Sessions.{SameModule, SameModules}
+use Rattle.history.specs.Outcomes.{SameModule, SameModules}
 use Rattle.history_order.specs.Modules.{choose, lookup-same}
 
 -- named imports: what each name is

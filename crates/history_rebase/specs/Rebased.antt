@@ -89,7 +89,7 @@ module _ (m : Image) (laid : WellLaid m) (low : Low (Area m)) where
       go false = does-ret S (inl refl)
 
 -- a module that is loaded
-module _ (l : Lent) (auto level : ℕ) (f : ℕ → ℕ) where
+module _ (l : Lent) (auto : Bool) (level : ℕ) (f : ℕ → ℕ) where
   abbrev m₁ : Image
   m₁ = record { coming = loaded l auto level; file = f }
 

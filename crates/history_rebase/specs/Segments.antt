@@ -1,6 +1,7 @@
 -- The segments of a load: one is refused, or each is put in its place; `initialize` only looks at them.
 use Prim.Native.Nat.{ℕ, suc, _+_, _-_, _^_, _≤_, _<_}
 use mathlib.Core.Path.{_≡_, refl, ap, _∙_}
+use mathlib.Core.Bool.{Bool}
 use mathlib.Core.Logic.{_⊎_, inl, inr}
 use mathlib.Core.List.{List}
 use native.Mathlib.Omega.{arith}
@@ -83,7 +84,7 @@ module _ (m : Image) (laid : WellLaid m) (low : Low (Area m)) where
       (does-ret S refl))) refl)
 
 -- a load that is not refused leaves every segment in its place, and gives the old place
-module _ (l : Lent) (auto level : ℕ) (f : ℕ → ℕ) where
+module _ (l : Lent) (auto : Bool) (level : ℕ) (f : ℕ → ℕ) where
   abbrev m₁ : Image
   m₁ = record { coming = loaded l auto level; file = f }
 

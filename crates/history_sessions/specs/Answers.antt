@@ -33,13 +33,15 @@ use Rattle.linker.specs.Outcome.{Bytes, registerAfter, settle, outcome, initial
 use Rattle.linker.specs.Refusals.{lentRegister}
 use Rattle.linker.specs.Gives.{Gives, gives-run, gives-then, gives-if}
 use Rattle.linker.specs.Valid.{Valid}
-use Rattle.history.specs.Sessions.{Call, initialize, load, unload, given, Turn, expected, done}
+use Rattle.linker.specs.declared.call.Call.{Call}
+use Rattle.linker.specs.declared.call.Call.the-variants.{Initialize, Load, Unload}
+use Rattle.history.specs.Sessions.{given, Turn, expected, done}
 
 -- the program of a call, on the lent register
 unfoldable pub program : Call → ℕ → ℕ → Register → Prog Answer
-program (initialize base size) records names r = calls.initialize base size records names r
-program (load l auto level) records names r = calls.load l (not (eqb auto 0)) level records names r
-program (unload base) records names r = calls.unload base r
+program (Initialize base size) records names r = calls.initialize base size records names r
+program (Load l auto level) records names r = calls.load l (not (eqb auto 0)) level records names r
+program (Unload base) records names r = calls.unload base r
 
 abbrev pub programOf : Call → Bytes → Prog Answer
 programOf c b = program c (length (b .records)) (length (b .names)) (lentRegister b)
@@ -54,9 +56,9 @@ pub record Performed (c : Call) (at : ℕ) (b : Bytes) : Type 0 where
 -- any call by its program
 given-outcome : (c : Call) (at : ℕ) (b : Bytes) → given c at b ≡ outcome (program c) at b
 unfolding given program outcome initializeOutcome loadOutcome unloadOutcome
-given-outcome (initialize base size) at b = refl
-given-outcome (load l auto level) at b = refl
-given-outcome (unload base) at b = refl
+given-outcome (Initialize base size) at b = refl
+given-outcome (Load l auto level) at b = refl
+given-outcome (Unload base) at b = refl
 
 -- 0 comes from a good window and register
 pub performed : (c : Call) (at : ℕ) (b : Bytes) → given c at b .number ≡ 0 → Performed c at b
@@ -77,9 +79,9 @@ performed c at b z =
     go true e false f n w = let n₁ : _≡_ {A = ℕ} 4 0 = rw (e, f) at n in absurd (omega arith)
     go false e v f n w = let n₁ : _≡_ {A = ℕ} 3 0 = rw e at n in absurd (omega arith)
 
-pub done-zero : (at : ℕ) (t : Turn) → done at t ≡ true → expected at t .number ≡ 0
+pub done-zero : (t : Turn) → done t ≡ true → expected t .number ≡ 0
 unfolding done
-done-zero at t e = eqb-true (expected at t .number) 0 e
+done-zero t e = eqb-true (expected t .number) 0 e
 
 -- the two answers of number 0
 pub data Finished (a : Answer) : Type 0 where
@@ -163,8 +165,8 @@ not-kept (Done v s) k e = (v, s, refl)
 
 -- `initialize` and `load`
 pub brings-initialize
-    : (base size at : ℕ) (b : Bytes) → Performed (initialize base size) at b
-    → (v : ℕ) × (s : Register) × Left (initialize base size) at b v s
+    : (base size at : ℕ) (b : Bytes) → Performed (Initialize base size) at b
+    → (v : ℕ) × (s : Register) × Left (Initialize base size) at b v s
 unfolding program
 brings-initialize base size at b p =
     let r = lentRegister b in
@@ -172,11 +174,11 @@ brings-initialize base size at b p =
     gives-run NotKept at (calls.initialize base size (length (b .records)) (length (b .names)) r) (b .window)
     (initialize-not base size (length (b .records)) (length (b .names)) r) in
     let g = not-kept _ k (p .zero) in
-    (g .0, g .1, left-done (initialize base size) at b p (g .0) (g .1) (g .2))
+    (g .0, g .1, left-done (Initialize base size) at b p (g .0) (g .1) (g .2))
 
 pub brings-load
-    : (l : Lent) (auto level at : ℕ) (b : Bytes) → Performed (load l auto level) at b
-    → (v : ℕ) × (s : Register) × Left (load l auto level) at b v s
+    : (l : Lent) (auto level at : ℕ) (b : Bytes) → Performed (Load l auto level) at b
+    → (v : ℕ) × (s : Register) × Left (Load l auto level) at b v s
 unfolding program
 brings-load l auto level at b p =
     let r = lentRegister b in
@@ -184,19 +186,19 @@ brings-load l auto level at b p =
     gives-run NotKept at (calls.load l (not (eqb auto 0)) level (length (b .records)) (length (b .names)) r) (b .window)
     (load-not l (not (eqb auto 0)) level (length (b .records)) (length (b .names)) r) in
     let g = not-kept _ k (p .zero) in
-    (g .0, g .1, left-done (load l auto level) at b p (g .0) (g .1) (g .2))
+    (g .0, g .1, left-done (Load l auto level) at b p (g .0) (g .1) (g .2))
 
 -- `unload`: an unknown base leaves all as it was, a known one goes from the register
-pub unload-unknown : (base at : ℕ) (b : Bytes) → Performed (unload base) at b → firstWithBase base (lentRegister b .modules) 0 ≡ unknown
-    → given (unload base) at b .left ≡ b
+pub unload-unknown : (base at : ℕ) (b : Bytes) → Performed (Unload base) at b → firstWithBase base (lentRegister b .modules) 0 ≡ unknown
+    → given (Unload base) at b .left ≡ b
 unfolding program calls.unload leave run settle registerAfter
 unload-unknown base at b p e =
-    let q : run at (programOf (unload base) b) (b .window) ≡ (Kept, b .window) = rw e refl in
+    let q : run at (programOf (Unload base) b) (b .window) ≡ (Kept, b .window) = rw e refl in
     ap (λ o. o .left) (p .settled ∙ ap (settle b) q)
 
 pub unload-known
-    : (base at : ℕ) (b : Bytes) → Performed (unload base) at b → (m : Module) (k : ℕ) → firstWithBase base (lentRegister b .modules) 0 ≡ stands m k
-    → Left (unload base) at b 1 (removed (lentRegister b) k)
+    : (base at : ℕ) (b : Bytes) → Performed (Unload base) at b → (m : Module) (k : ℕ) → firstWithBase base (lentRegister b .modules) 0 ≡ stands m k
+    → Left (Unload base) at b 1 (removed (lentRegister b) k)
 unfolding program calls.unload leave Gives
 unload-known base at b p m k e =
     let r = lentRegister b in
@@ -206,7 +208,7 @@ unload-known base at b p m k e =
     (gives-then (λ x. x ≡ Done 1 (removed r k)) _ (resetImporters m (without (r .modules) k))
     (λ _. gives-then (λ x. x ≡ Done 1 (removed r k)) _ (unlisted (r .crs) base)
     (λ _. gives-then (λ x. x ≡ Done 1 (removed r k)) _ (unrebase base) (λ _. refl))))) in
-    left-done (unload base) at b p 1 (removed r k) a
+    left-done (Unload base) at b p 1 (removed r k) a
 
 -- the bytes of a proper register that fits are read back
 pub encoded-back

@@ -133,11 +133,11 @@ module _ (S T : List Arrival) (same : SameStanding S T) (rest other : ℕ → Me
 
 -- as demand 3 says it
 pub no-byte-differs
-    : (at bt : ℕ) (ts us : List Turn) (rest other : ℕ → Memory) → ((k : ℕ) → k < length (standing at ts) → WellLaid (imageAt (standing at ts) k))
-    → ((k : ℕ) → k < length (standing at ts) → Agree (Area (imageAt (standing at ts) k)) (rest k) (other k))
-    → Resting (length (standing at ts)) (imageAt (standing at ts)) rest (ends at ts)
-    → Resting (length (standing bt us)) (imageAt (standing bt us)) other (ends bt us)
-    → SameStanding (standing at ts) (standing bt us) → NoByteDiffers at ts bt us
+    : (ts us : List Turn) (rest other : ℕ → Memory) → ((k : ℕ) → k < length (standing ts) → WellLaid (imageAt (standing ts) k))
+    → ((k : ℕ) → k < length (standing ts) → Agree (Area (imageAt (standing ts) k)) (rest k) (other k))
+    → Resting (length (standing ts)) (imageAt (standing ts)) rest (ends ts)
+    → Resting (length (standing us)) (imageAt (standing us)) other (ends us)
+    → SameStanding (standing ts) (standing us) → NoByteDiffers ts us
 unfolding NoByteDiffers
-no-byte-differs at bt ts us rest other laid alike h i same =
-    no-byte (standing at ts) (standing bt us) same rest other (ends at ts) (ends bt us) laid alike h i
+no-byte-differs ts us rest other laid alike h i same =
+    no-byte (standing ts) (standing us) same rest other (ends ts) (ends us) laid alike h i

@@ -11,7 +11,9 @@ use lib.Dec.{eqb}
 use borrow.Author.Tests.{eq-eqb, ne-eqb}
 use Rattle.window.specs.Memory.{if_then_else_}
 use Rattle.history.specs.Arrival.{Arrival, baseOf, isCrs}
-use Rattle.history.specs.Sessions.{Call, initialize, load, unload, Turn, done, brought, arrived, others, stay, standing}
+use Rattle.linker.specs.declared.call.Call.{Call}
+use Rattle.linker.specs.declared.call.Call.the-variants.{Initialize, Load, Unload}
+use Rattle.history.specs.Sessions.{Turn, done, brought, arrived, others, stay, standing}
 use Rattle.history.specs.Demand3.{Each, Pairs}
 use Rattle.history_steps.specs.Leaving.{skip, skip-low, skip-high, skip-suc}
 
@@ -141,32 +143,32 @@ among-trans xs ys zs (keeps b ss ts h) (keeps a us vs g) = keeps a ss vs (among-
 among-trans xs ys zs (drops b ss ts h) (keeps a us vs g) = drops a xs vs (among-trans xs us vs h g)
 
 -- what stands is among what came
-pub others-among : (at base : ℕ) (S : List Arrival) → Among (others at base S) S
+pub others-among : (base : ℕ) (S : List Arrival) → Among (others base S) S
 unfolding others
-others-among at base [] = nothing
-others-among at base (a ∷ S) = go (isCrs (a .coming) || not (eqb (baseOf (a .coming)) base)) (others-among at base S)
+others-among base [] = nothing
+others-among base (a ∷ S) = go (isCrs (a .coming) || not (eqb (baseOf (a .coming)) base)) (others-among base S)
   where
-    go : (b : Bool) → Among (others at base S) S → Among (if b then a ∷ others at base S else others at base S) (a ∷ S)
-    go true h = keeps a (others at base S) S h
-    go false h = drops a (others at base S) S h
+    go : (b : Bool) → Among (others base S) S → Among (if b then a ∷ others base S else others base S) (a ∷ S)
+    go true h = keeps a (others base S) S h
+    go false h = drops a (others base S) S h
 
-stay-among : (at : ℕ) (c : Call) (S : List Arrival) → Among (stay at c S) S
+stay-among : (c : Call) (S : List Arrival) → Among (stay c S) S
 unfolding stay
-stay-among at (initialize base size) S = among-same S
-stay-among at (load l auto level) S = among-same S
-stay-among at (unload base) S = others-among at base S
+stay-among (Initialize base size) S = among-same S
+stay-among (Load l auto level) S = among-same S
+stay-among (Unload base) S = others-among base S
 
-pub standing-among : (at : ℕ) (ts : List Turn) → Among (standing at ts) (arrived at ts)
+pub standing-among : (ts : List Turn) → Among (standing ts) (arrived ts)
 unfolding standing arrived
-standing-among at [] = nothing
-standing-among at (t ∷ ts) =
-    among-append (if done at t then stay at (t .call) (standing at ts) else standing at ts) (arrived at ts) (brought at t)
-    (go (done at t) (standing-among at ts))
+standing-among [] = nothing
+standing-among (t ∷ ts) =
+    among-append (if done t then stay (t .call) (standing ts) else standing ts) (arrived ts) (brought t)
+    (go (done t) (standing-among ts))
   where
     go
-        : (b : Bool) → Among (standing at ts) (arrived at ts)
-        → Among (if b then stay at (t .call) (standing at ts) else standing at ts) (arrived at ts)
-    go true h = among-trans (stay at (t .call) (standing at ts)) (standing at ts) (arrived at ts) (stay-among at (t .call) (standing at ts)) h
+        : (b : Bool) → Among (standing ts) (arrived ts)
+        → Among (if b then stay (t .call) (standing ts) else standing ts) (arrived ts)
+    go true h = among-trans (stay (t .call) (standing ts)) (standing ts) (arrived ts) (stay-among (t .call) (standing ts)) h
     go false h = h
 
 -- a list without its element number d
@@ -193,30 +195,30 @@ abbrev pub OtherBase : Arrival → Arrival → Type 0
 OtherBase a b = baseOf (a .coming) ≢ baseOf (b .coming)
 
 -- a base's module leaves, number d, or none has it; the CRS has another one
-pub data Leaver (at base : ℕ) (S : List Arrival) : Type 0 where
+pub data Leaver (base : ℕ) (S : List Arrival) : Type 0 where
   leaves
       : (d : ℕ) → d < length S → ((e : Arrival) → baseOf (getD S d e .coming) ≡ base) → ((e : Arrival) → isCrs (getD S d e .coming) ≡ false)
-      → others at base S ≡ lacking S d → Leaver at base S
-  stays : Each (λ a. baseOf (a .coming) ≢ base) S → others at base S ≡ S → Leaver at base S
+      → others base S ≡ lacking S d → Leaver base S
+  stays : Each (λ a. baseOf (a .coming) ≢ base) S → others base S ≡ S → Leaver base S
 
-module _ (at base : ℕ) where
+module _ (base : ℕ) where
   -- none has the base
-  whole : (S : List Arrival) → Each (λ a. baseOf (a .coming) ≢ base) S → others at base S ≡ S
+  whole : (S : List Arrival) → Each (λ a. baseOf (a .coming) ≢ base) S → others base S ≡ S
   unfolding others Each
   whole [] h = refl
   whole (a ∷ S) h = rw (ne-eqb (baseOf (a .coming)) base (h .0)) (go (isCrs (a .coming)) (whole S (h .1)))
     where
-      go : (b : Bool) → others at base S ≡ S → (if b || true then a ∷ others at base S else others at base S) ≡ a ∷ S
+      go : (b : Bool) → others base S ≡ S → (if b || true then a ∷ others base S else others base S) ≡ a ∷ S
       go true q = ap (λ T. a ∷ T) q
       go false q = ap (λ T. a ∷ T) q
 
   pub leaver
-      : (S : List Arrival) → Pairs OtherBase S → Each (λ a. isCrs (a .coming) ≡ true → baseOf (a .coming) ≢ base) S → Leaver at base S
+      : (S : List Arrival) → Pairs OtherBase S → Each (λ a. isCrs (a .coming) ≡ true → baseOf (a .coming) ≢ base) S → Leaver base S
   unfolding others Each Pairs lacking
   leaver [] h c = stays tt refl
   leaver (a ∷ S) h c = go (ℕ-discrete (baseOf (a .coming)) base) (isCrs (a .coming)) refl (leaver S (h .1) (c .1))
     where
-      go : Dec (baseOf (a .coming) ≡ base) → (b : Bool) → isCrs (a .coming) ≡ b → Leaver at base S → Leaver at base (a ∷ S)
+      go : Dec (baseOf (a .coming) ≡ base) → (b : Bool) → isCrs (a .coming) ≡ b → Leaver base S → Leaver base (a ∷ S)
       go (yes e) true i r = absurd (c .0 i e)
       go (yes e) false i r =
           leaves 0 (omega arith) (λ _. e) (λ _. i)
@@ -227,7 +229,7 @@ module _ (at base : ℕ) where
           leaves (suc d) (omega arith) e f (rw (ne-eqb (baseOf (a .coming)) base o) (kept (isCrs (a .coming)) q))
         where
           kept
-              : (b : Bool) → others at base S ≡ lacking S d
-              → (if b || true then a ∷ others at base S else others at base S) ≡ a ∷ lacking S d
+              : (b : Bool) → others base S ≡ lacking S d
+              → (if b || true then a ∷ others base S else others base S) ≡ a ∷ lacking S d
           kept true q = ap (λ T. a ∷ T) q
           kept false q = ap (λ T. a ∷ T) q

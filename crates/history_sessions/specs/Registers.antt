@@ -23,21 +23,21 @@ pub record Registered (S : List Arrival) (r : Register) : Type 0 where
   pub number : length (r .modules) ≡ length S
 
 -- what an unload of a base finds
-pub data Found (at base : ℕ) (S : List Arrival) (ms : List Module) : Type 0 where
+pub data Found (base : ℕ) (S : List Arrival) (ms : List Module) : Type 0 where
   goes
       : (d : ℕ) (r : Module) → d < length S → baseOf (imageAt S d .coming) ≡ base → isCrs (imageAt S d .coming) ≡ false
-      → others at base S ≡ lacking S d → firstWithBase base ms 0 ≡ stands r d → Recorded (imageAt S d) r → Found at base S ms
-  none : others at base S ≡ S → firstWithBase base ms 0 ≡ unknown → Found at base S ms
+      → others base S ≡ lacking S d → firstWithBase base ms 0 ≡ stands r d → Recorded (imageAt S d) r → Found base S ms
+  none : others base S ≡ S → firstWithBase base ms 0 ≡ unknown → Found base S ms
 
 pub found
-    : (at base : ℕ) (S : List Arrival) (r : Register) → Pairs OtherBase S → Registered S r → Leaver at base S → Found at base S (r .modules)
-found at base S r o h (leaves d l e c q) =
+    : (base : ℕ) (S : List Arrival) (r : Register) → Pairs OtherBase S → Registered S r → Leaver base S → Found base S (r .modules)
+found base S r o h (leaves d l e c q) =
     let g =
     finds (imageAt S) (r .modules) d 0 base (omega (arith, h .number)) (e noArrival)
     (λ j z y. pairs-at OtherBase S noArrival (λ a b f u. f (sym u)) o j d (omega arith) l (λ u. absurd (omega arith)) (y ∙ sym (e noArrival)))
     (h .recorded) in
     goes d (g .0) l (e noArrival) (c noArrival) q (g .2 ∙ ap (stands (g .0)) (let z : 0 + d ≡ d = omega arith in z)) (g .1)
-found at base S r o h (stays n q) =
+found base S r o h (stays n q) =
     none q
     (finds-none (imageAt S) (r .modules) 0 base
     (λ j l. each-at (λ a. baseOf (a .coming) ≢ base) S noArrival n j (omega (arith, h .number))) (h .recorded))

@@ -11,7 +11,7 @@ use Rattle.history.specs.Image.{moduleEntries, count, entry, nameOf, moduleName
 use Rattle.history.specs.Arrival.{initialized, Image, Arrival, imageOf, baseOf, Area}
 use Rattle.history.specs.Imports.{Import, named, indexed, anonymous, importTable, IsImport, importEntry, runStart, runCount, InRun, From, Exports}
 use Rattle.history.specs.WellLaid.{WellLaid}
-use Rattle.history.specs.Sessions.{Turn, arrived}
+use Rattle.history.specs.Sessions.{Turn, own, arrived}
 use Rattle.history.specs.Demand3.{Each, Pairs, AutoLinked, ImportsKept, BaseNot0, Apart, OtherName, OtherExports, InWindow, Premises}
 use Rattle.history_steps.specs.Once.{once}
 use Rattle.history_steps.specs.Parts.{image-area}
@@ -29,12 +29,12 @@ noArrival = record { coming = initialized 0 0; bytes = λ q. 0 }
 abbrev pub imageAt : List Arrival → ℕ → Image
 imageAt S k = imageOf (getD S k noArrival)
 
-module _ (at : ℕ) (ts : List Turn) (h : Premises at ts) (S : List Arrival) (among : Among S (arrived at ts)) where
-  each-of : (P : Image → Type 0) → Each P (map imageOf (arrived at ts)) → Each (λ a. P (imageOf a)) S
-  each-of P g = among-each (λ a. P (imageOf a)) S (arrived at ts) among (each-map imageOf P (arrived at ts) g)
+module _ (ts : List Turn) (h : Premises ts) (S : List Arrival) (among : Among S (arrived ts)) where
+  each-of : (P : Image → Type 0) → Each P (map imageOf (arrived ts)) → Each (λ a. P (imageOf a)) S
+  each-of P g = among-each (λ a. P (imageOf a)) S (arrived ts) among (each-map imageOf P (arrived ts) g)
 
-  pairs-of : (R : Image → Image → Type 0) → Pairs R (map imageOf (arrived at ts)) → Pairs (λ a b. R (imageOf a) (imageOf b)) S
-  pairs-of R g = among-pairs (λ a b. R (imageOf a) (imageOf b)) S (arrived at ts) among (pairs-map imageOf R (arrived at ts) g)
+  pairs-of : (R : Image → Image → Type 0) → Pairs R (map imageOf (arrived ts)) → Pairs (λ a b. R (imageOf a) (imageOf b)) S
+  pairs-of R g = among-pairs (λ a b. R (imageOf a) (imageOf b)) S (arrived ts) among (pairs-map imageOf R (arrived ts) g)
 
   pub laid-at : (k : ℕ) → k < length S → WellLaid (imageAt S k)
   laid-at k l = each-at (λ a. WellLaid (imageOf a)) S noArrival (each-of WellLaid (h .well-laid)) k l
@@ -48,8 +48,8 @@ module _ (at : ℕ) (ts : List Turn) (h : Premises at ts) (S : List Arrival) (am
   pub base-at : (k : ℕ) → k < length S → BaseNot0 (imageAt S k .coming)
   base-at k l = each-at (λ a. BaseNot0 (a .coming)) S noArrival (each-of (λ m. BaseNot0 (m .coming)) (h .base-not-0)) k l
 
-  pub inside-at : (k : ℕ) → k < length S → InWindow at ts (imageAt S k)
-  inside-at k l = each-at (λ a. InWindow at ts (imageOf a)) S noArrival (each-of (InWindow at ts) (h .in-window)) k l
+  pub inside-at : (k : ℕ) → k < length S → InWindow (own ts) (imageAt S k)
+  inside-at k l = each-at (λ a. InWindow (own ts) (imageOf a)) S noArrival (each-of (InWindow (own ts)) (h .in-window)) k l
 
   pub apart-at : (j k q : ℕ) → j < length S → k < length S → j ≢ k → Area (imageAt S j) q → Area (imageAt S k) q → ⊥
   unfolding Apart

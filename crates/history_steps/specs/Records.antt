@@ -12,7 +12,7 @@ use Rattle.linker.specs.Imports as imports
 use Rattle.history.specs.Image.{nameOf, moduleName}
 use Rattle.history.specs.Arrival.{Image, baseOf, exportOf, indexedOf, anonymousOf}
 use Rattle.history.specs.Imports.{Import, named, indexed, anonymous, wanted, From}
-use Rattle.history.specs.Sessions.{SameModule}
+use Rattle.history.specs.Outcomes.{SameModule}
 
 -- an address is a symbol's
 unfoldable pub asSymbol : Address → Symbol

@@ -4,7 +4,7 @@ use mathlib.Core.Path.{_≡_, refl, sym, ap, _∙_, fun-ext, subst}
 use mathlib.Core.Logic.{_≢_}
 use mathlib.Core.List.{List, [], _∷_, _++_}
 use mathlib.Core.Option.{none}
-use mathlib.Core.Bool.{true}
+use mathlib.Core.Bool.{Bool, true}
 use native.Mathlib.Omega.{arith}
 use native.Mathlib.Decide.{ℕ-discrete}
 use lib.ListN.{length, getD, List·getD-append}
@@ -131,7 +131,7 @@ module _ (at : ℕ) (w : List ℕ) (S : List Arrival) (r : Register) (h : Restin
       there k q u = subst (λ a. Area (imageOf a) q) (lacking-at S d noArrival k) u
 
   -- `load`
-  module _ (l : Lent) (auto level : ℕ) where
+  module _ (l : Lent) (auto : Bool) (level : ℕ) where
     abbrev new : Arrival
     new = record { coming = loaded l auto level; bytes = byteAt at w }
 

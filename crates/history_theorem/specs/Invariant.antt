@@ -9,7 +9,7 @@ use Rattle.window.specs.Within.{Agree}
 use Rattle.register.specs.Module.{Register}
 use Rattle.linker.specs.Calls.{rebaseStatic}
 use Rattle.history.specs.Arrival.{Coming, initialized, loaded, Image, Arrival, imageOf, Area}
-use Rattle.history.specs.Sessions.{SameRegister}
+use Rattle.history.specs.Outcomes.{SameRegister}
 use Rattle.history_steps.specs.Wp.{Memory}
 use Rattle.history_steps.specs.World.{Cast, put, put-same, put-other}
 use Rattle.history_calls.specs.Gone.{fewer}

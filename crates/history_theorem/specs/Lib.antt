@@ -6,4 +6,5 @@ pub mod Turns
 pub mod Fine
 pub mod Step
 pub mod Theorem
+pub mod Own
 pub mod Demand3

@@ -3,9 +3,10 @@ use Prim.Native.Nat.{ℕ, zero, suc, _+_, _<_}
 use mathlib.Core.Path.{_≡_, refl, sym, ap, _∙_, subst}
 use mathlib.Core.Logic.{_≢_}
 use mathlib.Core.List.{List, [], _∷_, _++_}
-use mathlib.Core.Bool.{Bool, true, false}
+use mathlib.Core.Bool.{Bool, true, false, not}
 use native.Mathlib.Omega.{arith}
 use lib.ListN.{length, getD, List·getD-append}
+use lib.Dec.{eqb}
 use Rattle.window.specs.Memory.{byteAt}
 use Rattle.window.specs.Edges.{good-end}
 use Rattle.linker.specs.declared.rebase.Lent.{Lent}
@@ -13,7 +14,10 @@ use Rattle.linker.specs.Calls.{unknown, firstWithBase}
 use Rattle.linker.specs.Outcome.{Bytes}
 use Rattle.linker.specs.Refusals.{lentRegister}
 use Rattle.history.specs.Arrival.{initialized, loaded, Arrival, baseOf, isCrs}
-use Rattle.history.specs.Sessions.{Call, initialize, load, unload, given, Turn, after, expected, Follows, Fresh, Words, Typed, SameBytes, done, comes, brought, arrived, others, stay, standing, Between}
+use Rattle.linker.specs.declared.call.Call.{Call}
+use Rattle.linker.specs.declared.call.Call.the-variants.{Initialize, Load, Unload}
+use Rattle.history.specs.Sessions.{given, Turn, after, expected, Fresh, Words, Typed, SameBytes, done, own, comes, brought, arrived, others, stay, standing, Between}
+use Rattle.history.specs.Outcomes.{Gave, Follows}
 use Rattle.history.specs.Demand3.{Each, Pairs, InOrder, AutoLinked, ImportsKept, Harmless, CrsFirst, Premises}
 use Rattle.history_steps.specs.Leaving.{skip-low}
 use Rattle.history_sessions.specs.Lists.{lacking, lacking-at, OtherBase, Among, nothing, keeps, drops, among-each, standing-among, leaver}
@@ -26,8 +30,8 @@ use Rattle.history_theorem.specs.Fine.{fine}
 
 -- nothing came and the register is as at the start, or the CRS came and all that stand are at rest
 pub data Holding (at : ℕ) (ts : List Turn) (b : Bytes) : Type 0 where
-  none-came : arrived at ts ≡ [] → Fresh b → Holding at ts b
-  some-came : arrived at ts ≢ [] → isCrs (imageAt (standing at ts) 0 .coming) ≡ true → RestingIn at (standing at ts) b → Holding at ts b
+  none-came : arrived ts ≡ [] → Fresh b → Holding at ts b
+  some-came : arrived ts ≢ [] → isCrs (imageAt (standing ts) 0 .coming) ≡ true → RestingIn at (standing ts) b → Holding at ts b
 
 nil-right : (xs : List Arrival) → xs ++ [] ≡ xs
 nil-right [] = refl
@@ -40,30 +44,33 @@ among-none S A (drops a us vs h) e = let z : suc (length vs) ≡ 0 = ap length e
 
 fresh-same : (b c : Bytes) → SameBytes b c → Fresh b → Fresh c
 unfolding Fresh
-fresh-same b c e f v = rw (← e .0, ← e .1, ← e .2) (f (rw (e .0, e .1, e .2) v))
+fresh-same b c e f = rw (← e .0, ← e .1, ← e .2) f
 
 pub between-holds : (at : ℕ) (ts : List Turn) (left got : Bytes) → Between at ts left got → Holding at ts left → Holding at ts got
 between-holds at ts left got e (none-came a f) = none-came a (fresh-same left got (e .register) f)
-between-holds at ts left got e (some-came o c h) = some-came o c (between-rests at ts left got (standing at ts) (standing-among at ts) e h)
+between-holds at ts left got e (some-came o c h) = some-came o c (between-rests at ts left got (standing ts) (standing-among ts) e h)
 
-module _ (at : ℕ) (t : Turn) (ts : List Turn) where
+module _ (t : Turn) (ts : List Turn) where
+  abbrev at : ℕ
+  at = t .at
+
   abbrev b : Bytes
   b = t .before
 
-  lists-refused : done at t ≡ false → (arrived at (t ∷ ts) ≡ arrived at ts) × (standing at (t ∷ ts) ≡ standing at ts)
+  pub lists-refused : done t ≡ false → (arrived (t ∷ ts) ≡ arrived ts) × (standing (t ∷ ts) ≡ standing ts)
   unfolding arrived standing brought
-  lists-refused d = (rw d (nil-right (arrived at ts)), rw d (nil-right (standing at ts)))
+  lists-refused d = (rw d (nil-right (arrived ts)), rw d (nil-right (standing ts)))
 
   lists-done
-      : done at t ≡ true → (c : Call) → t .call ≡ c
-      → (arrived at (t ∷ ts) ≡ arrived at ts ++ comes at c (byteAt at (b .window)))
-      × (standing at (t ∷ ts) ≡ stay at c (standing at ts) ++ comes at c (byteAt at (b .window)))
+      : done t ≡ true → (c : Call) → t .call ≡ c
+      → (arrived (t ∷ ts) ≡ arrived ts ++ comes c (byteAt at (b .window)))
+      × (standing (t ∷ ts) ≡ stay c (standing ts) ++ comes c (byteAt at (b .window)))
   unfolding arrived standing brought
   lists-done d c e = (rw (d, e) refl, rw (d, e) refl)
 
   -- a call that leaves all as it was
   quiet
-      : Follows at t → arrived at (t ∷ ts) ≡ arrived at ts → standing at (t ∷ ts) ≡ standing at ts → expected at t .left ≡ b → Holding at ts b
+      : Gave Follows t → arrived (t ∷ ts) ≡ arrived ts → standing (t ∷ ts) ≡ standing ts → expected t .left ≡ b → Holding at ts b
       → Holding at (t ∷ ts) (after t)
   quiet f a s e (none-came n g) =
       none-came (a ∙ n)
@@ -71,131 +78,131 @@ module _ (at : ℕ) (t : Turn) (ts : List Turn) where
   quiet f a s e (some-came o c h) =
       some-came (λ z. o (sym a ∙ z)) (subst (λ S. isCrs (imageAt S 0 .coming) ≡ true) (sym s) c)
       (subst (λ S. RestingIn at S (after t)) (sym s)
-      (follows-rests at t (standing at ts) f (subst (RestingIn at (standing at ts)) (sym e) h)))
+      (follows-rests t (standing ts) f (subst (RestingIn at (standing ts)) (sym e) h)))
 
-  module _ (f : Follows at t) (typed : Typed t) (h : Premises at (t ∷ ts)) (d : done at t ≡ true) where
+  module _ (f : Gave Follows t) (typed : Typed t) (mine : own (t ∷ ts) ≡ t ∷ ts) (h : Premises (t ∷ ts)) (d : done t ≡ true) where
     did : (c : Call) → t .call ≡ c → Performed c at b
-    did c e = performed c at b (subst (λ x. given x at b .number ≡ 0) e (done-zero at t d))
+    did c e = performed c at b (subst (λ x. given x at b .number ≡ 0) e (done-zero t d))
 
-    among : (S : List Arrival) → standing at (t ∷ ts) ≡ S → Among S (arrived at (t ∷ ts))
-    among S e = subst (λ x. Among x (arrived at (t ∷ ts))) e (standing-among at (t ∷ ts))
+    among : (S : List Arrival) → standing (t ∷ ts) ≡ S → Among S (arrived (t ∷ ts))
+    among S e = subst (λ x. Among x (arrived (t ∷ ts))) e (standing-among (t ∷ ts))
 
     follow
-        : (c : Call) → t .call ≡ c → (S : List Arrival) → standing at (t ∷ ts) ≡ S → RestingIn at S (given c at b .left)
-        → RestingIn at (standing at (t ∷ ts)) (after t)
+        : (c : Call) → t .call ≡ c → (S : List Arrival) → standing (t ∷ ts) ≡ S → RestingIn at S (given c at b .left)
+        → RestingIn at (standing (t ∷ ts)) (after t)
     follow c e S s g =
-        subst (λ x. RestingIn at x (after t)) (sym s) (follows-rests at t S f (subst (λ x. RestingIn at S (given x at b .left)) (sym e) g))
+        subst (λ x. RestingIn at x (after t)) (sym s) (follows-rests t S f (subst (λ x. RestingIn at S (given x at b .left)) (sym e) g))
 
-    order : (c : Call) → t .call ≡ c → InOrder c (arrived at ts)
+    order : (c : Call) → t .call ≡ c → InOrder c (arrived ts)
     unfolding CrsFirst
-    order c e = subst (λ x. InOrder x (arrived at ts)) e (h .crs-first .0 d)
+    order c e = subst (λ x. InOrder x (arrived ts)) e (h .crs-first .0 d)
 
     words : (c : Call) → t .call ≡ c → Words c
     words c e = subst Words e (typed .0)
 
-    came-some : (A : List Arrival) (a : Arrival) → arrived at (t ∷ ts) ≡ A ++ (a ∷ []) → arrived at (t ∷ ts) ≢ []
+    came-some : (A : List Arrival) (a : Arrival) → arrived (t ∷ ts) ≡ A ++ (a ∷ []) → arrived (t ∷ ts) ≢ []
     came-some A a e z = let n = more-length A a in let y : length (A ++ (a ∷ [])) ≡ 0 = ap length (sym e ∙ z) in absurd (omega (arith, n, y))
 
-    initialize-step : (base size : ℕ) → t .call ≡ initialize base size → Holding at ts b → Holding at (t ∷ ts) (after t)
+    initialize-step : (base size : ℕ) → t .call ≡ Initialize base size → Holding at ts b → Holding at (t ∷ ts) (after t)
     unfolding InOrder Words comes stay Fresh
-    initialize-step base size e (some-came o c g) = absurd (o (order (initialize base size) e))
+    initialize-step base size e (some-came o c g) = absurd (o (order (Initialize base size) e))
     initialize-step base size e (none-came n g) =
-        let x = lists-done d (initialize base size) e in
+        let x = lists-done d (Initialize base size) e in
         let a : Arrival = record { coming = initialized base size; bytes = byteAt at (b .window) } in
-        let p = did (initialize base size) e in
-        let s : standing at (t ∷ ts) ≡ a ∷ [] =
-        x .1 ∙ ap (λ S. S ++ (a ∷ [])) (among-none (standing at ts) (arrived at ts) (standing-among at ts) n) in
-        let w = words (initialize base size) e in
-        some-came (came-some (arrived at ts) a (x .0)) (subst (λ S. isCrs (imageAt S 0 .coming) ≡ true) (sym s) refl)
-        (follow (initialize base size) e (a ∷ []) s
-        (initialize-turn at b (typed .1) base size (w .0) (w .1) p (g (p .valid) .0)
-        (fine at t ts h (a ∷ []) (among (a ∷ []) s) (good-end at (b .window) (p .good)))))
+        let p = did (Initialize base size) e in
+        let s : standing (t ∷ ts) ≡ a ∷ [] =
+        x .1 ∙ ap (λ S. S ++ (a ∷ [])) (among-none (standing ts) (arrived ts) (standing-among ts) n) in
+        let w = words (Initialize base size) e in
+        some-came (came-some (arrived ts) a (x .0)) (subst (λ S. isCrs (imageAt S 0 .coming) ≡ true) (sym s) refl)
+        (follow (Initialize base size) e (a ∷ []) s
+        (initialize-turn at b (typed .1) base size (w .0) (w .1) p (g .0)
+        (fine t ts mine h (a ∷ []) (among (a ∷ []) s) (good-end at (b .window) (p .good)))))
 
-    load-step : (l : Lent) (auto level : ℕ) → t .call ≡ load l auto level → Holding at ts b → Holding at (t ∷ ts) (after t)
+    load-step : (l : Lent) (auto level : ℕ) → t .call ≡ Load l auto level → Holding at ts b → Holding at (t ∷ ts) (after t)
     unfolding InOrder Words comes stay AutoLinked ImportsKept
-    load-step l auto level e (none-came n g) = absurd (order (load l auto level) e n)
+    load-step l auto level e (none-came n g) = absurd (order (Load l auto level) e n)
     load-step l auto level e (some-came o c g) =
-        let x = lists-done d (load l auto level) e in
-        let a : Arrival = record { coming = loaded l auto level; bytes = byteAt at (b .window) } in
-        let p = did (load l auto level) e in
-        let S = standing at ts in
-        let m : Among (S ++ (a ∷ [])) (arrived at (t ∷ ts)) = among (S ++ (a ∷ [])) (x .1) in
+        let x = lists-done d (Load l auto level) e in
+        let a : Arrival = record { coming = loaded l (not (eqb auto 0)) level; bytes = byteAt at (b .window) } in
+        let p = did (Load l auto level) e in
+        let S = standing ts in
+        let m : Among (S ++ (a ∷ [])) (arrived (t ∷ ts)) = among (S ++ (a ∷ [])) (x .1) in
         let top : length S < length (S ++ (a ∷ [])) = let n = more-length S a in omega (arith, n) in
-        let auto-linked : AutoLinked (loaded l auto level) =
-        subst (λ y. AutoLinked (y .coming)) (last-at S a noArrival) (auto-at at (t ∷ ts) h (S ++ (a ∷ [])) m (length S) top) in
-        let kept : ImportsKept (loaded l auto level) =
-        subst (λ y. ImportsKept (y .coming)) (last-at S a noArrival) (kept-at at (t ∷ ts) h (S ++ (a ∷ [])) m (length S) top) in
-        let w = words (load l auto level) e in
-        some-came (came-some (arrived at ts) a (x .0))
+        let auto-linked : AutoLinked (loaded l (not (eqb auto 0)) level) =
+        subst (λ y. AutoLinked (y .coming)) (last-at S a noArrival) (auto-at (t ∷ ts) h (S ++ (a ∷ [])) m (length S) top) in
+        let kept : ImportsKept (loaded l (not (eqb auto 0)) level) =
+        subst (λ y. ImportsKept (y .coming)) (last-at S a noArrival) (kept-at (t ∷ ts) h (S ++ (a ∷ [])) m (length S) top) in
+        let w = words (Load l auto level) e in
+        some-came (came-some (arrived ts) a (x .0))
         (subst (λ T. isCrs (imageAt T 0 .coming) ≡ true) (sym (x .1))
         (subst (λ y. isCrs (y .coming) ≡ true) (sym (List·getD-append S (a ∷ []) noArrival 0 (g .rest .scene .some))) c))
-        (follow (load l auto level) e (S ++ (a ∷ [])) (x .1)
+        (follow (Load l auto level) e (S ++ (a ∷ [])) (x .1)
         (load-turn at b (typed .1) S l auto level (w .0) (w .1) (w .2) (w .4) auto-linked (kept .0) (kept .1) p g
-        (fine at t ts h (S ++ (a ∷ [])) m (good-end at (b .window) (p .good)))))
+        (fine t ts mine h (S ++ (a ∷ [])) m (good-end at (b .window) (p .good)))))
 
-    unload-step : (base : ℕ) → t .call ≡ unload base → Holding at ts b → Holding at (t ∷ ts) (after t)
+    unload-step : (base : ℕ) → t .call ≡ Unload base → Holding at ts b → Holding at (t ∷ ts) (after t)
     unfolding InOrder comes stay Fresh others firstWithBase
     unload-step base e (none-came n g) =
-        let x = lists-done d (unload base) e in
-        let p = did (unload base) e in
-        let s : standing at ts ≡ [] = among-none (standing at ts) (arrived at ts) (standing-among at ts) n in
-        let z : firstWithBase base (lentRegister b .modules) 0 ≡ unknown = rw (g (p .valid) .0) refl in
-        quiet f (x .0 ∙ nil-right (arrived at ts)) (x .1 ∙ ap (λ S. others at base S ++ []) s ∙ sym s)
+        let x = lists-done d (Unload base) e in
+        let p = did (Unload base) e in
+        let s : standing ts ≡ [] = among-none (standing ts) (arrived ts) (standing-among ts) n in
+        let z : firstWithBase base (lentRegister b .modules) 0 ≡ unknown = rw (g .0) refl in
+        quiet f (x .0 ∙ nil-right (arrived ts)) (x .1 ∙ ap (λ S. others base S ++ []) s ∙ sym s)
         (ap (λ c. given c at b .left) e ∙ unload-unknown base at b p z) (none-came n g)
-    unload-step base e (some-came o c g) = go (found at base S (lentRegister b) bases registered (leaver at base S bases crs))
+    unload-step base e (some-came o c g) = go (found base S (lentRegister b) bases registered (leaver base S bases crs))
       where
         S : List Arrival
-        S = standing at ts
+        S = standing ts
 
-        x : (arrived at (t ∷ ts) ≡ arrived at ts ++ []) × (standing at (t ∷ ts) ≡ others at base S ++ [])
-        x = lists-done d (unload base) e
+        x : (arrived (t ∷ ts) ≡ arrived ts ++ []) × (standing (t ∷ ts) ≡ others base S ++ [])
+        x = lists-done d (Unload base) e
 
-        m : Among S (arrived at (t ∷ ts))
-        m = subst (Among S) (sym (x .0 ∙ nil-right (arrived at ts))) (standing-among at ts)
+        m : Among S (arrived (t ∷ ts))
+        m = subst (Among S) (sym (x .0 ∙ nil-right (arrived ts))) (standing-among ts)
 
-        p : Performed (unload base) at b
-        p = did (unload base) e
+        p : Performed (Unload base) at b
+        p = did (Unload base) e
 
         bases : Pairs OtherBase S
-        bases = other-bases at (t ∷ ts) h S m
+        bases = other-bases (t ∷ ts) h S m
 
         registered : Registered S (lentRegister b)
         registered = record { recorded = g .rest .book .recorded; number = g .rest .book .many }
 
         crs : Each (λ a. isCrs (a .coming) ≡ true → baseOf (a .coming) ≢ base) S
         crs =
-            among-each (λ a. isCrs (a .coming) ≡ true → baseOf (a .coming) ≢ base) S (arrived at ts) (standing-among at ts)
-            (order (unload base) e)
+            among-each (λ a. isCrs (a .coming) ≡ true → baseOf (a .coming) ≢ base) S (arrived ts) (standing-among ts)
+            (order (Unload base) e)
 
         above : (k : ℕ) → isCrs (imageAt S k .coming) ≡ false → 0 < k
         above zero i = let z : _≡_ {A = Bool} true false = sym c ∙ i in let y : _≡_ {A = ℕ} 0 1 = cc in absurd (omega arith)
         above (suc k) i = omega arith
 
-        came : arrived at (t ∷ ts) ≢ []
-        came z = o (sym (x .0 ∙ nil-right (arrived at ts)) ∙ z)
+        came : arrived (t ∷ ts) ≢ []
+        came z = o (sym (x .0 ∙ nil-right (arrived ts)) ∙ z)
 
-        go : Found at base S (lentRegister b .modules) → Holding at (t ∷ ts) (after t)
+        go : Found base S (lentRegister b .modules) → Holding at (t ∷ ts) (after t)
         go (none q z) =
-            quiet f (x .0 ∙ nil-right (arrived at ts)) (x .1 ∙ nil-right (others at base S) ∙ q)
+            quiet f (x .0 ∙ nil-right (arrived ts)) (x .1 ∙ nil-right (others base S) ∙ q)
             (ap (λ c. given c at b .left) e ∙ unload-unknown base at b p z) (some-came o c g)
         go (goes k r l y i q z rec) =
-            let s : standing at (t ∷ ts) ≡ lacking S k = x .1 ∙ nil-right (others at base S) ∙ q in
+            let s : standing (t ∷ ts) ≡ lacking S k = x .1 ∙ nil-right (others base S) ∙ q in
             let u = above k i in
             some-came came
             (subst (λ T. isCrs (imageAt T 0 .coming) ≡ true) (sym s)
             (subst (λ a. isCrs (a .coming) ≡ true) (sym (lacking-at S k noArrival 0 ∙ ap (λ j. getD S j noArrival) (skip-low k 0 u))) c))
-            (follow (unload base) e (lacking S k) s
-            (unload-turn at b (typed .1) S base k u l y p g (fine at t ts h S m (good-end at (b .window) (p .good))) r z))
+            (follow (Unload base) e (lacking S k) s
+            (unload-turn at b (typed .1) S base k u l y p g (fine t ts mine h S m (good-end at (b .window) (p .good))) r z))
 
-  pub step : Follows at t → Typed t → Premises at (t ∷ ts) → Holding at ts b → Holding at (t ∷ ts) (after t)
+  pub step : Gave Follows t → Typed t → own (t ∷ ts) ≡ t ∷ ts → Premises (t ∷ ts) → Holding at ts b → Holding at (t ∷ ts) (after t)
   unfolding Each Harmless
-  step f typed h g = go (done at t) refl
+  step f typed mine h g = go (done t) refl
     where
-      call : done at t ≡ true → (c : Call) → t .call ≡ c → Holding at (t ∷ ts) (after t)
-      call d (initialize base size) e = initialize-step f typed h d base size e g
-      call d (load l auto level) e = load-step f typed h d l auto level e g
-      call d (unload base) e = unload-step f typed h d base e g
+      call : done t ≡ true → (c : Call) → t .call ≡ c → Holding at (t ∷ ts) (after t)
+      call d (Initialize base size) e = initialize-step f typed mine h d base size e g
+      call d (Load l auto level) e = load-step f typed mine h d l auto level e g
+      call d (Unload base) e = unload-step f typed mine h d base e g
 
-      go : (x : Bool) → done at t ≡ x → Holding at (t ∷ ts) (after t)
+      go : (x : Bool) → done t ≡ x → Holding at (t ∷ ts) (after t)
       go true d = call d (t .call) refl
       go false d = let l = lists-refused d in quiet f (l .0) (l .1) (h .harmless .0 d) g

@@ -1,15 +1,17 @@
--- Demand 3's first half: after every call all imports hold their exporters' addresses or their handlers'.
+-- Demand 3's first half, of calls on a session's own window: after every call all imports hold their exporters' addresses or their handlers'.
 use Prim.Native.Nat.{ℕ}
 use mathlib.Core.Path.{_≡_, refl, sym, ap, _∙_, subst}
 use mathlib.Core.List.{List, [], _∷_, _++_, map}
+use mathlib.Core.Bool.{false}
 use lib.ListN.{length}
 use Rattle.window.specs.Memory.{byteAt}
 use Rattle.window.specs.Within.{In}
 use Rattle.linker.specs.Outcome.{Bytes}
 use Rattle.history.specs.Arrival.{Image, Arrival, imageOf}
-use Rattle.history.specs.Sessions.{Turn, after, Follows, brought, arrived, standing, Between, Session, empty, first, next}
+use Rattle.history.specs.Sessions.{Turn, after, Fresh, Typed, unfit, own, brought, arrived, standing, Between}
+use Rattle.history.specs.Outcomes.{Gave, Follows}
 use Rattle.history.specs.Windows.{given-length}
-use Rattle.history.specs.Demand3.{Each, Pairs, CrsFirst, InWindow, images, Premises, AllHold, Linked, ends}
+use Rattle.history.specs.Demand3.{Each, Pairs, CrsFirst, InWindow, images, Premises, AllHold, Linked, lefts, ends}
 use Rattle.history_sessions.specs.Lists.{each-mono, each-left, pairs-left, standing-among}
 use Rattle.history_sessions.specs.Unique.{imageAt, laid-at, once-at}
 use Rattle.history_sessions.specs.Conclude as conclude
@@ -17,23 +19,40 @@ use Rattle.history_theorem.specs.Invariant.{Resting, castOf}
 use Rattle.history_theorem.specs.Turns.{RestingIn}
 use Rattle.history_theorem.specs.Step.{Holding, none-came, some-came, among-none, between-holds, step}
 
+-- calls on the session's own window and register, each with document 01's outcome
+pub data OwnCalls (at : ℕ) : List Turn → Type 0 where
+  none : OwnCalls at []
+  first
+      : (t : Turn) → unfit t ≡ false → t .at ≡ at → Typed t → Fresh (t .before) → Gave Follows t → OwnCalls at (t ∷ [])
+  next
+      : (t u : Turn) (ts : List Turn) → OwnCalls at (u ∷ ts) → unfit t ≡ false → t .at ≡ at → Typed t
+      → Between at (u ∷ ts) (after u) (t .before) → Gave Follows t → OwnCalls at (t ∷ u ∷ ts)
+
+-- all of them are its own
+pub own-all : (at : ℕ) (ts : List Turn) → OwnCalls at ts → own ts ≡ ts
+unfolding own
+own-all at ts none = refl
+own-all at ts (first t f e typed b g) = rw f refl
+own-all at ts (next t u us h f e typed b g) = rw f (ap (λ vs. t ∷ vs) (own-all at (u ∷ us) h))
+
 map-append : (xs ys : List Arrival) → map imageOf (xs ++ ys) ≡ map imageOf xs ++ map imageOf ys
 map-append [] ys = refl
 map-append (x ∷ xs) ys = ap (λ zs. imageOf x ∷ zs) (map-append xs ys)
 
 -- the premises of a session are those of its first calls
-module _ (at : ℕ) (t u : Turn) (ts : List Turn) (same : length (t .before .window) ≡ length (u .before .window)) (h : Premises at (t ∷ u ∷ ts)) where
-  split : images at (t ∷ u ∷ ts) ≡ images at (u ∷ ts) ++ map imageOf (brought at t)
+module _ (t u : Turn) (ts : List Turn) (same : (t .at ≡ u .at) × (length (t .before .window) ≡ length (u .before .window)))
+    (whole : own (t ∷ u ∷ ts) ≡ t ∷ u ∷ ts) (less : own (u ∷ ts) ≡ u ∷ ts) (h : Premises (t ∷ u ∷ ts)) where
+  split : images (t ∷ u ∷ ts) ≡ images (u ∷ ts) ++ map imageOf (brought t)
   unfolding arrived
-  split = map-append (arrived at (u ∷ ts)) (brought at t)
+  split = map-append (arrived (u ∷ ts)) (brought t)
 
-  each-less : (P : Image → Type 0) → Each P (images at (t ∷ u ∷ ts)) → Each P (images at (u ∷ ts))
-  each-less P g = each-left P (images at (u ∷ ts)) (map imageOf (brought at t)) (subst (Each P) split g)
+  each-less : (P : Image → Type 0) → Each P (images (t ∷ u ∷ ts)) → Each P (images (u ∷ ts))
+  each-less P g = each-left P (images (u ∷ ts)) (map imageOf (brought t)) (subst (Each P) split g)
 
-  pairs-less : (R : Image → Image → Type 0) → Pairs R (images at (t ∷ u ∷ ts)) → Pairs R (images at (u ∷ ts))
-  pairs-less R g = pairs-left R (images at (u ∷ ts)) (map imageOf (brought at t)) (subst (Pairs R) split g)
+  pairs-less : (R : Image → Image → Type 0) → Pairs R (images (t ∷ u ∷ ts)) → Pairs R (images (u ∷ ts))
+  pairs-less R g = pairs-left R (images (u ∷ ts)) (map imageOf (brought t)) (subst (Pairs R) split g)
 
-  pub fewer-premises : Premises at (u ∷ ts)
+  pub fewer-premises : Premises (u ∷ ts)
   unfolding Each CrsFirst InWindow
   fewer-premises =
       record {
@@ -43,8 +62,10 @@ module _ (at : ℕ) (t u : Turn) (ts : List Turn) (same : length (t .before .win
         imports-kept = each-less _ (h .imports-kept);
         base-not-0 = each-less _ (h .base-not-0);
         in-window =
-            each-mono (InWindow at (t ∷ u ∷ ts)) (InWindow at (u ∷ ts)) (images at (u ∷ ts))
-            (λ a g q s. subst (λ n. In at n q) same (g q s)) (each-less _ (h .in-window));
+            subst (λ us. Each (InWindow us) (images (u ∷ ts))) (sym less)
+            (each-mono (InWindow (t ∷ u ∷ ts)) (InWindow (u ∷ ts)) (images (u ∷ ts))
+            (λ a g q s. subst (λ n. In (u .at) n q) (same .1) (subst (λ at. In at (length (t .before .window)) q) (same .0) (g q s)))
+            (subst (λ us. Each (InWindow us) (images (u ∷ ts))) whole (each-less _ (h .in-window))));
         areas-apart = pairs-less _ (h .areas-apart);
         other-names = pairs-less _ (h .other-names);
         other-exports = pairs-less _ (h .other-exports);
@@ -66,37 +87,44 @@ concluded at b S h =
     }
 
 all-hold
-    : (at : ℕ) (t : Turn) (ts : List Turn) → Premises at (t ∷ ts) → Holding at (t ∷ ts) (after t)
-    → AllHold (map imageOf (standing at (t ∷ ts))) (ends at (t ∷ ts))
-unfolding ends AllHold Each
-all-hold at t ts h (none-came n f) =
-    rw (among-none (standing at (t ∷ ts)) (arrived at (t ∷ ts)) (standing-among at (t ∷ ts)) n) tt
-all-hold at t ts h (some-came o c g) =
-    let S = standing at (t ∷ ts) in
-    let m = standing-among at (t ∷ ts) in
-    conclude.all-hold S (castOf S .rest) (byteAt at (after t .window)) (concluded at (after t) S g)
-    (λ k l i j n p q. once-at at (t ∷ ts) h S m (imageAt S k) (laid-at at (t ∷ ts) h S m k l) i j n p q)
+    : (t : Turn) (ts : List Turn) → own (t ∷ ts) ≡ t ∷ ts → Premises (t ∷ ts) → Holding (t .at) (t ∷ ts) (after t)
+    → AllHold (map imageOf (standing (t ∷ ts))) (ends (t ∷ ts))
+unfolding lefts AllHold Each
+all-hold t ts mine h (none-came n f) =
+    rw (among-none (standing (t ∷ ts)) (arrived (t ∷ ts)) (standing-among (t ∷ ts)) n) tt
+all-hold t ts mine h (some-came o c g) =
+    let S = standing (t ∷ ts) in
+    let m = standing-among (t ∷ ts) in
+    rw mine
+    (conclude.all-hold S (castOf S .rest) (byteAt (t .at) (after t .window)) (concluded (t .at) (after t) S g)
+    (λ k l i j n p q. once-at (t ∷ ts) h S m (imageAt S k) (laid-at (t ∷ ts) h S m k l) i j n p q))
 
 -- after the last call, and after every call
-unfoldable pub Kept : ℕ → List Turn → Type 0
-Kept at [] = Unit {0}
-Kept at (t ∷ ts) = Holding at (t ∷ ts) (after t)
+unfoldable pub Kept : List Turn → Type 0
+Kept [] = Unit {0}
+Kept (t ∷ ts) = Holding (t .at) (t ∷ ts) (after t)
 
-pub session : (at : ℕ) (ts : List Turn) → Session at ts → Premises at ts → Kept at ts × Linked at ts
+last-place : (at : ℕ) (u : Turn) (us : List Turn) → OwnCalls at (u ∷ us) → u .at ≡ at
+last-place at u us (first v f e typed b g) = e
+last-place at u us (next v w vs a f e typed b g) = e
+
+last-follows : (at : ℕ) (u : Turn) (us : List Turn) → OwnCalls at (u ∷ us) → Gave Follows u
+last-follows at u us (first v f e typed b g) = g
+last-follows at u us (next v w vs a f e typed b g) = g
+
+pub session : (at : ℕ) (ts : List Turn) → OwnCalls at ts → Premises ts → Kept ts × Linked ts
 unfolding Kept Linked arrived
-session at ts empty h = (tt, tt)
-session at ts (first t typed fresh f) h =
-    let g = step at t [] f typed h (none-came refl fresh) in (g, (all-hold at t [] h g, tt))
-session at ts (next t u us s typed e f) h =
-    let p = fewer-premises at t u us (same t u us s e) h in
-    let r = session at (u ∷ us) s p in
-    let g = step at t (u ∷ us) f typed h (between-holds at (u ∷ us) (after u) (t .before) e (r .0)) in
-    (g, (all-hold at t (u ∷ us) h g, r .1))
-  where
-    follows : (v : Turn) (vs : List Turn) → Session at (v ∷ vs) → Follows at v
-    follows v vs (first w a b c) = c
-    follows v vs (next w x xs a b c k) = k
-
-    same : (t u : Turn) (us : List Turn) → Session at (u ∷ us) → Between at (u ∷ us) (after u) (t .before)
-        → length (t .before .window) ≡ length (u .before .window)
-    same t u us s e = sym (e .length-kept) ∙ ap length (follows u us s .window) ∙ given-length (u .call) at (u .before)
+session at ts none h = (tt, tt)
+session at ts (first t f e typed fresh g) h =
+    let k = step t [] g typed (own-all at (t ∷ []) (first t f e typed fresh g)) h (none-came refl fresh) in
+    (k, (all-hold t [] (own-all at (t ∷ []) (first t f e typed fresh g)) h k, tt))
+session at ts (next t u us s f e typed b g) h =
+    let mine = own-all at (t ∷ u ∷ us) (next t u us s f e typed b g) in
+    let place = last-place at u us s in
+    let lengths = sym (b .length-kept) ∙ ap length (last-follows at u us s .window) ∙ given-length (u .call) (u .at) (u .before) in
+    let r = session at (u ∷ us) s (fewer-premises t u us (e ∙ sym place, lengths) mine (own-all at (u ∷ us) s) h) in
+    let k =
+    step t (u ∷ us) g typed mine h
+    (between-holds (t .at) (u ∷ us) (after u) (t .before) (subst (λ a. Between a (u ∷ us) (after u) (t .before)) (sym e) b)
+    (subst (λ a. Holding a (u ∷ us) (after u)) (place ∙ sym e) (r .0))) in
+    (k, (all-hold t (u ∷ us) mine h k, r .1))

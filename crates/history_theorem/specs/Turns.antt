@@ -7,7 +7,6 @@ use mathlib.Core.Bool.{true, not}
 use native.Mathlib.Omega.{arith}
 use lib.ListN.{length}
 use lib.Dec.{eqb}
-use borrow.Author.Tests.{ne-eqb}
 use Rattle.window.specs.Memory.{byteAt}
 use Rattle.window.specs.Access.{run}
 use Rattle.register.specs.Module.{Register, proper}
@@ -24,7 +23,10 @@ use Rattle.linker.specs.Refusals.{lentRegister}
 use Rattle.linker.specs.Valid.{Valid, AreBytes}
 use Rattle.register.specs.Module.{Module}
 use Rattle.history.specs.Arrival.{initialized, loaded, Arrival, baseOf, Area}
-use Rattle.history.specs.Sessions.{Call, initialize, load, unload, given, Turn, after, expected, Follows, SameBytes, SameEncoded, Areas, arrived, Between}
+use Rattle.linker.specs.declared.call.Call.{Call}
+use Rattle.linker.specs.declared.call.Call.the-variants.{Initialize, Load, Unload}
+use Rattle.history.specs.Sessions.{given, Turn, after, expected, SameBytes, Areas, arrived, Between}
+use Rattle.history.specs.Outcomes.{Gave, Follows, SameEncoded}
 use Rattle.history_sessions.specs.Lists.{lacking, Among, nothing, keeps, drops}
 use Rattle.history_sessions.specs.Unique.{imageAt}
 use Rattle.history_sessions.specs.Answers.{program, programOf, Performed, Left, brings-initialize, brings-load, unload-known}
@@ -41,31 +43,35 @@ pub same-lent : (b c : Bytes) → SameBytes b c → lentRegister b ≡ lentRegis
 same-lent b c e = rw (e .0, e .1, e .2) refl
 
 -- what the definition leaves, what the call gave
-pub follows-rests : (at : ℕ) (t : Turn) (S : List Arrival) → Follows at t → RestingIn at S (expected at t .left) → RestingIn at S (after t)
-follows-rests at t S f h = go (f .register)
+pub follows-rests
+    : (t : Turn) (S : List Arrival) → Gave Follows t → RestingIn (t .at) S (expected t .left) → RestingIn (t .at) S (after t)
+follows-rests t S f h = go (f .register)
   where
-    moved : Resting S (lentRegister (expected at t .left)) (byteAt at (after t .window))
-    moved = subst (λ w. Resting S (lentRegister (expected at t .left)) (byteAt at w)) (sym (f .window)) h
+    at : ℕ
+    at = t .at
 
-    go : SameBytes (expected at t .left) (after t) ⊎ SameEncoded (expected at t .left) (after t) → RestingIn at S (after t)
-    go (inl e) = subst (λ r. Resting S r (byteAt at (after t .window))) (same-lent (expected at t .left) (after t) e) moved
+    moved : Resting S (lentRegister (expected t .left)) (byteAt at (after t .window))
+    moved = subst (λ w. Resting S (lentRegister (expected t .left)) (byteAt at w)) (sym (f .window)) h
+
+    go : SameBytes (expected t .left) (after t) ⊎ SameEncoded (expected t .left) (after t) → RestingIn at S (after t)
+    go (inl e) = subst (λ r. Resting S r (byteAt at (after t .window))) (same-lent (expected t .left) (after t) e) moved
     go (inr e) = resting-same S (e .registers) moved
 
 -- those that stand are among those that came
-among-areas : (at : ℕ) (S A : List Arrival) → Among S A → (k q : ℕ) → k < length S → Area (imageAt S k) q → Areas at A q
+among-areas : (S A : List Arrival) → Among S A → (k q : ℕ) → k < length S → Area (imageAt S k) q → Areas A q
 unfolding Areas
-among-areas at S A nothing k q l a = absurd (omega arith)
-among-areas at S A (keeps x us vs h) zero q l a = inl a
-among-areas at S A (keeps x us vs h) (suc k) q l a = inr (among-areas at us vs h k q (omega arith) a)
-among-areas at S A (drops x us vs h) k q l a = inr (among-areas at us vs h k q l a)
+among-areas S A nothing k q l a = absurd (omega arith)
+among-areas S A (keeps x us vs h) zero q l a = inl a
+among-areas S A (keeps x us vs h) (suc k) q l a = inr (among-areas us vs h k q (omega arith) a)
+among-areas S A (drops x us vs h) k q l a = inr (among-areas us vs h k q l a)
 
 -- what the next call gets
 pub between-rests
-    : (at : ℕ) (ts : List Turn) (left got : Bytes) (S : List Arrival) → Among S (arrived at ts) → Between at ts left got → RestingIn at S left
+    : (at : ℕ) (ts : List Turn) (left got : Bytes) (S : List Arrival) → Among S (arrived ts) → Between at ts left got → RestingIn at S left
     → RestingIn at S got
 between-rests at ts left got S m e h =
     subst (λ r. Resting S r (byteAt at (got .window))) (same-lent left got (e .register))
-    (resting-agree S (λ k l q a. e .areas-kept q (among-areas at S (arrived at ts) m k q l a)) h)
+    (resting-agree S (λ k l q a. e .areas-kept q (among-areas S (arrived ts) m k q l a)) h)
 
 -- the answer's register, read from the bytes left
 left-rests
@@ -83,52 +89,51 @@ module _ (at : ℕ) (b : Bytes) (bytes : AreBytes b) where
 
   -- `initialize` was done
   pub initialize-turn
-      : (base size : ℕ) → base < 2 ^ 32 → size < 2 ^ 32 → Performed (initialize base size) at b → lentRegister b .modules ≡ []
+      : (base size : ℕ) → base < 2 ^ 32 → size < 2 ^ 32 → Performed (Initialize base size) at b → lentRegister b .modules ≡ []
       → Fine at (length (b .window)) (record { coming = initialized base size; bytes = byteAt at (b .window) } ∷ [])
-      → RestingIn at (record { coming = initialized base size; bytes = byteAt at (b .window) } ∷ []) (given (initialize base size) at b .left)
+      → RestingIn at (record { coming = initialized base size; bytes = byteAt at (b .window) } ∷ []) (given (Initialize base size) at b .left)
   unfolding program
   initialize-turn base size hb hs p none-yet f =
       let g = brings-initialize base size at b p in
       let x = parts (p .valid) in
       let n = length (b .records) in
       let m = length (b .names) in
-      left-rests (initialize base size) at b (g .0) (g .1) _ (g .2)
+      left-rests (Initialize base size) at b (g .0) (g .1) _ (g .2)
       (subst (Backs n m) (g .2 .answered) (initialize-back at n m (lentRegister b) (x .0) (x .1) base size hb hs (b .window) (bytes .0)))
       (initialize-rests at (b .window) (lentRegister b) none-yet base size f (bytes .0) n m (g .0) (g .1) (g .2 .answered))
 
   -- `load` was done
   pub load-turn
       : (S : List Arrival) (l : Lent) (auto level : ℕ) → l .base < 2 ^ 32 → l .size < 2 ^ 32 → l .«data_at» < 2 ^ 32 → l .«bss_at» < 2 ^ 32
-      → auto ≢ 0 → level ≢ 2 → level ≢ 3 → Performed (load l auto level) at b → RestingIn at S b
-      → Fine at (length (b .window)) (S ++ (record { coming = loaded l auto level; bytes = byteAt at (b .window) } ∷ []))
-      → RestingIn at (S ++ (record { coming = loaded l auto level; bytes = byteAt at (b .window) } ∷ [])) (given (load l auto level) at b .left)
+      → not (eqb auto 0) ≡ true → level ≢ 2 → level ≢ 3 → Performed (Load l auto level) at b → RestingIn at S b
+      → Fine at (length (b .window)) (S ++ (record { coming = loaded l (not (eqb auto 0)) level; bytes = byteAt at (b .window) } ∷ []))
+      → RestingIn at (S ++ (record { coming = loaded l (not (eqb auto 0)) level; bytes = byteAt at (b .window) } ∷ [])) (given (Load l auto level) at b .left)
   unfolding program
-  load-turn S l auto level hb hs hd hx a c d p h f =
+  load-turn S l auto level hb hs hd hx e c d p h f =
       let g = brings-load l auto level at b p in
       let x = parts (p .valid) in
       let n = length (b .records) in
       let m = length (b .names) in
-      let e : not (eqb auto 0) ≡ true = rw (ne-eqb auto 0 a) refl in
-      let q = load-rests at (b .window) S (lentRegister b) h l auto level f (bytes .0) hd hx c d n m (g .0) (g .1) in
-      left-rests (load l auto level) at b (g .0) (g .1) _ (g .2)
+      let q = load-rests at (b .window) S (lentRegister b) h l (not (eqb auto 0)) level f (bytes .0) hd hx c d n m (g .0) (g .1) in
+      left-rests (Load l auto level) at b (g .0) (g .1) _ (g .2)
       (subst (Backs n m) (g .2 .answered)
       (load-back at n m (lentRegister b) (x .0) (x .1) l (not (eqb auto 0)) level hb hs (b .window) (bytes .0)))
       (subst
       (λ y.
       run at (calls.load l y level n m (lentRegister b)) (b .window) .0 ≡ Done (g .0) (g .1)
-      → Resting (S ++ (record { coming = loaded l auto level; bytes = byteAt at (b .window) } ∷ [])) (g .1)
+      → Resting (S ++ (record { coming = loaded l (not (eqb auto 0)) level; bytes = byteAt at (b .window) } ∷ [])) (g .1)
       (byteAt at (run at (calls.load l y level n m (lentRegister b)) (b .window) .1)))
       (sym e) q (g .2 .answered))
 
   -- `unload` of number d was done
   pub unload-turn
-      : (S : List Arrival) (base d : ℕ) → 0 < d → d < length S → baseOf (imageAt S d .coming) ≡ base → Performed (unload base) at b
+      : (S : List Arrival) (base d : ℕ) → 0 < d → d < length S → baseOf (imageAt S d .coming) ≡ base → Performed (Unload base) at b
       → RestingIn at S b → Fine at (length (b .window)) S → (r : Module) → firstWithBase base (lentRegister b .modules) 0 ≡ stands r d
-      → RestingIn at (lacking S d) (given (unload base) at b .left)
+      → RestingIn at (lacking S d) (given (Unload base) at b .left)
   unfolding program
   unload-turn S base d above below e p h f r z =
       let g = unload-known base at b p r d z in
-      left-rests (unload base) at b 1 (removed (lentRegister b) d) (lacking S d) g
+      left-rests (Unload base) at b 1 (removed (lentRegister b) d) (lacking S d) g
       (unload-back (b .records) (b .names) (b .missing) (p .valid) (bytes .1) d (rw (h .rest .book .many) below))
       (subst (λ y. Resting (lacking S d) (removed (lentRegister b) d) (byteAt at (run at (calls.unload y (lentRegister b)) (b .window) .1))) e
       (unload-rests at (b .window) S (lentRegister b) h f d above below))
