@@ -1,0 +1,2 @@
+-- What the contract of `make_call` cites.
+pub mod Continues

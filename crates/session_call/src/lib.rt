@@ -1,0 +1,52 @@
+// A call of a session: any of the three exported calls, by value. Demand 3 speaks of what this function makes.
+ghost use Rattle.linker_calls.specs.Steps.{lent, left};
+ghost use Rattle.session_call.specs.Continues.{turn, Continues};
+use linker::call::Call;
+use linker_calls::initialize;
+use linker_calls::load;
+use linker_calls::unload;
+
+// What a call answered.
+pub struct Answered {
+    pub number: u32,
+    pub value: u32,
+}
+
+// Makes the call. Its outcome is document 01's; a session with it added is one again, so after it every import holds its address.
+pub fn make_call(
+    call: Call,
+    at: u32,
+    window: &mut [u8],
+    records: &mut [u8],
+    names: &mut [u8],
+    missing: &mut [u8],
+) -> Answered
+    ensures { λ r. ⌜ Continues (turn call at
+        (lent (now (window .entry)) (now (records .entry)) (now (names .entry)) (now (missing .entry)))
+        (left (r .number) (r .value) (lent (now (window .exit)) (now (records .exit)) (now (names .exit)) (now (missing .exit))))) ⌝ }
+{
+    let mut value: u32 = 0;
+    let number = match call {
+        Call::Initialize(base, size) => {
+            initialize(at, window, records, names, missing, base, size, &mut value)
+        }
+        Call::Load(l, auto_link, level) => load(
+            at,
+            window,
+            records,
+            names,
+            missing,
+            l.base,
+            l.size,
+            l.data_at,
+            l.data_size,
+            l.bss_at,
+            l.bss_size,
+            auto_link,
+            level,
+            &mut value,
+        ),
+        Call::Unload(base) => unload(at, window, records, names, missing, base, &mut value),
+    };
+    Answered { number, value }
+}
