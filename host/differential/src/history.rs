@@ -149,7 +149,7 @@ impl<'a> Run<'a> {
                 }
             }
         }
-        Ok(())
+        self.lend_badly(random, seen)
     }
 
     /// A call that is refused or finds nothing, and leaves all as it was.
