@@ -8,7 +8,9 @@
  * The window: a part of a 32-bit address space.
  *   at       the address of its first byte, a multiple of 4,096
  *   window   its bytes: a multiple of 4,096 of them, at least one page, none past 2^32
- *   A read outside gives 0, a write outside is dropped.
+ *   A read outside gives 0, a write outside is dropped. Of a word that lies across an edge the bytes inside are written,
+ *   but a relocated word begun outside, as two bytes below the window, is dropped whole; one that runs off the window's
+ *   end keeps its bytes inside.
  *
  * The register: what stands between calls. All bytes 0 is a register without modules.
  *   records  at least 32 bytes: 8 header words, then one record per module; at most 64 modules

@@ -3,7 +3,9 @@
 //! A [`Linker`] stands where an emulator kept its manager of modules: it owns the register of loaded modules and has the
 //! three calls of `ldr:ro`. It works in place on a *window*, the part of the guest's memory that modules and their
 //! segments lie in: the address of its first byte, and its bytes. A read outside the window gives 0, and a write outside
-//! is dropped, so the window has to hold everything that modules may point at.
+//! is dropped, so the window has to hold everything that modules may point at. A relocated word begun outside, as two
+//! bytes below the window, is dropped whole, and one that runs off the window's end keeps its bytes inside; of any other
+//! word the bytes inside are written.
 //!
 //! The calls are proved to end on any bytes, to touch nothing but the buffers lent, and to do what their definition says.
 //!

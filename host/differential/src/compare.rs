@@ -1,6 +1,7 @@
 //! One session on both sides. The Rust goes first: a call that it cannot finish in time is not made on the linker.
 
 use crate::encoding::encoded;
+use crate::faults;
 use crate::under_test::{self, Buffers};
 use fillqhano::Linker;
 use oracle::Oracle;
@@ -130,7 +131,8 @@ impl<'a> Run<'a> {
     /// Makes a step on both sides; false where the session ends there.
     fn goes_on(&mut self, index: usize) -> bool {
         let step = &self.session.steps[index];
-        if let Some(what) = refusals_differ(&self.buffers, step, index) {
+        let mut random = Random::new(step.base as u64, step.size as u64, index as u64);
+        if let Err(what) = faults::refused(&self.buffers, step, &mut random) {
             self.done.mismatch = Some(Mismatch { step: index, what });
             return false;
         }
@@ -248,47 +250,4 @@ fn register_differs(answer: (u32, u32), state: &State, old: &Buffers, new: &Buff
     // a register that no call has changed may have a 0 for the bytes in use
     let untouched = same && linker.is_empty();
     (!untouched && encoded(linker) != new.register_copy()).then(|| "the register is encoded otherwise".into())
-}
-
-/// Makes the call with a window or a register that is none; gives what differs from a refusal that changes nothing.
-fn refusals_differ(buffers: &Buffers, step: &Step, index: usize) -> Option<String> {
-    let mut broken = buffers.clone();
-    let mut random = Random::new(step.base as u64, step.size as u64, index as u64);
-    let number = break_one(&mut broken, &mut random);
-    let before = broken.clone();
-    let given = broken.call(step);
-    if given == (number, 0) && broken == before {
-        return None;
-    }
-    Some(format!("with a bad window or register: {given:x?}, changed: {}, and it should be {number}", broken != before))
-}
-
-/// Breaks the window (3) or the register (4).
-fn break_one(buffers: &mut Buffers, random: &mut Random) -> u32 {
-    match random.below(8) {
-        0 => buffers.at = buffers.at.wrapping_add(random.from_to(1, 0xFFF)),
-        1 => buffers.window.truncate(buffers.window.len() - random.from_to(1, 0xFFF) as usize),
-        2 => buffers.window.clear(),
-        3 => {
-            // 3 comes before 4
-            buffers.at = buffers.at.wrapping_add(0x800);
-            buffers.missing.truncate(5);
-        }
-        other => return break_register(buffers, random, other),
-    }
-    3
-}
-
-fn break_register(buffers: &mut Buffers, random: &mut Random, way: u32) -> u32 {
-    match way {
-        4 => buffers.records[0] = 65,
-        5 => buffers.records.truncate(random.below(32) as usize),
-        6 => buffers.missing.truncate(buffers.missing.len() - 1),
-        _ => {
-            // a byte after the last name, or a zero in one of 512 bytes
-            let last = buffers.missing.last_mut().unwrap();
-            *last = if *last == 0 { 0xFF } else { 0 };
-        }
-    }
-    4
 }

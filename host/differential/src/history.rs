@@ -1,6 +1,8 @@
 //! Demand 3 by running: two sessions that end with the same modules standing, one of them with a history, leave the same
-//! bytes in those modules' areas; and after every call every import holds its exporter's address or its handler's.
+//! bytes in those modules' areas; and after every call every import holds its exporter's address or its handler's. Refused
+//! calls come in between in both, also before the static module's.
 
+use crate::faults;
 use crate::under_test::Buffers;
 use sessions::cast::{Cast, Placed};
 use sessions::image::Relocation;
@@ -16,6 +18,11 @@ pub struct Seen {
     /// Imports looked at, after every call, and those of them that had an exporter.
     pub imports: u64,
     pub linked: u64,
+    /// Calls that were lent a bad window, and those that were lent a bad register.
+    pub bad_windows: u64,
+    pub bad_registers: u64,
+    /// Those of both that came before the static module.
+    pub before_crs: u64,
 }
 
 /// Runs a pair of sessions; gives what does not hold.
@@ -29,8 +36,10 @@ pub fn run_pair(seed: u64, number: u64, seen: &mut Seen) -> Result<(), String> {
         plain.fill(&mut random, &image_area(member));
     }
     for member in &stay {
+        plain.lend_badly(&mut random, seen)?;
         plain.take_in(member, seen)?;
     }
+    plain.lend_badly(&mut random, seen)?;
     let mut long = Run::new(&mut random, &cast);
     long.wander(&mut random, &stay, &pass, seen)?;
     for area in stay.iter().flat_map(|member| areas(member)) {
@@ -114,9 +123,11 @@ impl<'a> Run<'a> {
         let mut guests: Vec<&Placed> = Vec::new();
         let (mut stay, mut pass) = (stay.iter(), pass.iter());
         self.harmless(random, seen)?;
+        self.lend_badly(random, seen)?;
         self.take_in(stay.next().unwrap(), seen)?;
         while stay.len() + pass.len() + guests.len() > 0 {
             self.write_between(random);
+            self.lend_badly(random, seen)?;
             match random.below(4) {
                 0 => self.harmless(random, seen)?,
                 1 => {
@@ -138,7 +149,7 @@ impl<'a> Run<'a> {
                 }
             }
         }
-        Ok(())
+        self.lend_badly(random, seen)
     }
 
     /// A call that is refused or finds nothing, and leaves all as it was.
@@ -151,6 +162,23 @@ impl<'a> Run<'a> {
         seen.calls += 1;
         if (number, value) != (expected, 0) || self.buffers != before {
             return Err(format!("{step:x?} gave {number} {value:x}"));
+        }
+        Ok(())
+    }
+
+    /// No, one or two calls on any of the modules, each lent a copy of the buffers that is no window or no register. What
+    /// the last call left stands.
+    fn lend_badly(&self, random: &mut Random, seen: &mut Seen) -> Result<(), String> {
+        for _ in 0..random.below(3) {
+            let mut step = self.cast.members[random.below(self.cast.members.len() as u32) as usize].step;
+            if random.once_in(3) {
+                step = Step::unload(step.base);
+            }
+            match faults::refused(&self.buffers, &step, random)? {
+                3 => seen.bad_windows += 1,
+                _ => seen.bad_registers += 1,
+            }
+            seen.before_crs += self.standing.is_empty() as u64;
         }
         Ok(())
     }

@@ -3,6 +3,7 @@
 pub mod compare;
 mod encoding;
 pub mod families;
+mod faults;
 pub mod history;
 pub mod shrink;
 pub mod stored;

@@ -88,6 +88,10 @@ fn compare_pairs(asked: &Asked) -> Result<(), String> {
         seen.pairs, seen.calls, seen.bytes
     );
     println!("  {} imports hold their address, {} of them an exporter's", seen.imports, seen.linked);
+    println!(
+        "  {} calls besides with a bad window, {} with a bad register, {} of them before the static module's",
+        seen.bad_windows, seen.bad_registers, seen.before_crs
+    );
     Ok(())
 }
 

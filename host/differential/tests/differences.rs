@@ -148,3 +148,13 @@ fn line_11_auto_link_2_and_the_value_of_unload() {
     assert_eq!(linker(&session).1, [(0, 0), (0, 1), (0, 0)]);
     assert!(compare(&session).is_none_or(|compared| compared.mismatch.is_none()));
 }
+
+#[test]
+fn line_12_as_many_segments_as_can_be() {
+    let mut session = session(AT, &module(), 1);
+    session.window[0xCC..0xD0].fill(0xFF);
+    session.steps = vec![Step::initialize(AT, 0x1000)];
+    let (buffers, answers) = linker(&session);
+    assert_eq!(answers, [(0, 0)]);
+    assert_eq!(state(&buffers.linker().unwrap()).modules[0].segments.len(), 16);
+}

@@ -1,0 +1,47 @@
+//! Calls that are lent a window that breaks its rule (number 3), or buffers that are no register (number 4).
+
+use crate::under_test::Buffers;
+use sessions::{Random, Step};
+
+/// Makes the call on a copy with one of eight faults. Gives its number, or what differs from a refusal that changes nothing.
+pub fn refused(buffers: &Buffers, step: &Step, random: &mut Random) -> Result<u32, String> {
+    let mut broken = buffers.clone();
+    let number = break_one(&mut broken, random);
+    let before = broken.clone();
+    let given = broken.call(step);
+    if given == (number, 0) && broken == before {
+        return Ok(number);
+    }
+    let changed = broken != before;
+    Err(format!("with a bad window or register: {given:x?}, changed: {changed}, and it should be {number}"))
+}
+
+/// Breaks the window (3) or the register (4).
+fn break_one(buffers: &mut Buffers, random: &mut Random) -> u32 {
+    match random.below(8) {
+        0 => buffers.at = buffers.at.wrapping_add(random.from_to(1, 0xFFF)),
+        1 => buffers.window.truncate(buffers.window.len() - random.from_to(1, 0xFFF) as usize),
+        2 => buffers.window.clear(),
+        3 => {
+            // 3 comes before 4
+            buffers.at = buffers.at.wrapping_add(0x800);
+            buffers.missing.truncate(5);
+        }
+        other => return break_register(buffers, random, other),
+    }
+    3
+}
+
+fn break_register(buffers: &mut Buffers, random: &mut Random, way: u32) -> u32 {
+    match way {
+        4 => buffers.records[0] = 65,
+        5 => buffers.records.truncate(random.below(32) as usize),
+        6 => buffers.missing.truncate(buffers.missing.len() - 1),
+        _ => {
+            // a byte after the last name, or a zero in one of 512 bytes
+            let last = buffers.missing.last_mut().unwrap();
+            *last = if *last == 0 { 0xFF } else { 0 };
+        }
+    }
+    4
+}
