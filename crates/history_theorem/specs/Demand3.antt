@@ -115,7 +115,7 @@ demand3-of L f at bt ts us s r m n p q =
     )
 
 -- the exported contracts give them
-promised-given : (c : Call) (at : ℕ) (b : Bytes) (o : Outcome) → Promised c at b o → o ≡ given c at b
+pub promised-given : (c : Call) (at : ℕ) (b : Bytes) (o : Outcome) → Promised c at b o → o ≡ given c at b
 unfolding Promised given
 promised-given (Initialize base size) at b o e = e
 promised-given (Load l auto level) at b o e = e

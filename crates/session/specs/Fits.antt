@@ -16,13 +16,15 @@ use Rattle.register.specs.Proper.{proper-parts}
 use Rattle.linker.specs.Outcome.{Bytes}
 use Rattle.linker.specs.Refusals.{lentRegister}
 use Rattle.text.specs.Text.{bytes, digitOf, digitsIn, hexOf, decimalOf, pairsOf}
+use Rattle.linker.specs.declared.call.Call.{Call}
+use Rattle.linker.specs.declared.call.Call.the-variants.{Initialize, Load, Unload}
 use Rattle.session_step.specs.declared.Step.{Step}
-use Rattle.session_step.specs.declared.Step.the-variants.{Initialize, Load, Unload, Bad}
+use Rattle.session_step.specs.declared.Step.the-variants.{Bad}
 use Rattle.session_head.specs.Head.{stepCount}
 use Rattle.session_step.specs.Steps.{stepAt}
 use Rattle.session_file.specs.File.{isSession}
 use Rattle.session_file.specs.Parts.{session-parts}
-use Rattle.session_lines.specs.Lines.{callName, stepLine}
+use Rattle.session_lines.specs.Lines.{callName, stepName, stepLine}
 use Rattle.session_register.specs.Lines.{nameText, moduleLine, moduleLines, nameLines, missingLines}
 use Rattle.session.specs.Run.{start}
 use Rattle.session.specs.Session.{outcomeAt, steps, registerLines, sessionText}
@@ -51,16 +53,20 @@ unfolding pairsOf
 pairs-length [] = refl
 pairs-length (b ∷ s) = let e = pairs-length s in omega arith
 
-call-most : (s : Step) → length (callName s) ≤ 10
+call-most : (c : Call) → length (callName c) ≤ 10
 unfolding callName bytes
 call-most (Initialize base size) = omega arith
 call-most (Load l auto level) = omega arith
 call-most (Unload base) = omega arith
-call-most Bad = omega arith
+
+name-at-most : (s : Step) → length (stepName s) ≤ 10
+unfolding stepName
+name-at-most (Step.Call c) = call-most c
+name-at-most Bad = omega arith
 
 step-most : (k : ℕ) (s : Step) (n v : ℕ) → length (stepLine k s n v) ≤ 42
 unfolding stepLine bytes
-step-most k s n v = simp length-append (omega (arith, decimal-most k, call-most s, decimal-most n, hex-most v))
+step-most k s n v = simp length-append (omega (arith, decimal-most k, name-at-most s, decimal-most n, hex-most v))
 
 steps-most : (file : List ℕ) (n k : ℕ) (b : Bytes) → length (steps file n k b .0) ≤ 42 * n
 unfolding steps

@@ -4,10 +4,11 @@ use mathlib.Core.List.{List}
 use mathlib.Core.Path.{_≡_}
 use lib.ListN.{replicate}
 use Rattle.register.specs.Words.{part}
-use Rattle.linker.specs.Outcome.{Bytes, Outcome, initializeOutcome, loadOutcome, unloadOutcome}
+use Rattle.linker.specs.Outcome.{Bytes, Outcome}
 use Rattle.linker.specs.Valid.{Valid}
+use Rattle.history.specs.Sessions.{given}
 use Rattle.session_step.specs.declared.Step.{Step}
-use Rattle.session_step.specs.declared.Step.the-variants.{Initialize, Load, Unload, Bad}
+use Rattle.session_step.specs.declared.Step.the-variants.{Bad}
 use Rattle.session_head.specs.Head.{windowLength, windowOffset}
 
 -- "The register starts zeroed, records and names 16,384 bytes each."
@@ -22,9 +23,7 @@ start file =
 
 -- what a step gives; a session has no `Bad` step
 unfoldable pub stepOutcome : Step → ℕ → Bytes → Outcome
-stepOutcome (Initialize base size) at b = initializeOutcome base size at b
-stepOutcome (Load l auto level) at b = loadOutcome l auto level at b
-stepOutcome (Unload base) at b = unloadOutcome base at b
+stepOutcome (Step.Call c) at b = given c at b
 stepOutcome Bad at b = record { number = 0; value = 0; left = b }
 
 -- what running a step promises: its outcome, and that a register stays one

@@ -10,9 +10,8 @@ ghost use Rattle.session_head.specs.Head.{stepCount};
 ghost use Rattle.session.specs.Run.{Ran};
 ghost use Rattle.session.specs.Session.{sessionText};
 ghost use Rattle.session.specs.Ahead.{Turned, AllRan};
-use linker_calls::initialize;
-use linker_calls::load;
-use linker_calls::unload;
+use session_call::Answered;
+use session_call::make_call;
 use session_file::is_session;
 use session_head::step_count;
 use session_head::window_address;
@@ -23,12 +22,6 @@ use session_step::Step;
 use session_step::read_step;
 use text::put_decimal;
 use text::put_text;
-
-// What a call answered.
-struct Answered {
-    number: u32,
-    value: u32,
-}
 
 // Runs a step.
 fn run_step(
@@ -42,31 +35,13 @@ fn run_step(
     ensures { λ r. ⌜ Ran step at (lent (now (window .entry)) (now (records .entry)) (now (names .entry)) (now (missing .entry)))
         (left (r .number) (r .value) (lent (now (window .exit)) (now (records .exit)) (now (names .exit)) (now (missing .exit)))) ⌝ }
 {
-    let mut value: u32 = 0;
-    let number = match step {
-        Step::Initialize(base, size) => {
-            initialize(at, window, records, names, missing, base, size, &mut value)
-        }
-        Step::Load(l, auto_link, level) => load(
-            at,
-            window,
-            records,
-            names,
-            missing,
-            l.base,
-            l.size,
-            l.data_at,
-            l.data_size,
-            l.bss_at,
-            l.bss_size,
-            auto_link,
-            level,
-            &mut value,
-        ),
-        Step::Unload(base) => unload(at, window, records, names, missing, base, &mut value),
-        Step::Bad => 0,
-    };
-    Answered { number, value }
+    match step {
+        Step::Call(call) => make_call(call, at, window, records, names, missing),
+        Step::Bad => Answered {
+            number: 0,
+            value: 0,
+        },
+    }
 }
 
 // Runs step k and puts its line.

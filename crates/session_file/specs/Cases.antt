@@ -6,7 +6,8 @@ use mathlib.Core.Bool.{Bool, true, false}
 use lib.ListN.{replicate}
 use Rattle.window.specs.Bytes.{byteOf}
 use Rattle.register.specs.Words.{part, wordsIn, flat, bytesOf, allZero}
-use Rattle.session_step.specs.declared.Step.the-variants.{Initialize, Load, Unload}
+use Rattle.linker.specs.declared.call.Call.the-variants.{Initialize, Load, Unload}
+use Rattle.session_step.specs.declared.Step.{Step}
 use Rattle.session_head.specs.Head.{headWord}
 use Rattle.session_step.specs.Steps.{stepWord, stepOf, stepAt}
 use Rattle.session_file.specs.File.{isStep, areSteps, isSession}
@@ -57,8 +58,8 @@ pub auto-2 : judged 2 0x100 0 2 0 ≡ true
 unfolding isSession areSteps isStep stepAt stepOf stepWord headWord allZero part wordsIn flat bytesOf byteOf
 auto-2 = refl
 
-pub read : (stepAt (stepped 1 0x100 0 0 0) 0 ≡ Initialize 0x2000 0x100) × (stepAt (stepped 3 0 0 0 0) 0 ≡ Unload 0x2000)
+pub read : (stepAt (stepped 1 0x100 0 0 0) 0 ≡ Step.Call (Initialize 0x2000 0x100)) × (stepAt (stepped 3 0 0 0 0) 0 ≡ Step.Call (Unload 0x2000))
     × (stepAt (stepped 2 0x100 0x3000 1 2) 0
-    ≡ Load (record { base = 0x2000; size = 0x100; «data_at» = 0x3000; «data_size» = 0; «bss_at» = 0; «bss_size» = 0 }) 1 2)
+    ≡ Step.Call (Load (record { base = 0x2000; size = 0x100; «data_at» = 0x3000; «data_size» = 0; «bss_at» = 0; «bss_size» = 0 }) 1 2))
 unfolding stepAt stepOf stepWord headWord allZero part wordsIn flat bytesOf byteOf
 read = (refl, refl, refl)

@@ -5,14 +5,12 @@ use mathlib.Core.Bool.{Bool, true, false, _&&_}
 use lib.ListN.{length}
 use lib.Dec.{leb}
 use Rattle.session_step.specs.declared.Step.{Step}
-use Rattle.session_step.specs.declared.Step.the-variants.{Initialize, Load, Unload, Bad}
+use Rattle.session_step.specs.declared.Step.the-variants.{Bad}
 use Rattle.session_head.specs.Head.{stepCount, stepTable, windowLength, windowOffset}
 use Rattle.session_step.specs.Steps.{stepAt}
 
 unfoldable pub isStep : Step → Bool
-isStep (Initialize base size) = true
-isStep (Load l auto level) = true
-isStep (Unload base) = true
+isStep (Step.Call c) = true
 isStep Bad = false
 
 -- the first n steps are steps

@@ -11,9 +11,7 @@ fn is_step(step: Step) -> bool
     ensures { λ r. ⌜ r ≡ isStep step ⌝ }
 {
     match step {
-        Step::Initialize(_, _) => true,
-        Step::Load(_, _, _) => true,
-        Step::Unload(_) => true,
+        Step::Call(_) => true,
         Step::Bad => false,
     }
 }

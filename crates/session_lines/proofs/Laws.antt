@@ -5,11 +5,11 @@ use mathlib.Core.List.{List, _++_}
 use Rattle.text.specs.Text.{bytes, hexOf, decimalOf, put}
 use Rattle.text.specs.Laws.{put-then, put-then-two}
 use Rattle.session_step.specs.declared.Step.{Step}
-use Rattle.session_lines.specs.Lines.{callName, stepLine}
+use Rattle.session_lines.specs.Lines.{stepName, stepLine}
 
 module _ (k : ℕ) (step : Step) (number value : ℕ) (o : ℕ × List ℕ) {p₁ p₂ p₃ p₄ p₅ p₆ : ℕ × List ℕ} where
   pub step-line
-      : p₁ ≡ put (decimalOf k) o → p₂ ≡ put (bytes " ") p₁ → p₃ ≡ put (callName step) p₂
+      : p₁ ≡ put (decimalOf k) o → p₂ ≡ put (bytes " ") p₁ → p₃ ≡ put (stepName step) p₂
       → p₄ ≡ put (bytes " " ++ decimalOf number) p₃ → p₅ ≡ put (bytes " " ++ hexOf value) p₄ → p₆ ≡ put (bytes "\n") p₅
       → p₆ ≡ put (stepLine k step number value) o
   unfolding stepLine

@@ -2,13 +2,14 @@
 use mathlib.Core.Path.{_≡_, refl}
 use Rattle.linker.specs.declared.rebase.Lent.{Lent}
 use Rattle.text.specs.Text.{bytes, hexOf, decimalOf, digitsIn, digitOf}
-use Rattle.session_step.specs.declared.Step.the-variants.{Load, Unload}
-use Rattle.session_lines.specs.Lines.{callName, stepLine}
+use Rattle.linker.specs.declared.call.Call.the-variants.{Load, Unload}
+use Rattle.session_step.specs.declared.Step.{Step}
+use Rattle.session_lines.specs.Lines.{callName, stepName, stepLine}
 
-step-1 : stepLine 1 (Unload 0x100000) 0 0 ≡ bytes "1 unload 0 0\n"
-unfolding stepLine callName decimalOf hexOf digitsIn digitOf bytes
+step-1 : stepLine 1 (Step.Call (Unload 0x100000)) 0 0 ≡ bytes "1 unload 0 0\n"
+unfolding stepLine stepName callName decimalOf hexOf digitsIn digitOf bytes
 step-1 = refl
 
-step-3 : (l : Lent) → stepLine 3 (Load l 1 1) 0 0x1000 ≡ bytes "3 load 0 1000\n"
-unfolding stepLine callName decimalOf hexOf digitsIn digitOf bytes
+step-3 : (l : Lent) → stepLine 3 (Step.Call (Load l 1 1)) 0 0x1000 ≡ bytes "3 load 0 1000\n"
+unfolding stepLine stepName callName decimalOf hexOf digitsIn digitOf bytes
 step-3 l = refl

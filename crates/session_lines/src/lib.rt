@@ -2,7 +2,8 @@
 ghost use mathlib.Core.Path.{_≡_};
 ghost use mathlib.Core.List.{_++_};
 ghost use Rattle.text.specs.Text.{decimalOf, hexOf, put};
-ghost use Rattle.session_lines.specs.Lines.{callName, stepLine};
+ghost use Rattle.session_lines.specs.Lines.{stepName, stepLine};
+use linker::call::Call;
 use session_step::Step;
 use text::put_decimal;
 use text::put_hex;
@@ -26,13 +27,15 @@ pub fn hex_after(out: &mut [u8], at: usize, before: &[u8], v: u32) -> usize
 
 // Puts the name of the call that a step makes.
 fn put_call(out: &mut [u8], at: usize, step: Step) -> usize
-    ensures { λ r. ⌜ (r, now (out .exit)) ≡ put (callName step) (at, now (out .entry)) ⌝ }
+    ensures { λ r. ⌜ (r, now (out .exit)) ≡ put (stepName step) (at, now (out .entry)) ⌝ }
 {
-    match step {
-        Step::Initialize(_, _) => put_text(out, at, b"initialize"),
-        Step::Load(_, _, _) => put_text(out, at, b"load"),
-        Step::Unload(_) => put_text(out, at, b"unload"),
-        Step::Bad => at,
+    let Step::Call(call) = step else {
+        return at;
+    };
+    match call {
+        Call::Initialize(_, _) => put_text(out, at, b"initialize"),
+        Call::Load(_, _, _) => put_text(out, at, b"load"),
+        Call::Unload(_) => put_text(out, at, b"unload"),
     }
 }
 

@@ -9,7 +9,8 @@ use Rattle.window.specs.Memory.{if_then_else_}
 use Rattle.register.specs.Words.{allZero}
 use Rattle.linker.specs.declared.rebase.Lent.{Lent}
 use Rattle.session_step.specs.declared.Step.{Step}
-use Rattle.session_step.specs.declared.Step.the-variants.{Initialize, Load, Unload, Bad}
+use Rattle.linker.specs.declared.call.Call.the-variants.{Initialize, Load, Unload}
+use Rattle.session_step.specs.declared.Step.the-variants.{Bad}
 use Rattle.session_step.specs.Steps.{stepOf}
 
 -- nine words as a step, six of them in l
@@ -20,15 +21,15 @@ module _ (call : ℕ) (l : Lent) (auto level : ℕ) where
   abbrev step : Step
   step = stepOf call (l .base) (l .size) (l .«data_at») (l .«data_size») (l .«bss_at») (l .«bss_size») auto level
 
-  pub is-load : call ≡ 2 → Load l auto level ≡ step
+  pub is-load : call ≡ 2 → Step.Call (Load l auto level) ≡ step
   unfolding stepOf
   is-load e = rw e
 
-  pub is-initialize : call ≡ 1 → true ≡ allZero rest → Initialize (l .base) (l .size) ≡ step
+  pub is-initialize : call ≡ 1 → true ≡ allZero rest → Step.Call (Initialize (l .base) (l .size)) ≡ step
   unfolding stepOf
   is-initialize e z = rw (e, ← z)
 
-  pub is-unload : call ≡ 3 → l .size ≡ 0 → true ≡ allZero rest → Unload (l .base) ≡ step
+  pub is-unload : call ≡ 3 → l .size ≡ 0 → true ≡ allZero rest → Step.Call (Unload (l .base)) ≡ step
   unfolding stepOf allZero
   is-unload e s z = rw (e, s, ← z)
 

@@ -7,7 +7,8 @@ use Rattle.window.specs.Memory.{if_then_else_}
 use Rattle.register.specs.Words.{part, wordsIn, allZero}
 use Rattle.linker.specs.declared.rebase.Lent.{Lent}
 use Rattle.session_step.specs.declared.Step.{Step}
-use Rattle.session_step.specs.declared.Step.the-variants.{Initialize, Load, Unload, Bad}
+use Rattle.linker.specs.declared.call.Call.the-variants.{Initialize, Load, Unload}
+use Rattle.session_step.specs.declared.Step.the-variants.{Bad}
 use Rattle.session_head.specs.Head.{stepTable}
 
 -- "A step is 9 words": word i of step k, of at most 64 steps
@@ -18,13 +19,14 @@ stepWord file k i = getD (wordsIn (part file (stepTable file) (36 * 64))) (9 * k
 unfoldable pub stepOf : ℕ → ℕ → ℕ → ℕ → ℕ → ℕ → ℕ → ℕ → ℕ → Step
 stepOf call base size dataAt dataSize bssAt bssSize auto level =
     if eqb call 1
-    then (if allZero (dataAt ∷ dataSize ∷ bssAt ∷ bssSize ∷ auto ∷ level ∷ []) then Initialize base size else Bad)
+    then (if allZero (dataAt ∷ dataSize ∷ bssAt ∷ bssSize ∷ auto ∷ level ∷ []) then Step.Call (Initialize base size) else Bad)
     else (if eqb call 2
-    then Load
+    then Step.Call
+    (Load
     (record { base = base; size = size; «data_at» = dataAt; «data_size» = dataSize; «bss_at» = bssAt; «bss_size» = bssSize })
-    auto level
+    auto level)
     else (if eqb call 3
-    then (if allZero (size ∷ dataAt ∷ dataSize ∷ bssAt ∷ bssSize ∷ auto ∷ level ∷ []) then Unload base else Bad)
+    then (if allZero (size ∷ dataAt ∷ dataSize ∷ bssAt ∷ bssSize ∷ auto ∷ level ∷ []) then Step.Call (Unload base) else Bad)
     else Bad))
 
 unfoldable pub stepAt : List ℕ → ℕ → Step

@@ -3,15 +3,14 @@ ghost use mathlib.Core.Path.{_≡_};
 ghost use mathlib.Core.List.{[], _∷_};
 ghost use Rattle.register.specs.Words.{allZero};
 ghost use Rattle.session_step.specs.Steps.{stepOf, stepAt};
+use linker::call::Call;
 use linker::rebase::Lent;
 use register::words::name_part;
 use register::words::word;
 
-// A step: the call with what it takes, or that its words are no call.
+// A step: a call, or that its words are none.
 pub enum Step {
-    Initialize(u32, u32),
-    Load(Lent, u32, u32),
-    Unload(u32),
+    Call(Call),
     Bad,
 }
 
@@ -42,13 +41,13 @@ fn step_of(call: u32, l: Lent, auto_link: u32, fix_level: u32) -> Step
     ensures { λ r. ⌜ r ≡ stepOf call (l .base) (l .size) (l .«data_at») (l .«data_size») (l .«bss_at») (l .«bss_size») «auto_link» «fix_level» ⌝ }
 {
     if call == 2 {
-        return Step::Load(l, auto_link, fix_level);
+        return Step::Call(Call::Load(l, auto_link, fix_level));
     }
     if !all_zero(l, auto_link, fix_level) {
         return Step::Bad;
     }
     if call == 1 {
-        return Step::Initialize(l.base, l.size);
+        return Step::Call(Call::Initialize(l.base, l.size));
     }
     if call != 3 {
         return Step::Bad;
@@ -56,7 +55,7 @@ fn step_of(call: u32, l: Lent, auto_link: u32, fix_level: u32) -> Step
     if l.size != 0 {
         return Step::Bad;
     }
-    Step::Unload(l.base)
+    Step::Call(Call::Unload(l.base))
 }
 
 // Step number k of the table, which has room for 64 steps.

@@ -1,34 +1,17 @@
-use native.Mathlib.Omega.{arith}
-use mathlib.Core.Path.{refl}
-use Rattle.linker.specs.Valid.{AreBytes}
 use Rattle.linker_calls.specs.Steps.{lent}
-use Rattle.session.proofs.Laws.{is-initialize, is-load, is-unload, is-bad, initialize-keeps, load-keeps, unload-keeps}
+use Rattle.session.proofs.Laws.{is-call, is-bad}
 use borrow.Author.Needs.{needs}
 use Rattle.session.proofs.run_step.Statement.{statement}
 use Rattle.session.proofs.run_step.Tie as tie
 use Rattle.session.proofs.run_step.Reads as reads
 use Rattle.session.proofs.run_step.Lts as lts
-use Rattle.linker_calls.proofs.initialize.Reads as initialize-reads
-use Rattle.linker_calls.proofs.load.Reads as load-reads
-use Rattle.linker_calls.proofs.unload.Reads as unload-reads
+use Rattle.session_call.proofs.make_call.Reads as make-call-reads
 
 enum-known-step : tie.Need-enum-known-step
 enum-known-step c = search needs
 
-initialize-requires : tie.Need-initialize-requires
-initialize-requires c κs = search needs
-
-enum-known-step-2 : tie.Need-enum-known-step-2
-enum-known-step-2 c = search needs
-
-load-requires : tie.Need-load-requires
-load-requires c κs = search needs
-
-enum-known-step-3 : tie.Need-enum-known-step-3
-enum-known-step-3 c = search needs
-
-unload-requires : tie.Need-unload-requires
-unload-requires c κs = search needs
+make-call-requires : tie.Need-make-call-requires
+make-call-requires c κs = search needs
 
 enum-told : tie.Need-enum-told
 enum-told c = search needs
@@ -49,97 +32,24 @@ returns : tie.Need-returns
 returns c =
     let p8 = c .before .before .before .before .before .before .before .before in
     let p14 = p8 .before .before .before .before .before .before in
-    let p15 = p14 .before in
-    let p19 = p15 .before .before .before .before in
-    let p20 = p19 .before in
-    let a = p20 .before .args in
-    let b = lent (a .window .now) (a .records .now) (a .names .now) (a .missing .now) in
-    let t : AreBytes b = (λ i. omega (arith, p20 .slice-known .given i), λ i. omega (arith, p19 .slice-known2 .given i)) in (
-      is-initialize (a .at) b _ _ (p15 .step .given .1) (p8 .initialize .ensures),
-      λ v. initialize-keeps (a .at) b v t _ _ (p14 .known-told .given .0 .1) (p14 .known-told .given .1 .0 .1) (p8 .initialize .ensures),
-    )
-
-same-length-5 : tie.Need-same-length-5
-same-length-5 c = search needs
-
-same-length-6 : tie.Need-same-length-6
-same-length-6 c = search needs
-
-same-length-7 : tie.Need-same-length-7
-same-length-7 c = search needs
-
-same-length-8 : tie.Need-same-length-8
-same-length-8 c = search needs
+    let a = p14 .before .before .before .before .before .before .args in
+    is-call (a .at) (lent (a .window .now) (a .records .now) (a .names .now) (a .missing .now)) (p14 .step .given .1) (p8 .make-call .ensures)
 
 returns-2 : tie.Need-returns-2
 returns-2 c =
-    let p8 = c .before .before .before .before .before .before .before .before in
-    let p14 = p8 .before .before .before .before .before .before in
-    let p15 = p14 .before in
-    let p19 = p15 .before .before .before .before in
-    let p20 = p19 .before in
-    let a = p20 .before .args in
-    let b = lent (a .window .now) (a .records .now) (a .names .now) (a .missing .now) in
-    let t : AreBytes b = (λ i. omega (arith, p20 .slice-known .given i), λ i. omega (arith, p19 .slice-known2 .given i)) in (
-      is-load (a .at) b _ _ _ (p15 .step2 .given .1) (p8 .load .ensures),
-      λ v. load-keeps (a .at) b v t _ _ _ (p14 .known-told2 .given .0 .1 .1 .0 .1) (p14 .known-told2 .given .0 .1 .1 .1 .0 .1) (p8 .load .ensures),
-    )
-
-same-length-9 : tie.Need-same-length-9
-same-length-9 c = search needs
-
-same-length-10 : tie.Need-same-length-10
-same-length-10 c = search needs
-
-same-length-11 : tie.Need-same-length-11
-same-length-11 c = search needs
-
-same-length-12 : tie.Need-same-length-12
-same-length-12 c = search needs
-
-returns-3 : tie.Need-returns-3
-returns-3 c =
-    let p8 = c .before .before .before .before .before .before .before .before in
-    let p14 = p8 .before .before .before .before .before .before in
-    let p15 = p14 .before in
-    let p19 = p15 .before .before .before .before in
-    let p20 = p19 .before in
-    let a = p20 .before .args in
-    let b = lent (a .window .now) (a .records .now) (a .names .now) (a .missing .now) in
-    let t : AreBytes b = (λ i. omega (arith, p20 .slice-known .given i), λ i. omega (arith, p19 .slice-known2 .given i)) in (
-      is-unload (a .at) b _ (p15 .step3 .given .1) (p8 .unload .ensures),
-      λ v. unload-keeps (a .at) b v t _ (p8 .unload .ensures),
-    )
-
-returns-4 : tie.Need-returns-4
-returns-4 c =
     let a = c .before .before .before .before .before .before .args in
-    (is-bad (a .at) (lent (a .window .now) (a .records .now) (a .names .now) (a .missing .now)) (c .enum-told .given .1) refl, λ v. v)
+    is-bad (a .at) (lent (a .window .now) (a .records .now) (a .names .now) (a .missing .now)) (c .enum-told .given .1)
 
 pub run-step-spec : {M : Type 1} → statement M
 run-step-spec =
     tie.close
     (tie.spec
     enum-known-step
-    initialize-requires
-    enum-known-step-2
-    load-requires
-    enum-known-step-3
-    unload-requires
+    make-call-requires
     enum-told
     same-length
     same-length-2
     same-length-3
     same-length-4
     returns
-    same-length-5
-    same-length-6
-    same-length-7
-    same-length-8
-    returns-2
-    same-length-9
-    same-length-10
-    same-length-11
-    same-length-12
-    returns-3
-    returns-4)
+    returns-2)

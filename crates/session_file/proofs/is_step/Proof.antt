@@ -9,12 +9,6 @@ enum-told c = search needs
 enum-told-2 : tie.Need-enum-told-2
 enum-told-2 c = search needs
 
-enum-told-3 : tie.Need-enum-told-3
-enum-told-3 c = search needs
-
-enum-told-4 : tie.Need-enum-told-4
-enum-told-4 c = search needs
-
 returns : tie.Need-returns
 unfolding isStep
 returns c = rw (c .enum-told .given .1)
@@ -23,13 +17,5 @@ returns-2 : tie.Need-returns-2
 unfolding isStep
 returns-2 c = rw (c .enum-told2 .given .1)
 
-returns-3 : tie.Need-returns-3
-unfolding isStep
-returns-3 c = rw (c .enum-told3 .given .1)
-
-returns-4 : tie.Need-returns-4
-unfolding isStep
-returns-4 c = rw (c .enum-told4 .given .1)
-
 pub is-step-spec : {M : Type 1} → statement M
-is-step-spec = tie.close (tie.spec enum-told enum-told-2 enum-told-3 enum-told-4 returns returns-2 returns-3 returns-4)
+is-step-spec = tie.close (tie.spec enum-told enum-told-2 returns returns-2)
