@@ -21,10 +21,10 @@ use Rattle.linker.specs.Rebase.{at-offset}
 use Rattle.linker.specs.Relocation.{writePlace, relocateFrom, relocateInto, applyInternalRelocation, applyInternalRelocations}
 use Rattle.history.specs.Image.{tables, segments, internals, start, count, entry, fileSegment, tag, kind, symbolSegment, addend}
 use Rattle.history.specs.Arrival.{Image, baseOf, sizeOf, movedOffset, segmentPlace, oldPlace, placedSegment, address, Area}
-use Rattle.history.specs.WellLaid.{table, Touched, internal, WordAt, Writes, WellLaid}
+use Rattle.history.specs.WellLaid.{table, internal, WordAt, Writes, WellLaid}
 use Rattle.history_steps.specs.Wp.{Memory, Does, Kept, Reads, does-mono, does-ret, does-read, does-loop, ends-privileged, reads-get8, reads-get32}
 use Rattle.history_steps.specs.View.{View, view-agree}
-use Rattle.history_steps.specs.Parts.{spot, spot-no-word, image-area, entry-in-table}
+use Rattle.history_steps.specs.Parts.{touched-other, spot, spot-no-word, image-area, entry-in-table}
 use Rattle.history_steps.specs.Reading.{plain-sum, four-at, entry-at, reads-segment}
 use Rattle.history_steps.specs.Batch.{Sort, sort, writes, writes-not}
 use Rattle.history_rebase.specs.Cells.{Among}
@@ -56,12 +56,12 @@ module _ (m : Image) (laid : WellLaid m) (low : Low (Area m)) where
     plain-byte
         : {N : Memory} → Kept (Inner m) M N → (j k : ℕ) → j < count F internals → k < 12
         → N (base + (entry F internals j + k)) ≡ F (entry F internals j + k)
-    unfolding tables pointed with-columns Among Touched
+    unfolding tables pointed with-columns Among
     plain-byte n j k l h =
         n (base + (entry F internals j + k))
         (λ c.
         laid .in-place .words-off (internal (c .0)) (c .1) (c .2) (table 10) (entry F internals j + k) (entry-in-table F 10 j k (lit< tt) l h)
-        ((λ e. absurd (omega (arith, e))), (λ e. absurd (omega (arith, e))), (λ e. absurd (omega (arith, e)))) (c .3))
+        (touched-other F 10 _ refl) (c .3))
         ∙ s .plain 10 j k (lit< tt) (omega arith) l h (λ x a. absurd a)
 
     module _ {N : Memory} (n : Kept (Inner m) M N) (j : ℕ) (l : j < count F internals) where

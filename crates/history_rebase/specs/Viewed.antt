@@ -135,8 +135,8 @@ module _ (m : Image) (laid : WellLaid m) (low : Low (Area m)) where
     stays o (table-count n l) = count-is m laid low s n (omega arith)
     stays o (export-tag i l) = column 1 i 4 (lit< tt) (omega arith) l (lit≤ tt) (inl (lit≤ tt), tt)
     stays o (indexed-tag i l) = column-0 2 i (lit< tt) (omega arith) l (lit≤ tt) tt
-    stays o (import-index i l) = column-0 7 i (lit< tt) (omega arith) l (lit≤ tt) (inr (lit≤ tt), tt)
-    stays o (import-tag i l) = column-0 8 i (lit< tt) (omega arith) l (lit≤ tt) (inr (lit≤ tt), tt)
+    stays o (import-index i l a) = column-0 7 i (lit< tt) (omega arith) l (lit≤ tt) (inr (lit≤ tt), tt)
+    stays o (import-tag i l a) = column-0 8 i (lit< tt) (omega arith) l (lit≤ tt) (inr (lit≤ tt), tt)
     stays o (indexed-count i l) =
         column 4 i 8 (lit< tt) (omega arith) l (lit≤ tt) (inl (lit≤ tt), (inl (lit≤ tt), (inr (lit≤ tt), tt)))
     stays o (anonymous-count i l) =

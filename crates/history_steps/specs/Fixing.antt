@@ -147,7 +147,7 @@ module _ (m : Image) (laid : WellLaid m) (low : Low (Area m)) where
     not-seen : (o : ℕ) → Spot F o → W (base + o) → ⊥
     unfolding InPart
     not-seen o (in-header p g l) w = let h = written o w in absurd (omega (arith, h .1 g, l))
-    not-seen o (in-table n i k l c d f g) w =
+    not-seen o (in-table n i k l d f g c) w =
         off-header o (table n) (λ z. absurd (omega (arith, z))) (entry-in-table F n i k (omega arith) f g) (written o w .0)
     not-seen o (in-external i k f g n) w = off-header o (table 5) (λ z. absurd (omega (arith, z))) (external-part m laid i k f g) (written o w .0)
     not-seen o (in-string p q f z i l) w = off-header o (string p) (λ y. absurd (omega (arith, y))) (f, z, i) (written o w .0)

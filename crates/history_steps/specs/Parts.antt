@@ -2,18 +2,20 @@
 use Prim.Native.Nat.{ℕ, zero, suc, _+_, _*_, _^_, _≤_, _<_}
 use mathlib.Core.Path.{_≡_, refl, sym, ap, _∙_}
 use mathlib.Core.Logic.{_≢_, _⊎_, inl, inr}
+use mathlib.Core.Bool.{Bool, true, false, not, _||_}
 use native.Mathlib.Omega.{arith}
 use native.Mathlib.Nat.{mul-le-mul-right, suc-mul, zero-mul}
 use native.Mathlib.Decide.{decLt}
 use lib.ListN.{length}
-use lib.Dec.{lit<}
+use lib.Dec.{eqb, lit<}
+use Rattle.window.specs.Memory.{if_then_else_}
 use Rattle.window.specs.Within.{In}
 use Rattle.layout.specs.Header.{headerSize}
 use Rattle.history.specs.Below.{AllBelow, below}
-use Rattle.history.specs.Image.{Table, tables, segments, namedExports, indexedExports, moduleEntries, externals, namedImports, indexedImports, anonymousImports, start, count, entry}
+use Rattle.history.specs.Image.{Table, tables, segments, namedExports, indexedExports, exportTree, moduleEntries, externals, namedImports, indexedImports, anonymousImports, staticAnonymous, staticRelocations, start, count, entry}
 use Rattle.history.specs.Arrival.{Image, baseOf, sizeOf, Area}
 use Rattle.history.specs.Imports.{Import, named, indexed, anonymous, importTable, importNumber, importEntry, IsImport}
-use Rattle.history.specs.WellLaid.{Part, header, table, string, tableNumber, Pointer, InString, InPart, Touched, LaidAlone, Relocated, WordAt, WellLaid}
+use Rattle.history.specs.WellLaid.{Part, header, table, string, tableNumber, Pointer, InString, InPart, Asked, Touched, LaidAlone, Relocated, WordAt, WellLaid}
 use Rattle.history_steps.specs.View.{Pointing, name-field, table-field, export-name, import-name, import-batch, entry-name, entry-indexed, entry-anonymous, Plain, handler-tag, table-count, export-tag, indexed-tag, import-index, import-tag, indexed-count, anonymous-count, relocation-tag, relocation-addend, PlainByte, relocation-kind, relocation-end, string-byte, Seen, pointing, plain, byte, segment}
 
 -- the nine tables' fields stand in the header past the list words
@@ -54,11 +56,67 @@ row i c w k h g =
     let m : suc i * w ≤ c * w = mul-le-mul-right w h in
     let e : suc i * w ≡ i * w + w = suc-mul i w in omega (arith, m, e)
 
+-- the tables that are read whole, by where their offset stands
+abbrev readWhole : ℕ → Bool
+readWhole f =
+    not (eqb f 0x100 || eqb f 0x108 || eqb f 0x110 || eqb f (exportTree .field) || eqb f (staticAnonymous .field) || eqb f (staticRelocations .field))
+
+abbrev fieldOf : Table → ℕ
+fieldOf t = t .field
+
+clash : {A : Type 0} → _≡_ {A = Bool} true false → A
+clash e = let z : _≡_ {A = ℕ} 1 0 = ap (λ (b : Bool). if b then 1 else 0) e in absurd (omega (arith, z))
+
+import-between : (i : Import) → (0x100 ≤ importTable i .field) × (importTable i .field ≤ 0x110)
+import-between (named i) = (omega arith, omega arith)
+import-between (indexed i) = (omega arith, omega arith)
+import-between (anonymous i) = (omega arith, omega arith)
+
+import-field : (i : Import) → readWhole (importTable i .field) ≡ false
+import-field (named i) = refl
+import-field (indexed i) = refl
+import-field (anonymous i) = refl
+
 module _ (F : ℕ → ℕ) where
+  -- such a table
+  pub touched-other : (n o : ℕ) → readWhole (tableNumber n .field) ≡ true → Touched F (table n) o
+  unfolding Touched
+  touched-other n o h = (no exportTree refl, no staticAnonymous refl, no staticRelocations refl, λ i l e a. no (importTable i) (import-field i) e)
+    where
+      no : {A : Type 0} (t : Table) → readWhole (t .field) ≡ false → tableNumber n ≡ t → A
+      no t f e = clash (sym h ∙ ap (λ (u : Table). readWhole (u .field)) e ∙ f)
+
+  -- an offset in the first word of an import is one of that import's entry
+  first-asked
+      : (i j : Import) (k : ℕ) → k < 8 → importTable i .field ≡ importTable j .field → In (importEntry F j) 4 (importEntry F i + k)
+      → (k < 4 → Asked F i) → Asked F j
+  unfolding importEntry entry Asked
+  first-asked i (named b) k w e h a = tt
+  first-asked (named c) (indexed b) k w e h a = absurd (omega (arith, e))
+  first-asked (indexed c) (indexed b) k w e h a = let z : c ≡ b = omega (arith, h) in rw (← z) (a (omega (arith, h)))
+  first-asked (anonymous c) (indexed b) k w e h a = absurd (omega (arith, e))
+  first-asked (named c) (anonymous b) k w e h a = absurd (omega (arith, e))
+  first-asked (indexed c) (anonymous b) k w e h a = absurd (omega (arith, e))
+  first-asked (anonymous c) (anonymous b) k w e h a = let z : c ≡ b = omega (arith, h) in rw (← z) (a (omega (arith, h)))
+
+  -- a table of imports: the first word of one that is asked for, the second of any
+  pub touched-import
+      : (n : ℕ) (i : Import) → tableNumber n ≡ importTable i → (k : ℕ) → k < 8 → (k < 4 → Asked F i) → Touched F (table n) (importEntry F i + k)
+  unfolding Touched
+  touched-import n i e k w a =
+      let b = import-between i in (
+        (λ f. absurd (omega (arith, b, ap fieldOf (sym e ∙ f)))),
+        (λ f. absurd (omega (arith, b, ap fieldOf (sym e ∙ f)))),
+        (λ f. absurd (omega (arith, b, ap fieldOf (sym e ∙ f)))),
+        (λ j l f h. first-asked i j k w (ap fieldOf (sym e ∙ f)) h a),
+      )
+
   -- a part that the linker reads, but not the list words and, of the external table, not the marks
   pub data Spot : ℕ → Type 0 where
     in-header : (o : ℕ) → 0xac ≤ o → o < 0x118 → Spot o
-    in-table : (n i k : ℕ) → n < 9 → n ≢ 3 → n ≢ 5 → i < count F (tableNumber n) → k < tableNumber n .width → Spot (entry F (tableNumber n) i + k)
+    in-table
+        : (n i k : ℕ) → n < 9 → n ≢ 5 → i < count F (tableNumber n) → k < tableNumber n .width
+        → Touched F (table n) (entry F (tableNumber n) i + k) → Spot (entry F (tableNumber n) i + k)
     in-external : (i k : ℕ) → i < count F externals → k < 12 → k ≢ 6 → Spot (entry F externals i + k)
     in-string : (p o : ℕ) → Pointer F p → p ≢ 0 → InString F p o → o < p + 512 → Spot o
 
@@ -66,37 +124,37 @@ module _ (F : ℕ → ℕ) where
   at-sum s e = rw (← e) s
 
   spot-pointing : (o k : ℕ) → k < 4 → Pointing F o → Spot (o + k)
-  unfolding tables importEntry
+  unfolding tables importEntry Asked
   spot-pointing o k l name-field = in-header (0xc0 + k) (omega arith) (omega arith)
   spot-pointing o k l (table-field n h) = let b = field-bounds n h in in-header (tableNumber n .field + k) (omega (arith, b)) (omega (arith, b))
-  spot-pointing o k l (export-name i h) = in-table 1 i k (lit< tt) (omega arith) (omega arith) h (omega arith)
-  spot-pointing o k l (import-name i h) = in-table 6 i k (lit< tt) (omega arith) (omega arith) h (omega arith)
+  spot-pointing o k l (export-name i h) = in-table 1 i k (lit< tt) (omega arith) h (omega arith) (touched-other 1 _ refl)
+  spot-pointing o k l (import-name i h) = in-table 6 i k (lit< tt) (omega arith) h (omega arith) (touched-import 6 (named i) refl k (omega arith) (λ a. tt))
   spot-pointing o k l (import-batch (named i) h) =
-      at-sum (in-table 6 i (4 + k) (lit< tt) (omega arith) (omega arith) h (omega arith)) (omega arith)
+      at-sum (in-table 6 i (4 + k) (lit< tt) (omega arith) h (omega arith) (touched-import 6 (named i) refl (4 + k) (omega arith) (λ a. tt))) (omega arith)
   spot-pointing o k l (import-batch (indexed i) h) =
-      at-sum (in-table 7 i (4 + k) (lit< tt) (omega arith) (omega arith) h (omega arith)) (omega arith)
+      at-sum (in-table 7 i (4 + k) (lit< tt) (omega arith) h (omega arith) (touched-import 7 (indexed i) refl (4 + k) (omega arith) (λ a. absurd (omega arith)))) (omega arith)
   spot-pointing o k l (import-batch (anonymous i) h) =
-      at-sum (in-table 8 i (4 + k) (lit< tt) (omega arith) (omega arith) h (omega arith)) (omega arith)
-  spot-pointing o k l (entry-name j h) = in-table 4 j k (lit< tt) (omega arith) (omega arith) h (omega arith)
+      at-sum (in-table 8 i (4 + k) (lit< tt) (omega arith) h (omega arith) (touched-import 8 (anonymous i) refl (4 + k) (omega arith) (λ a. absurd (omega arith)))) (omega arith)
+  spot-pointing o k l (entry-name j h) = in-table 4 j k (lit< tt) (omega arith) h (omega arith) (touched-other 4 _ refl)
   spot-pointing o k l (entry-indexed j h) =
-      at-sum (in-table 4 j (4 + k) (lit< tt) (omega arith) (omega arith) h (omega arith)) (omega arith)
+      at-sum (in-table 4 j (4 + k) (lit< tt) (omega arith) h (omega arith) (touched-other 4 _ refl)) (omega arith)
   spot-pointing o k l (entry-anonymous j h) =
-      at-sum (in-table 4 j (12 + k) (lit< tt) (omega arith) (omega arith) h (omega arith)) (omega arith)
+      at-sum (in-table 4 j (12 + k) (lit< tt) (omega arith) h (omega arith) (touched-other 4 _ refl)) (omega arith)
 
   spot-plain : (o k : ℕ) → k < 4 → Plain F o → Spot (o + k)
-  unfolding tables
+  unfolding tables importEntry
   spot-plain o k l handler-tag = in-header (0xac + k) (omega arith) (omega arith)
   spot-plain o k l (table-count n h) =
       let b = field-bounds n h in in-header (tableNumber n .field + 4 + k) (omega (arith, b)) (omega (arith, b))
   spot-plain o k l (export-tag i h) =
-      at-sum (in-table 1 i (4 + k) (lit< tt) (omega arith) (omega arith) h (omega arith)) (omega arith)
-  spot-plain o k l (indexed-tag i h) = in-table 2 i k (lit< tt) (omega arith) (omega arith) h (omega arith)
-  spot-plain o k l (import-index i h) = in-table 7 i k (lit< tt) (omega arith) (omega arith) h (omega arith)
-  spot-plain o k l (import-tag i h) = in-table 8 i k (lit< tt) (omega arith) (omega arith) h (omega arith)
+      at-sum (in-table 1 i (4 + k) (lit< tt) (omega arith) h (omega arith) (touched-other 1 _ refl)) (omega arith)
+  spot-plain o k l (indexed-tag i h) = in-table 2 i k (lit< tt) (omega arith) h (omega arith) (touched-other 2 _ refl)
+  spot-plain o k l (import-index i h a) = in-table 7 i k (lit< tt) (omega arith) h (omega arith) (touched-import 7 (indexed i) refl k (omega arith) (λ _. a))
+  spot-plain o k l (import-tag i h a) = in-table 8 i k (lit< tt) (omega arith) h (omega arith) (touched-import 8 (anonymous i) refl k (omega arith) (λ _. a))
   spot-plain o k l (indexed-count j h) =
-      at-sum (in-table 4 j (8 + k) (lit< tt) (omega arith) (omega arith) h (omega arith)) (omega arith)
+      at-sum (in-table 4 j (8 + k) (lit< tt) (omega arith) h (omega arith) (touched-other 4 _ refl)) (omega arith)
   spot-plain o k l (anonymous-count j h) =
-      at-sum (in-table 4 j (16 + k) (lit< tt) (omega arith) (omega arith) h (omega arith)) (omega arith)
+      at-sum (in-table 4 j (16 + k) (lit< tt) (omega arith) h (omega arith) (touched-other 4 _ refl)) (omega arith)
   spot-plain o k l (relocation-tag j h) = in-external j k h (omega arith) (omega arith)
   spot-plain o k l (relocation-addend j h) = at-sum (in-external j (8 + k) h (omega arith) (omega arith)) (omega arith)
 
@@ -107,7 +165,7 @@ module _ (F : ℕ → ℕ) where
   spot o (byte p (relocation-kind j h)) = in-external j 4 h (lit< tt) (omega arith)
   spot o (byte p (relocation-end j h)) = in-external j 5 h (lit< tt) (omega arith)
   spot o (byte p (string-byte q r h z i l)) = in-string q r h z i l
-  spot o (segment i k l h) = in-table 0 i k (lit< tt) (omega arith) (omega arith) h l
+  spot o (segment i k l h) = in-table 0 i k (lit< tt) (omega arith) h l (touched-other 0 _ refl)
 
   -- an entry's bytes lie in its table
   pub entry-in-table
@@ -120,10 +178,8 @@ module _ (F : ℕ → ℕ) where
   pub spot-part : (o : ℕ) → Spot o → (r : Part) × InPart F r o × Touched F r o
   unfolding InPart Touched tables
   spot-part o (in-header p g l) = (header, omega arith, tt)
-  spot-part o (in-table n i k l a b h g) =
-      (table n, entry-in-table n i k (omega arith) h g, (a, (λ e. absurd (omega arith)), (λ e. absurd (omega arith))))
-  spot-part o (in-external i k h g e) =
-      (table 5, entry-in-table 5 i k (lit< tt) h g, ((λ e. absurd (omega arith)), (λ e. absurd (omega arith)), (λ e. absurd (omega arith))))
+  spot-part o (in-table n i k l b h g a) = (table n, entry-in-table n i k (omega arith) h g, a)
+  spot-part o (in-external i k h g e) = (table 5, entry-in-table 5 i k (lit< tt) h g, touched-other 5 _ refl)
   spot-part o (in-string p q h z i l) = (string p, (h, z, i), l)
 
 module _ (m : Image) (laid : WellLaid m) where
@@ -178,7 +234,7 @@ module _ (m : Image) (laid : WellLaid m) where
   unfolding InPart tables entry
   spot-no-mark o (in-header p g l) j h e =
       apart header (table 5) o (λ z. absurd (omega (arith, ap sort z))) (omega arith) (rw e (external-part j 6 h (lit< tt)))
-  spot-no-mark o (in-table n i k l a b f g) j h e =
+  spot-no-mark o (in-table n i k l b f g a) j h e =
       apart (table n) (table 5) o (λ z. b (ap number z)) (entry-in-table F₀ n i k (omega arith) f g) (rw e (external-part j 6 h (lit< tt)))
   spot-no-mark o (in-external i k f g n) j h e = n (omega arith)
   spot-no-mark o (in-string p q f z i l) j h e =
@@ -188,7 +244,7 @@ module _ (m : Image) (laid : WellLaid m) where
   pub spot-no-list : (o : ℕ) → Spot F₀ o → 0x90 ≤ o
   unfolding InPart
   spot-no-list o (in-header p g l) = omega arith
-  spot-no-list o (in-table n i k l a b f g) =
+  spot-no-list o (in-table n i k l b f g a) =
       past-header o (table n) (λ z. absurd (omega (arith, ap sort z))) (entry-in-table F₀ n i k (omega arith) f g)
   spot-no-list o (in-external i k f g n) = past-header o (table 5) (λ z. absurd (omega (arith, ap sort z))) (external-part i k f g)
   spot-no-list o (in-string p q f z i l) = past-header o (string p) (λ z. absurd (omega (arith, ap sort z))) (f, z, i)

@@ -20,7 +20,7 @@ use Rattle.linker.specs.Resets.{resetAt}
 use Rattle.history.specs.Image.{Table, tables, moduleEntries, indexedImports, anonymousImports, externals, start, count, entry}
 use Rattle.history.specs.Arrival.{Image, baseOf, sizeOf, movedOffset, handler, Area}
 use Rattle.history.specs.Imports.{Import, named, indexed, anonymous, importTable, importNumber, importEntry, IsImport, wanted, batch, runStart, runCount, InRun, BatchOf}
-use Rattle.history.specs.WellLaid.{table, tableNumber, WellLaid}
+use Rattle.history.specs.WellLaid.{Asked, table, tableNumber, WellLaid}
 use Rattle.history_steps.specs.Wp.{Memory, Does, Reads, does-mono, does-ret, does-then, does-read, reads-get32}
 use Rattle.history_steps.specs.View.{View, import-index, import-tag, entry-indexed, entry-anonymous, indexed-count, anonymous-count}
 use Rattle.history_steps.specs.Parts.{part-inside, entry-in-table}
@@ -110,10 +110,11 @@ module _ (m : Image) (laid : WellLaid m) (low : Low (Area m)) {T : Memory} (view
     pub one : (i j : ℕ) → make i ≡ make j → i ≡ j
     pub start-same : (j i k : ℕ) → runStart F j (make i) ≡ runStart F j (make k)
     pub count-same : (j i k : ℕ) → runCount F j (make i) ≡ runCount F j (make k)
-    pub asks : (i : ℕ) → IsImport F (make i) → (N : Memory) → View m N → word N (base + importEntry F (make i)) ≡ wanted F (make i)
+    pub asked : (j i : ℕ) → j < count F moduleEntries → InRun F j (make i) → Asked F (make i)
+    pub asks : (i : ℕ) → IsImport F (make i) → Asked F (make i) → (N : Memory) → View m N → word N (base + importEntry F (make i)) ≡ wanted F (make i)
 
   pub by-index : Kind indexed 7
-  unfolding tables importEntry runStart runCount wanted
+  unfolding tables importEntry runStart runCount wanted Asked
   by-index =
       record {
         tabled = lit< tt;
@@ -125,11 +126,12 @@ module _ (m : Image) (laid : WellLaid m) (low : Low (Area m)) {T : Memory} (view
         one = λ i j e. ap importNumber e;
         start-same = λ j i k. refl;
         count-same = λ j i k. refl;
-        asks = λ i l N w. w .kept (entry F indexedImports i) (import-index i l);
+        asked = λ j i l r. (j, l, r);
+        asks = λ i l a N w. w .kept (entry F indexedImports i) (import-index i l a);
       }
 
   pub by-tag : Kind anonymous 8
-  unfolding tables importEntry runStart runCount wanted
+  unfolding tables importEntry runStart runCount wanted Asked
   by-tag =
       record {
         tabled = lit< tt;
@@ -141,7 +143,8 @@ module _ (m : Image) (laid : WellLaid m) (low : Low (Area m)) {T : Memory} (view
         one = λ i j e. ap importNumber e;
         start-same = λ j i k. refl;
         count-same = λ j i k. refl;
-        asks = λ i l N w. w .kept (entry F anonymousImports i) (import-tag i l);
+        asked = λ j i l r. (j, l, r);
+        asks = λ i l a N w. w .kept (entry F anonymousImports i) (import-tag i l a);
       }
 
   module _ (make : ℕ → Import) (t : ℕ) (q : Kind make t) (j : ℕ) (l : j < count F moduleEntries) where
@@ -243,7 +246,8 @@ module _ (m : Image) (laid : WellLaid m) (low : Low (Area m)) {T : Memory} (view
         let r = run-import k h in
         rw (run-address k (r .0) h (r .1))
         (does-mono S
-        (links-one offered symbol (make (r .0)) (r .1 .is) (q .asks (r .0) (r .1 .is)) (same (r .0) (r .1 .is) (in-run k (r .0) h (r .1))) t)
+        (links-one offered symbol (make (r .0)) (r .1 .is) (q .asks (r .0) (r .1 .is) (q .asked j (r .0) l (in-run k (r .0) h (r .1))))
+        (same (r .0) (r .1 .is) (in-run k (r .0) h (r .1))) t)
         (λ _ L c. (c .0, c .1, at-one k (r .0) (r .1) (c .2))))) s)
         (λ _ N c. (c .0, c .1, run-begins (c .2)))
 

@@ -18,12 +18,12 @@ use Rattle.layout_relocation.specs.declared.Patch.the-variants.{Word, Nothing}
 use Rattle.layout.specs.declared.segments.Address.{Address}
 use Rattle.layout.specs.declared.segments.Address.the-variants.{At, Nowhere}
 use Rattle.linker.specs.Relocation.{addressOr0}
-use Rattle.history.specs.Image.{externals, count, entry, tag, kind, addend}
+use Rattle.history.specs.Image.{tables, externals, count, entry, tag, kind, addend}
 use Rattle.history.specs.Arrival.{Image, baseOf, sizeOf, address, Area}
 use Rattle.history.specs.WellLaid.{header, table, InPart, Touched, Relocated, external, internal, WordAt, Writes, WellLaid}
 use Rattle.history_steps.specs.Wp.{Memory}
 use Rattle.history_steps.specs.View.{Seen, View, view-agree}
-use Rattle.history_steps.specs.Parts.{Spot, spot, spot-inside, spot-no-mark, spot-no-list, spot-no-word, image-area, part-inside, external-part, past-header, sort}
+use Rattle.history_steps.specs.Parts.{touched-other, Spot, spot, spot-inside, spot-no-mark, spot-no-list, spot-no-word, image-area, part-inside, external-part, past-header, sort}
 
 -- the word that external entry j has at p for the symbol a
 unfoldable pub wordFor : Patch → ℕ
@@ -124,10 +124,10 @@ module _ (m : Image) where
         numberOf (internal k) = k
 
     pub word-no-mark : (j p i : ℕ) → WordAt m (external j) p → i < count F externals → In p 4 (markAt i) → ⊥
-    unfolding markAt Touched
+    unfolding markAt tables
     word-no-mark j p i h l a =
         laid .in-place .words-off (external j) p h (table 5) (entry F externals i + 6) (external-part m laid i 6 l (lit< tt))
-        ((λ e. absurd (omega (arith, e))), (λ e. absurd (omega (arith, e))), (λ e. absurd (omega (arith, e)))) a
+        (touched-other F 5 _ refl) a
 
     word-no-list : (j p x : ℕ) → WordAt m (external j) p → In nextAt 8 x → In p 4 x → ⊥
     unfolding InPart Touched

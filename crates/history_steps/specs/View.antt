@@ -18,7 +18,7 @@ use Rattle.layout.specs.declared.format.Segment.{Segment}
 use Rattle.history.specs.Image.{Table, tables, segments, namedExports, indexedExports, moduleEntries, externals, namedImports, indexedImports, anonymousImports, start, count, entry, fileSegment}
 use Rattle.history.specs.Arrival.{Image, baseOf, sizeOf, movedOffset, segmentPlace, Area}
 use Rattle.history.specs.Imports.{Import, named, indexed, anonymous, importTable, importNumber, importEntry, IsImport}
-use Rattle.history.specs.WellLaid.{Part, header, table, string, tableNumber, Pointer, of-module, of-export, of-import, of-entry, InString, InPart, Touched, LaidAlone, WellLaid}
+use Rattle.history.specs.WellLaid.{Part, header, table, string, tableNumber, Pointer, of-module, of-export, of-import, of-entry, InString, InPart, Asked, LaidAlone, WellLaid}
 use Rattle.history_steps.specs.Wp.{Memory}
 
 -- the words that a rebase moves and later steps read: in the header, the name's and those of the nine tables they use; the tables' pointers
@@ -38,8 +38,8 @@ pub data Plain (F : ℕ → ℕ) : ℕ → Type 0 where
   table-count : (n : ℕ) → n < 9 → Plain F (tableNumber n .field + 4)
   export-tag : (i : ℕ) → i < count F namedExports → Plain F (entry F namedExports i + 4)
   indexed-tag : (i : ℕ) → i < count F indexedExports → Plain F (entry F indexedExports i)
-  import-index : (i : ℕ) → i < count F indexedImports → Plain F (entry F indexedImports i)
-  import-tag : (i : ℕ) → i < count F anonymousImports → Plain F (entry F anonymousImports i)
+  import-index : (i : ℕ) → i < count F indexedImports → Asked F (indexed i) → Plain F (entry F indexedImports i)
+  import-tag : (i : ℕ) → i < count F anonymousImports → Asked F (anonymous i) → Plain F (entry F anonymousImports i)
   indexed-count : (j : ℕ) → j < count F moduleEntries → Plain F (entry F moduleEntries j + 8)
   anonymous-count : (j : ℕ) → j < count F moduleEntries → Plain F (entry F moduleEntries j + 16)
   relocation-tag : (j : ℕ) → j < count F externals → Plain F (entry F externals j)
