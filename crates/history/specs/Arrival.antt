@@ -134,7 +134,7 @@ module _ (m : Image) where
   unfoldable pub anonymousOf : ℕ → Address
   anonymousOf t = if ltb (tagSegment t) (count F segments) then At (segmentPlace (tagSegment t) ⊕ tagOffset t) else Nowhere
 
--- "Bytes when loaded are those just before that call."
+-- "Bytes when loaded are those just before that call .."
 pub record Arrival : Type 0 where
   pub coming : Coming
   pub bytes : ℕ → ℕ

@@ -68,7 +68,7 @@ unfoldable pub CrsFirst : List Turn → Type 0
 CrsFirst [] = Unit {0}
 CrsFirst (t ∷ ts) = (done t ≡ true → InOrder (t .call) (arrived ts)) × CrsFirst ts
 
--- of calls on the session's own window, which never changes its length: that of the last call is any call's
+-- of the session's own calls: in the window lent to the last; where they follow document 01 all have its address and length
 unfoldable pub InWindow : List Turn → Image → Type 0
 InWindow [] a = Unit {0}
 InWindow (t ∷ ts) a = (q : ℕ) → Area a q → In (t .at) (length (t .before .window)) q
@@ -118,7 +118,7 @@ lefts (t ∷ ts) q = byteAt (t .at) (after t .window) q
 abbrev pub ends : List Turn → ℕ → ℕ
 ends ts = lefts (own ts)
 
--- M are the bytes, S stands: of every module in S
+-- every import of every module in S holds its address, where M are the bytes and S stands
 unfoldable pub AllHold : List Image → (ℕ → ℕ) → Type 0
 AllHold S M = Each (λ m. ImportClause S M m × CrsClause M m) S
 

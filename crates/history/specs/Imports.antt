@@ -85,7 +85,7 @@ Exports x m (indexed i) p =
 Exports x m (anonymous i) p =
     From (m .file) (anonymous i) (moduleName (x .file)) × (anonymousOf x (wanted (m .file) (anonymous i)) ≡ At p)
 
--- x is the exporter: the CRS is none of its own imports'
+-- x is the exporter; the CRS never is of its own imports
 unfoldable pub Exporter : Image → Image → Import → ℕ → Type 0
 Exporter x m i p = Exports x m i p × (isCrs (m .coming) ≡ true → isCrs (x .coming) ≡ true → ⊥)
 

@@ -13,7 +13,7 @@ use Rattle.linker.specs.Refusals.{lentRegister}
 use Rattle.linker.specs.Valid.{Valid}
 use Rattle.history.specs.Sessions.{given, Turn, SameBytes}
 
--- which outcomes a linker may give for a call, the window's address and the lent bytes
+-- which outcomes a linker may give for a call, the window's address and the lent bytes; one that gives none makes no session
 abbrev pub Linker : Type 1
 Linker = Call → ℕ → Bytes → Outcome → Type 0
 
@@ -25,7 +25,7 @@ unfoldable pub Made : Linker → List Turn → Type 0
 Made L [] = Unit {0}
 Made L (t ∷ ts) = Gave L t × Made L ts
 
--- what the exported calls promise: their contracts, word for word
+-- what the exported calls promise: their contracts, word for word, a load's six places as one `Lent`
 unfoldable pub Promised : Linker
 Promised (Initialize base size) at b o = o ≡ initializeOutcome base size at b
 Promised (Load l auto level) at b o = o ≡ loadOutcome l auto level at b

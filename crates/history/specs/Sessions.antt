@@ -1,4 +1,5 @@
--- "Sessions in demand 3": calls, what came and stands after them, and what each is lent. Nothing here asks what the calls gave.
+-- "Sessions in demand 3": calls, what came and stands after them, and what each is lent. What came and stands is read from the definition
+-- (`expected`); what is lent next is what the call left (`after`), and that it is document 01's is not asked here.
 use Prim.Native.Nat.{ℕ, _^_, _<_}
 use mathlib.Core.Path.{_≡_}
 use mathlib.Core.Logic.{_⊎_}
@@ -22,7 +23,7 @@ given (Initialize base size) at b = initializeOutcome base size at b
 given (Load l auto level) at b = loadOutcome l auto level at b
 given (Unload base) at b = unloadOutcome base at b
 
--- a call of a session: the window's address and the bytes that it was lent, and what it gave
+-- a call of a session: the window's address and the bytes that it was lent, and what it gave; sessions list their calls from the last one back
 pub record Turn : Type 0 where
   pub call : Call
   pub at : ℕ
@@ -43,7 +44,7 @@ done t = eqb (expected t .number) 0
 unfoldable pub unfit : Turn → Bool
 unfit t = eqb (expected t .number) 3 || eqb (expected t .number) 4
 
--- the calls on the session's own window and register; a session's calls are listed from the last one back
+-- the calls lent a window and a register that keep their rules: these are the session's own
 unfoldable pub own : List Turn → List Turn
 own [] = []
 own (t ∷ ts) = if unfit t then own ts else t ∷ own ts
@@ -95,7 +96,7 @@ Words (Load l auto level) =
     × (l .«bss_size» < 2 ^ 32) × (auto < 2 ^ 32) × (level < 2 ^ 32)
 Words (Unload base) = base < 2 ^ 32
 
--- and what is lent are bytes
+-- and the window and the records lent are bytes
 abbrev pub Typed : Turn → Type 0
 Typed t = Words (t .call) × AreBytes (t .before)
 
@@ -110,7 +111,7 @@ module _ (at : ℕ) where
     pub length-kept : length (left .window) ≡ length (got .window)
     pub areas-kept : Agree (Areas (arrived ts)) (byteAt at (left .window)) (byteAt at (got .window))
 
-  -- what the next call may be lent, after the calls ts on the session's own window and register
+  -- what the next call may be lent, after its own calls ts
   unfoldable pub Lends : List Turn → Bytes → Type 0
   Lends [] b = Fresh b
   Lends (t ∷ ts) b = Between (t ∷ ts) (after t) b
@@ -120,7 +121,7 @@ module _ (at : ℕ) where
   unfoldable pub Next : List Turn → Turn → Type 0
   Next ts t = unfit t ≡ false → (t .at ≡ at) × Lends (own ts) (t .before)
 
-  -- "A session is a list of .. calls, of any length, on a window and register of its own."
+  -- "A session is a list of .. calls, of any length, on a window and register of its own." What made them is said apart (`Made`).
   unfoldable pub Trace : List Turn → Type 0
   Trace [] = Unit {0}
   Trace (t ∷ ts) = Typed t × Next ts t × Trace ts

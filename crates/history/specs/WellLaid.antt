@@ -51,8 +51,8 @@ module _ (F : ℕ → ℕ) where
   Asked (indexed i) = (j : ℕ) × (j < count F moduleEntries) × InRun F j (indexed i)
   Asked (anonymous i) = (j : ℕ) × (j < count F moduleEntries) × InRun F j (anonymous i)
 
-  -- what of a part the linker reads or writes: nothing of the export tree and the two static tables, what an import asks for only where
-  -- it is read, and of a string at most 512 bytes
+  -- what of a part the linker reads or writes: nothing of the export tree and the two static tables, what an import asks for only if it is
+  -- `Asked`, and of a string at most 512 bytes
   unfoldable pub Touched : Part → ℕ → Type 0
   Touched header o = Unit {0}
   Touched (table n) o =

@@ -121,6 +121,13 @@ promised-given (Initialize base size) at b o e = e
 promised-given (Load l auto level) at b o e = e
 promised-given (Unload base) at b o e = e
 
+-- and leave no call without an outcome
+pub promised-answers : (c : Call) (at : ℕ) (b : Bytes) → (o : Outcome) × Promised c at b o
+unfolding Promised given
+promised-answers (Initialize base size) at b = (given (Initialize base size) at b, refl)
+promised-answers (Load l auto level) at b = (given (Load l auto level) at b, refl)
+promised-answers (Unload base) at b = (given (Unload base) at b, refl)
+
 pub promised-follows : (t : Turn) → Gave Promised t → Gave Follows t
 promised-follows t h =
     let e = promised-given (t .call) (t .at) (t .before) (t .gave) h in

@@ -1,6 +1,6 @@
 -- What a call promises of the session that it goes on: demand 3, of the code that runs.
 use Prim.Native.Nat.{ℕ}
-use mathlib.Core.List.{List, _∷_}
+use mathlib.Core.List.{List, [], _∷_}
 use Rattle.linker.specs.declared.call.Call.{Call}
 use Rattle.linker.specs.Outcome.{Bytes, Outcome}
 use Rattle.history.specs.Sessions.{Turn, Typed, standing, Next, Trace}
@@ -20,16 +20,21 @@ pub record Continues (t : Turn) : Type 0 where
   pub promised : Gave Promised t
   -- document 01's outcome
   pub follows : Gave Follows t
-  -- the arguments are 32-bit numbers, what is lent are bytes
+  -- the arguments are 32-bit numbers, the window and the records bytes
   pub typed : Typed t
   -- a session with this turn added is again a session
   pub goes-on : (at : ℕ) (ts : List Turn) → Session at ts → Next at ts t → Session at (t ∷ ts)
-  -- under the premises every import holds its address after it
+  -- under the premises every import holds its address after it, and after each call before it
   pub linked : (at : ℕ) (ts : List Turn) → Session at ts → Next at ts t → Premises (t ∷ ts) → Linked (t ∷ ts)
   -- and no byte differs from another session that ends alike
   pub no-byte
       : (at bt : ℕ) (ts us : List Turn) → Session at ts → Session bt us → Next at ts t → Premises (t ∷ ts) → Premises us
       → SameStanding (standing (t ∷ ts)) (standing us) → NoByteDiffers (t ∷ ts) us
+
+-- no call yet
+pub begins : (at : ℕ) → Session at []
+unfolding Session Trace Made
+begins at = (tt, tt)
 
 -- one more
 added : (t : Turn) → Typed t → Gave Promised t → (at : ℕ) (ts : List Turn) → Session at ts → Next at ts t → Session at (t ∷ ts)

@@ -1,4 +1,4 @@
-// A call of a session: any of the three exported calls, by value. Demand 3 speaks of what this function makes.
+// A call of a session: any of the three exported calls, by value, with demand 3 in its contract.
 ghost use Rattle.linker_calls.specs.Steps.{lent, left};
 ghost use Rattle.session_call.specs.Continues.{turn, Continues};
 use linker::call::Call;
@@ -12,7 +12,8 @@ pub struct Answered {
     pub value: u32,
 }
 
-// Makes the call. Its outcome is document 01's; a session with it added is one again, so after it every import holds its address.
+// Makes the call. Its outcome is document 01's; a session with it added is one again, so under demand 3's premises every import then
+// holds its address, and no byte differs from another session that ends alike.
 pub fn make_call(
     call: Call,
     at: u32,
