@@ -1,4 +1,4 @@
-use Rattle.linker_calls.proofs.Calls.{initialize-refused, initialize-hindered, initialize-done}
+use Rattle.linker_calls.proofs.Calls.{tests-encoded, initialize-refused, initialize-hindered, initialize-done}
 use Rattle.linker_calls.specs.Steps.{lent}
 use borrow.Author.Needs.{needs}
 use Rattle.linker_calls.proofs.initialize.Statement.{statement}
@@ -29,7 +29,11 @@ rebase-static-requires : tie.Need-rebase-static-requires
 rebase-static-requires c κs = search needs
 
 enter-requires : tie.Need-enter-requires
-enter-requires c κs = search needs
+enter-requires c κs =
+    let p7 = c .before .before .before .before .before .before .before in
+    let p8 = p7 .before in
+    let a = p8 .before .before .before .before .before .before .before .before .before .args in
+    tests-encoded (a .at) (lent (a .window .now) (a .records .now) (a .names .now) (a .missing .now)) (p8 .tested .ensures) (p7 .if1 .left)
 
 same-length-5 : tie.Need-same-length-5
 same-length-5 c = search needs
