@@ -5,8 +5,8 @@ use mathlib.Core.List.{List}
 use mathlib.Core.Bool.{Bool, true, false}
 use native.Mathlib.Omega.{arith}
 use lib.ListN.{length}
-use Rattle.window.specs.Memory.{if_then_else_, goodWindow}
-use Rattle.window.specs.Access.{Prog, ret, _>>=_, run, run-bind, reads-same}
+use Rattle.window.specs.Memory.{goodWindow}
+use Rattle.window.specs.Access.{Prog, run, run-bind}
 use Rattle.layout.specs.Header.{nextCro, previousCro}
 use Rattle.layout.specs.Segments.{setField}
 use Rattle.register.specs.Module.{Module, Register}
@@ -15,8 +15,8 @@ use Rattle.register.specs.Change.{appended}
 use Rattle.register.specs.Buffers.{encodeRecords, encodeNames}
 use Rattle.linker.specs.declared.rebase.Rebased.{Rebased}
 use Rattle.linker.specs.Relocation.{resetExternalRelocations}
-use Rattle.linker.specs.Exports.{readModule, readModule-reads}
-use Rattle.linker.specs.Calls.{Answer, NoRoom, number, value, fits, enter}
+use Rattle.linker.specs.Exports.{readModule}
+use Rattle.linker.specs.Calls.{Answer, number, value, fits, enter}
 use Rattle.linker.specs.Outcome.{Bytes, registerAfter, settle, outcome}
 use Rattle.linker.specs.Refusals.{lentRegister, refuses-3, refuses-4}
 use Rattle.linker_exports.specs.Exported.{registerIn, exported, fits-in, records-in, names-in}

@@ -43,7 +43,7 @@ module _ (at : ℕ) (w records names : List ℕ) (base size : ℕ) (auto : Bool)
   unfolding entered enter run number registerAfter
   enter-2 e = rw e
 
-  -- the module that is read from the window u, as the answer that its entry is
+  -- the answer that the entry of the module is which window u holds
   abbrev answer : List ℕ → Indexed → Answer
   answer u i = entryAnswer (appended (registerIn records names) (run at (readModule base size auto) u .0)) i
 
@@ -53,7 +53,8 @@ module _ (at : ℕ) (w records names : List ℕ) (base size : ℕ) (auto : Bool)
     enter-is =
         let v = run at (resetExternalRelocations base) w .1 in
         let z : _≡_ {A = Answer × List ℕ × List ℕ} (answer v i, rs, ns) (exported records names (run at (readModule base size auto) v .0)) =
-        subst (λ t. _≡_ {A = Answer × List ℕ × List ℕ} (answer t i, rs, ns) (exported records names (run at (readModule base size auto) t .0))) ew ei in
+        subst (λ t. _≡_ {A = Answer × List ℕ × List ℕ} (answer t i, rs, ns) (exported records names (run at (readModule base size auto) t .0)))
+        ew ei in
         rw (e, ew, entered-done at base size auto w records names) (ap (λ (y : Answer × List ℕ × List ℕ). (number (y .0), v, y .1, y .2)) z)
 
     pub enter-5 : i ≡ indexed.NoRoom → _≡_ {A = Now} (5, u, rs, ns) (entered at records names base size auto x w)

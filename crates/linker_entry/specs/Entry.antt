@@ -5,7 +5,7 @@ use mathlib.Core.List.{List}
 use mathlib.Core.Bool.{Bool, true, false}
 use lib.ListN.{length}
 use Rattle.window.specs.Memory.{if_then_else_}
-use Rattle.window.specs.Access.{Prog, ret, _>>=_, run, run-bind, reads-same}
+use Rattle.window.specs.Access.{Prog, ret, run, run-bind, reads-same}
 use Rattle.register.specs.Module.{Module, Register}
 use Rattle.register.specs.Change.{appended}
 use Rattle.linker.specs.declared.rebase.Rebased.{Rebased}
@@ -44,7 +44,8 @@ module _ (at base size : ℕ) (auto : Bool) (w : List ℕ) where
   enter-done records names r next =
       run-bind at (resetExternalRelocations base) _ w
       ∙ run-bind at (readModule base size auto) _ v
-      ∙ ap (run at (if fits records names r m then next m else ret NoRoom)) (reads-same at (readModule base size auto) v (readModule-reads base size auto))
+      ∙ ap (run at (if fits records names r m then next m else ret NoRoom))
+      (reads-same at (readModule base size auto) v (readModule-reads base size auto))
 
   pub entered-done
       : (records names : List ℕ)

@@ -29,11 +29,12 @@ use Rattle.linker_exports.specs.Writing.{Ground, Writing, roomy, fits-ro
 use Rattle.linker_exports.specs.Proper.{module-proper}
 use Rattle.linker_exports.specs.Modules.{withSegments, withNamed, withIndexeds, Turns, Empty, Lists, full-lists}
 
--- the register that records and names encode; its missing names stand in a buffer of their own, and are only counted here
+-- the register that records and names encode; its missing names stand in a buffer of their own: each is read as empty here, and
+-- only how many they are is told
 unfoldable pub registerIn : List ℕ → List ℕ → Register
 registerIn records names = registerOf records names []
 
--- the answer that each case is, r being the register with the module
+-- the answer of document 01's table that each case is, r being the register with the module
 unfoldable pub entryAnswer : Register → Indexed → Answer
 entryAnswer r Appended = Done 0 r
 entryAnswer r NoRoom = answer.NoRoom
@@ -124,7 +125,13 @@ module _ (records names missing : List ℕ) (b : Below 256 records) (e : isRegis
     open-is d p h =
         let f = finishes ground m d rs ns h in
         let s = stays ground m d rs ns h p in (
-          rw (room (holding ground m d rs ns h), records-in records names missing m (length records), names-in records names missing m (length names), f .0, f .1),
+          rw (
+            room (holding ground m d rs ns h),
+            records-in records names missing m (length records),
+            names-in records names missing m (length names),
+            f .0,
+            f .1,
+          ),
           s .0,
           rw (fits-roomy ground m, holding ground m d rs ns h) (s .1),
         )
@@ -161,7 +168,8 @@ module _ (at : ℕ) (w rs ns : List ℕ) (base size : ℕ) (auto : Bool) (b : Be
 
   pub not-begun : r₁ ≡ Full → Result NoRoom rs₁ ns₁
   not-begun z =
-      of-all NoRoom (full-is rs ns missing b h (all new) rs₁ ns₁ (full-lists _ _ _ g new rs₁ ns₁ new-empty (subst (λ t. Writing g new t rs₁ ns₁) z begun)))
+      of-all NoRoom
+      (full-is rs ns missing b h (all new) rs₁ ns₁ (full-lists _ _ _ g new rs₁ ns₁ new-empty (subst (λ t. Writing g new t rs₁ ns₁) z begun)))
 
   module _ (d₁ : Draft) (z₁ : r₁ ≡ Open d₁) (r₂ : Drafted) (rs₂ ns₂ : List ℕ) (t : Turns Empty (λ m. m) all d₁ rs₁ ns₁ r₂ rs₂ ns₂) where
     filled : Writing g (all new) r₂ rs₂ ns₂

@@ -77,7 +77,8 @@ returns c =
     let p25 = p23 .before .before in
     let a = p25 .args in
     own-found (a .records .now) (a .names .now) (a .missing .now) (a .at) (a .base) (a .entry) (a .w .now)
-    (λ i. omega (arith, p23 .slice-known2 .given i)) (p25 .pre) (p19 .wrapping-add-u32 .ensures) (p18 .read32 .ensures) (p16 .is-unresolved .ensures) _ (p15 .if1 .taken) (p13 .read322 .ensures) (p10 .read-name .ensures) (p7 .lookup .ensures)
+    (λ i. omega (arith, p23 .slice-known2 .given i)) (p25 .pre) (p19 .wrapping-add-u32 .ensures) (p18 .read32 .ensures)
+    (p16 .is-unresolved .ensures) _ (p15 .if1 .taken) (p13 .read322 .ensures) (p10 .read-name .ensures) (p7 .lookup .ensures)
     (p5 .symbol .given .1) (p2 .apply-relocation-batch .ensures)
 
 same-length-3 : tie.Need-same-length-3
@@ -121,7 +122,8 @@ returns-3 c =
     let p10 = p8 .before .before in
     let a = p10 .args in
     own-passed (a .records .now) (a .names .now) (a .missing .now) (a .at) (a .base) (a .entry) (a .w .now)
-    (λ i. omega (arith, p8 .slice-known2 .given i)) (p10 .pre) (p4 .wrapping-add-u32 .ensures) (p3 .read32 .ensures) (p1 .is-unresolved .ensures) (c .if1 .left)
+    (λ i. omega (arith, p8 .slice-known2 .given i)) (p10 .pre) (p4 .wrapping-add-u32 .ensures) (p3 .read32 .ensures)
+    (p1 .is-unresolved .ensures) (c .if1 .left)
 
 pub import-named-spec : {M : Type 1} → statement M
 import-named-spec =
