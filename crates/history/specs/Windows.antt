@@ -10,7 +10,7 @@ use Rattle.window.specs.Access.{Prog, ret, run, length-run}
 use Rattle.register.specs.Module.{Register}
 use Rattle.register.specs.Decode.{isRegister}
 use Rattle.linker.specs.Calls as calls
-use Rattle.linker.specs.Calls.{Answer, NotACro, BadSegment, NoRoom, Kept, Done}
+use Rattle.linker.specs.Calls.{Answer, NotACro, BadSegment, BadWindow, NoRegister, NoRoom, Kept, Done}
 use Rattle.linker.specs.Outcome.{Bytes, registerAfter, settle, chain, outcome, initializeOutcome, loadOutcome, unloadOutcome}
 use Rattle.linker.specs.Refusals.{lentRegister}
 use Rattle.linker.specs.Valid.{Valid, AreBytes, initialize-valid, load-valid, unload-valid}
@@ -26,6 +26,8 @@ after-window : (b : Bytes) (w : List ℕ) (a : Answer) → registerAfter b w a .
 unfolding registerAfter
 after-window b w NotACro = refl
 after-window b w BadSegment = refl
+after-window b w BadWindow = refl
+after-window b w NoRegister = refl
 after-window b w NoRoom = refl
 after-window b w Kept = refl
 after-window b w (Done v r) = refl

@@ -56,6 +56,8 @@ unfoldable pub Answered : Cast → Lent → Image → ℕ → Memory → Answer 
 Answered C l m level B (Done v s) N = Came C l m level B s N
 Answered C l m level B NotACro N = Unit {0}
 Answered C l m level B BadSegment N = Unit {0}
+Answered C l m level B Answer.BadWindow N = Unit {0}
+Answered C l m level B Answer.NoRegister N = Unit {0}
 Answered C l m level B NoRoom N = Unit {0}
 Answered C l m level B Answer.Kept N = Unit {0}
 

@@ -53,6 +53,8 @@ unfoldable pub Begun : Image → Memory → Answer → Memory → Type 0
 Begun m B (Done v s) N = Started m B s N
 Begun m B NotACro N = Unit {0}
 Begun m B BadSegment N = Unit {0}
+Begun m B Answer.BadWindow N = Unit {0}
+Begun m B Answer.NoRegister N = Unit {0}
 Begun m B NoRoom N = Unit {0}
 Begun m B Answer.Kept N = Unit {0}
 

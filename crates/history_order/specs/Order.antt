@@ -13,7 +13,7 @@ use Rattle.register.specs.Buffers.{encodeMissing}
 use Rattle.linker.specs.declared.rebase.Lent.{Lent}
 use Rattle.linker.specs.declared.rebase.Rebased.{Rebased}
 use Rattle.linker.specs.Imports.{applyImportNamedSymbols}
-use Rattle.linker.specs.Calls.{Answer, Done, number, value, enter, initialized, initialize, missingNow, linked, load, Standing, leave, unload}
+use Rattle.linker.specs.Calls.{Answer, NotACro, BadSegment, NoRoom, Kept, Done, number, value, enter, initialized, initialize, missingNow, linked, load, Standing, leave, unload}
 use Rattle.linker.specs.Outcome.{Bytes, Outcome, refused, registerAfter, settle, outcome, initializeOutcome, loadOutcome, unloadOutcome}
 use Rattle.linker.specs.Refusals.{lentRegister, windowed}
 use Rattle.history.specs.Outcomes.{SameModules, SameEncoded}
@@ -38,8 +38,8 @@ module _ (b c : Bytes) (e : SameEncoded b c) (at : ℕ) where
   like-after p q f g s h w = rw (s, run-bind at q f w, run-bind at q g w) (h (run at q w .0) (run at q w .1))
 
   -- where the register stays, its missing list does
-  stays : (n : ℕ) (w : List ℕ) → SameEffect (refused n (windowed b w)) (refused n (windowed c w))
-  stays n w = record { number = refl; value = refl; window = refl; missing = missing-same b c e }
+  stays : (a : Answer) (w : List ℕ) → SameEffect (refused a (windowed b w)) (refused a (windowed c w))
+  stays a w = record { number = refl; value = refl; window = refl; missing = missing-same b c e }
 
   -- a done call's register shows only its missing names
   like-done : (v : ℕ) (r s : Register) → r .missing ≡ s .missing → Like (ret (Done v r)) (ret (Done v s))
@@ -57,10 +57,10 @@ module _ (b c : Bytes) (e : SameEncoded b c) (at : ℕ) where
       : (base size : ℕ) (auto : Bool) (f g : Module → Prog Answer) → ((m : Module) → Like (f m) (g m)) → (x : Rebased)
       → Like (enter (length (b .records)) (length (b .names)) r base size auto f x) (enter (length (c .records)) (length (c .names)) s base size auto g x)
   unfolding enter run settle registerAfter number value
-  like-enter base size auto f g h Rebased.NotACro = stays 1
-  like-enter base size auto f g h Rebased.BadSegment = stays 2
+  like-enter base size auto f g h Rebased.NotACro = stays NotACro
+  like-enter base size auto f g h Rebased.BadSegment = stays BadSegment
   like-enter base size auto f g h Rebased.Done =
-      like-after _ _ _ _ refl (λ _. like-after _ _ _ _ refl (λ m. choose Like (fits-same b c e m) (h m) (stays 5)))
+      like-after _ _ _ _ refl (λ _. like-after _ _ _ _ refl (λ m. choose Like (fits-same b c e m) (h m) (stays NoRoom)))
 
   like-initialize
       : (base size : ℕ)
@@ -99,7 +99,7 @@ module _ (b c : Bytes) (e : SameEncoded b c) (at : ℕ) where
   -- the module that goes is the same but for that order
   like-leave : (base : ℕ) {x y : Standing} → BothFind x y → Like (leave r base x) (leave s base y)
   unfolding leave removed run settle registerAfter number value
-  like-leave base neither = stays 0
+  like-leave base neither = stays Kept
   like-leave base (both m n k f) =
       like-after _ _ _ _ (importers-same m n _ _ f (same-without (r .modules) (s .modules) k (e .registers .modules)))
       (λ _. like-after _ _ _ _ (rw (e .registers .crs))

@@ -28,7 +28,7 @@ use Rattle.linker.specs.Resets.{resetImporters}
 use Rattle.linker.specs.Fix.{fix}
 use Rattle.linker.specs.Unrebase.{unrebase}
 use Rattle.linker.specs.Calls as calls
-use Rattle.linker.specs.Calls.{Answer, NotACro, BadSegment, NoRoom, Kept, Done, number, rebase, rebaseStatic, fits, enter, initialized, listed, linked, unknown, stands, firstWithBase, unlisted, leave}
+use Rattle.linker.specs.Calls.{Answer, NotACro, BadSegment, BadWindow, NoRegister, NoRoom, Kept, Done, number, rebase, rebaseStatic, fits, enter, initialized, listed, linked, unknown, stands, firstWithBase, unlisted, leave}
 use Rattle.linker.specs.Outcome.{Bytes, registerAfter, settle, outcome, initializeOutcome, loadOutcome, unloadOutcome}
 use Rattle.linker.specs.Refusals.{lentRegister}
 use Rattle.linker.specs.Gives.{Gives, gives-run, gives-then, gives-if}
@@ -62,7 +62,7 @@ given-outcome (Unload base) at b = refl
 
 -- 0 comes from a good window and register
 pub performed : (c : Call) (at : ℕ) (b : Bytes) → given c at b .number ≡ 0 → Performed c at b
-unfolding outcome settle
+unfolding outcome settle number
 performed c at b z =
     go (goodWindow at (b .window)) refl (isRegister (b .records) (b .names) (b .missing)) refl (sym (ap (λ o. o .number) (given-outcome c at b)) ∙ z)
     (given-outcome c at b)
@@ -92,6 +92,8 @@ pub finished : (a : Answer) → number a ≡ 0 → Finished a
 unfolding number
 finished NotACro e = absurd (omega arith)
 finished BadSegment e = absurd (omega arith)
+finished BadWindow e = absurd (omega arith)
+finished NoRegister e = absurd (omega arith)
 finished NoRoom e = absurd (omega arith)
 finished Kept e = kept refl
 finished (Done v s) e = did v s refl
@@ -100,6 +102,8 @@ finished (Done v s) e = did v s refl
 abbrev NotKept : Answer → Type 0
 NotKept NotACro = Unit {0}
 NotKept BadSegment = Unit {0}
+NotKept BadWindow = Unit {0}
+NotKept NoRegister = Unit {0}
 NotKept NoRoom = Unit {0}
 NotKept Kept = ⊥
 NotKept (Done v s) = Unit {0}
@@ -159,6 +163,8 @@ not-kept : (a : Answer) → NotKept a → number a ≡ 0 → (v : ℕ) × (s : R
 unfolding number
 not-kept NotACro k e = absurd (omega arith)
 not-kept BadSegment k e = absurd (omega arith)
+not-kept BadWindow k e = absurd (omega arith)
+not-kept NoRegister k e = absurd (omega arith)
 not-kept NoRoom k e = absurd (omega arith)
 not-kept Kept k e = absurd k
 not-kept (Done v s) k e = (v, s, refl)

@@ -27,7 +27,7 @@ use Rattle.linker.specs.Relocation.{resetExternalRelocations}
 use Rattle.linker.specs.Exports.{readModule}
 use Rattle.linker.specs.Imports.{applyImportNamedSymbols, applyModuleImports, applyExportsToLoaded}
 use Rattle.linker.specs.Fix.{fix}
-use Rattle.linker.specs.Calls.{Answer, NotACro, BadSegment, NoRoom, Kept, Done, rebase, rebaseStatic, fits, enter, initialized, initialize, listed, missingNow, linked, load}
+use Rattle.linker.specs.Calls.{Answer, NotACro, BadSegment, BadWindow, NoRegister, NoRoom, Kept, Done, rebase, rebaseStatic, fits, enter, initialized, initialize, listed, missingNow, linked, load}
 use Rattle.linker.specs.Gives.{Yields, yields-ret, yields-bind, yields-then, yields-if}
 use Rattle.linker.specs.Room.{Fits, fits-means, with, with-small}
 use Rattle.linker.specs.Valid.{Names, imports-yield}
@@ -40,6 +40,8 @@ Back records names s = registerOf (encodeRecords records s) (encodeNames names s
 abbrev pub Backs : ℕ → ℕ → Answer → Type 0
 Backs records names NotACro = Unit {0}
 Backs records names BadSegment = Unit {0}
+Backs records names BadWindow = Unit {0}
+Backs records names NoRegister = Unit {0}
 Backs records names NoRoom = Unit {0}
 Backs records names Kept = Unit {0}
 Backs records names (Done v s) = Back records names s

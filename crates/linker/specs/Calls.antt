@@ -28,10 +28,12 @@ use Rattle.linker.specs.Lists.{register, unregister}
 use Rattle.linker.specs.Fix.{fix}
 use Rattle.linker.specs.Unrebase.{unrebase}
 
--- what a call on a good window and register answers; `Kept` is an unload of an unknown base
+-- what a call answers, for each row of the table of numbers; `Kept` is an unload of an unknown base
 pub data Answer : Type 0 where
   NotACro : Answer
   BadSegment : Answer
+  BadWindow : Answer
+  NoRegister : Answer
   NoRoom : Answer
   Kept : Answer
   Done : ℕ → Register → Answer
@@ -40,14 +42,18 @@ pub data Answer : Type 0 where
 unfoldable pub number : Answer → ℕ
 number NotACro = 1
 number BadSegment = 2
+number BadWindow = 3
+number NoRegister = 4
 number NoRoom = 5
 number Kept = 0
 number (Done v r) = 0
 
--- "Beside the number stands a value"
+-- "Beside the number stands a value"; "with 1 to 5 it is 0"
 unfoldable pub value : Answer → ℕ
 value NotACro = 0
 value BadSegment = 0
+value BadWindow = 0
+value NoRegister = 0
 value NoRoom = 0
 value Kept = 0
 value (Done v r) = v

@@ -26,8 +26,8 @@ use Rattle.linker.specs.Rebase.{isMagic, moveHeader, lentPlace, place, w
 use Rattle.linker.specs.Relocation.{relocateAt, resetEntry, walk, batchLimit, applyRelocationBatch, batchIsResolved}
 use Rattle.linker.specs.Resets.{reset}
 use Rattle.register.specs.Decode.{isRegister}
+use Rattle.linker.specs.Calls.{number, value}
 use Rattle.linker.specs.Outcome.{Bytes, loadOutcome}
-use Rattle.linker.specs.Outcome as Outcome
 use Rattle.linker.specs.Refusals.{windowed, load-2}
 use Rattle.linker.specs.Numbers.{fitsIn, loadedModule, load-0}
 use Rattle.linker.specs.Fix.{alignUp, fixedTo, fixFrom, fix}
@@ -93,7 +93,8 @@ pub load-17
     → isRegister (b .records) (b .names) (b .missing) ≡ true → isMagic (wordAt at (b .window) (base ⊕ magic)) ≡ true
     → (w : List ℕ) → run at (moveHeader true base) (b .window) .1 ≡ w → wordAt at w (base ⊕ segmentNum) ≡ suc n
     → segmentAt at w (segmentPlace at w base 0) ≡ data-of offset 17
-    → loadOutcome (lent-16 base size data-at bss-at bss-size) auto level at b ≡ Outcome.refused 2 (windowed b w)
+    → loadOutcome (lent-16 base size data-at bss-at bss-size) auto level at b ≡ record { number = 2; value = 0; left = windowed b w }
+unfolding number value
 load-17 base size data-at bss-at bss-size offset auto level at n b g v m w h c e =
     let l = lent-16 base size data-at bss-at bss-size in
     let f = data-17 base size data-at bss-at bss-size offset 0 in

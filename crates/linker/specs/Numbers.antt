@@ -113,7 +113,7 @@ outcome-number
     ≡ (if goodWindow at (b .window)
     then (if isRegister (b .records) (b .names) (b .missing)
     then number (run at (call (length (b .records)) (length (b .names)) (lentRegister b)) (b .window) .0) else 4) else 3)
-unfolding outcome settle
+unfolding outcome settle number
 outcome-number call at b = go (goodWindow at (b .window)) (isRegister (b .records) (b .names) (b .missing))
   where
     x : Answer × List ℕ

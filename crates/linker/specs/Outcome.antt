@@ -10,7 +10,7 @@ use Rattle.register.specs.Module.{Register}
 use Rattle.register.specs.Decode.{registerOf, isRegister}
 use Rattle.register.specs.Buffers.{encodeRecords, encodeNames, encodeMissing}
 use Rattle.linker.specs.declared.rebase.Lent.{Lent}
-use Rattle.linker.specs.Calls.{Answer, NotACro, BadSegment, NoRoom, Kept, Done, number, value, initialize, load, unload}
+use Rattle.linker.specs.Calls.{Answer, NotACro, BadSegment, BadWindow, NoRegister, NoRoom, Kept, Done, number, value, initialize, load, unload}
 
 -- what is lent: the window's bytes, the register's records and names, the missing list
 pub record Bytes : Type 0 where
@@ -24,13 +24,15 @@ pub record Outcome : Type 0 where
   pub value : ℕ
   pub left : Bytes
 
-abbrev pub refused : ℕ → Bytes → Outcome
-refused n b = record { number = n; value = 0; left = b }
+abbrev pub refused : Answer → Bytes → Outcome
+refused a b = record { number = number a; value = value a; left = b }
 
 -- "The register, missing list included, is unchanged by 1 to 5."
 unfoldable pub registerAfter : Bytes → List ℕ → Answer → Bytes
 registerAfter b w NotACro = record { window = w; records = b .records; names = b .names; missing = b .missing }
 registerAfter b w BadSegment = record { window = w; records = b .records; names = b .names; missing = b .missing }
+registerAfter b w BadWindow = record { window = w; records = b .records; names = b .names; missing = b .missing }
+registerAfter b w NoRegister = record { window = w; records = b .records; names = b .names; missing = b .missing }
 registerAfter b w NoRoom = record { window = w; records = b .records; names = b .names; missing = b .missing }
 registerAfter b w Kept = record { window = w; records = b .records; names = b .names; missing = b .missing }
 registerAfter b w (Done v r) =
@@ -46,7 +48,7 @@ settle b (a, w) = record { number = number a; value = value a; left = registerAf
 
 -- the chain of tests: the window's rule, then the register's, then the call's own
 abbrev pub chain : Bool → Bool → Bytes → Outcome → Outcome
-chain goodWindow isRegister b answered = if goodWindow then (if isRegister then answered else refused 4 b) else refused 3 b
+chain goodWindow isRegister b answered = if goodWindow then (if isRegister then answered else refused NoRegister b) else refused BadWindow b
 
 unfoldable pub outcome : (ℕ → ℕ → Register → Prog Answer) → ℕ → Bytes → Outcome
 outcome call at b =

@@ -17,7 +17,7 @@ use Rattle.linker.specs.declared.rebase.Rebased.{Rebased}
 use Rattle.linker.specs.Rebase.{isMagic, moveHeader, moveSegments}
 use Rattle.linker.specs.Relocation.{resetExternalRelocations}
 use Rattle.linker.specs.Exports.{readModule, readModule-reads}
-use Rattle.linker.specs.Calls.{Answer, NotACro, BadSegment, NoRoom, Kept, Done, number, value, relocate, rebaseWith, rebase, rebaseStatic, fits, enter, initialize, initialized, load, linked, Standing, unknown, firstWithBase, leave, unload}
+use Rattle.linker.specs.Calls.{Answer, NotACro, BadSegment, BadWindow, NoRegister, NoRoom, Kept, Done, number, value, relocate, rebaseWith, rebase, rebaseStatic, fits, enter, initialize, initialized, load, linked, Standing, unknown, firstWithBase, leave, unload}
 use Rattle.linker.specs.Outcome.{Bytes, Outcome, refused, registerAfter, settle, chain, outcome, initializeOutcome, loadOutcome, unloadOutcome}
 
 -- the register that the lent bytes are
@@ -30,13 +30,13 @@ windowed b w = record { window = w; records = b .records; names = b .names; miss
 
 module _ (call : ℕ → ℕ → Register → Prog Answer) (at : ℕ) (b : Bytes) where
   -- 3 comes first, whatever the register and the call
-  pub refuses-3 : goodWindow at (b .window) ≡ false → outcome call at b ≡ refused 3 b
+  pub refuses-3 : goodWindow at (b .window) ≡ false → outcome call at b ≡ refused BadWindow b
   unfolding outcome
   refuses-3 g = rw g
 
   module _ (g : goodWindow at (b .window) ≡ true) where
     -- then 4, whatever the call
-    pub refuses-4 : isRegister (b .records) (b .names) (b .missing) ≡ false → outcome call at b ≡ refused 4 b
+    pub refuses-4 : isRegister (b .records) (b .names) (b .missing) ≡ false → outcome call at b ≡ refused NoRegister b
     unfolding outcome
     refuses-4 r = rw (g, r)
 
@@ -102,14 +102,14 @@ module _ (base size : ℕ) (auto : Bool) (segments : Prog Moved) (next : Module 
 -- the calls on a good window and register
 module _ (at : ℕ) (b : Bytes) (g : goodWindow at (b .window) ≡ true) (v : isRegister (b .records) (b .names) (b .missing) ≡ true) where
   module _ (l : Lent) (auto level : ℕ) where
-    pub load-1 : isMagic (wordAt at (b .window) (l .base ⊕ magic)) ≡ false → loadOutcome l auto level at b ≡ refused 1 b
+    pub load-1 : isMagic (wordAt at (b .window) (l .base ⊕ magic)) ≡ false → loadOutcome l auto level at b ≡ refused NotACro b
     unfolding loadOutcome load rebase settle number value registerAfter
     load-1 m = answers (load l (not (eqb auto 0)) level) at b g v (enters-1 _ _ _ _ _ _ _ _ at (b .window) m)
 
     pub load-2
         : isMagic (wordAt at (b .window) (l .base ⊕ magic)) ≡ true → {w : List ℕ}
         → run at (moveSegments l) (run at (moveHeader true (l .base)) (b .window) .1) ≡ (Bad, w)
-        → loadOutcome l auto level at b ≡ refused 2 (windowed b w)
+        → loadOutcome l auto level at b ≡ refused BadSegment (windowed b w)
     unfolding loadOutcome load rebase settle number value registerAfter
     load-2 m s = answers (load l (not (eqb auto 0)) level) at b g v (enters-2 _ _ _ _ _ _ _ _ at (b .window) m s)
 
@@ -117,12 +117,12 @@ module _ (at : ℕ) (b : Bytes) (g : goodWindow at (b .window) ≡ true) (v : is
         : {w : List ℕ} → run at (rebase l) (b .window) ≡ (Rebased.Done, w)
         → fits (length (b .records)) (length (b .names)) (lentRegister b)
         (run at (readModule (l .base) (l .size) (not (eqb auto 0))) (run at (resetExternalRelocations (l .base)) w .1) .0) ≡ false
-        → loadOutcome l auto level at b ≡ refused 5 (windowed b (run at (resetExternalRelocations (l .base)) w .1))
+        → loadOutcome l auto level at b ≡ refused NoRoom (windowed b (run at (resetExternalRelocations (l .base)) w .1))
     unfolding loadOutcome load rebase settle number value registerAfter
     load-5 e f = answers (load l (not (eqb auto 0)) level) at b g v (enters-5 _ _ _ _ _ _ _ _ at (b .window) e f)
 
   module _ (base size : ℕ) where
-    pub initialize-1 : isMagic (wordAt at (b .window) (base ⊕ magic)) ≡ false → initializeOutcome base size at b ≡ refused 1 b
+    pub initialize-1 : isMagic (wordAt at (b .window) (base ⊕ magic)) ≡ false → initializeOutcome base size at b ≡ refused NotACro b
     unfolding initializeOutcome initialize rebaseStatic settle number value registerAfter
     initialize-1 m = answers (initialize base size) at b g v (enters-1 _ _ _ _ _ _ _ _ at (b .window) m)
 
@@ -130,7 +130,7 @@ module _ (at : ℕ) (b : Bytes) (g : goodWindow at (b .window) ≡ true) (v : is
         : {w : List ℕ} → run at (rebaseStatic base) (b .window) ≡ (Rebased.Done, w)
         → fits (length (b .records)) (length (b .names)) (lentRegister b)
         (run at (readModule base size true) (run at (resetExternalRelocations base) w .1) .0) ≡ false
-        → initializeOutcome base size at b ≡ refused 5 (windowed b (run at (resetExternalRelocations base) w .1))
+        → initializeOutcome base size at b ≡ refused NoRoom (windowed b (run at (resetExternalRelocations base) w .1))
     unfolding initializeOutcome initialize rebaseStatic settle number value registerAfter
     initialize-5 e f = answers (initialize base size) at b g v (enters-5 _ _ _ _ _ _ _ _ at (b .window) e f)
 
@@ -146,6 +146,8 @@ keeps : (b : Bytes) (a : Answer) (w : List ℕ) → (number a ≡ 0 → ⊥) →
 unfolding registerAfter number
 keeps b NotACro w n = refl
 keeps b BadSegment w n = refl
+keeps b BadWindow w n = refl
+keeps b NoRegister w n = refl
 keeps b NoRoom w n = refl
 keeps b Kept w n = absurd (n refl)
 keeps b (Done v r) w n = absurd (n refl)

@@ -34,7 +34,7 @@ use Rattle.linker.specs.Imports.{isUnresolved, mostMissing, noted, impor
 use Rattle.linker.specs.Resets.{resetImporters}
 use Rattle.linker.specs.Fix.{fix}
 use Rattle.linker.specs.Unrebase.{unrebase}
-use Rattle.linker.specs.Calls.{Answer, NotACro, BadSegment, NoRoom, Kept, Done, rebase, rebaseStatic, fits, enter, initialized, initialize, listed, missingNow, linked, load, Standing, unknown, stands, firstWithBase, unlisted, leave, unload}
+use Rattle.linker.specs.Calls.{Answer, NotACro, BadSegment, BadWindow, NoRegister, NoRoom, Kept, Done, rebase, rebaseStatic, fits, enter, initialized, initialize, listed, missingNow, linked, load, Standing, unknown, stands, firstWithBase, unlisted, leave, unload}
 use Rattle.linker.specs.Outcome.{Bytes, registerAfter, settle, chain, outcome, initializeOutcome, loadOutcome, unloadOutcome}
 use Rattle.linker.specs.Refusals.{lentRegister}
 use Rattle.linker.specs.Gives.{Yields, yields-ret, yields-bind, yields-then, yields-if, yields-loop}
@@ -96,6 +96,8 @@ module _ (at : ℕ) where
 abbrev pub Leaves : ℕ → ℕ → Answer → Type 0
 Leaves records names NotACro = Unit {0}
 Leaves records names BadSegment = Unit {0}
+Leaves records names BadWindow = Unit {0}
+Leaves records names NoRegister = Unit {0}
 Leaves records names NoRoom = Unit {0}
 Leaves records names Kept = Unit {0}
 Leaves records names (Done v r) = Stored records names r
@@ -195,6 +197,8 @@ module _ (b : Bytes) (v : Valid b) (t : AreBytes b) where
   unfolding registerAfter
   after NotACro w h e l = (v, (h, t .1), (e, refl, refl, refl))
   after BadSegment w h e l = (v, (h, t .1), (e, refl, refl, refl))
+  after BadWindow w h e l = (v, (h, t .1), (e, refl, refl, refl))
+  after NoRegister w h e l = (v, (h, t .1), (e, refl, refl, refl))
   after NoRoom w h e l = (v, (h, t .1), (e, refl, refl, refl))
   after Kept w h e l = (v, (h, t .1), (e, refl, refl, refl))
   after (Done x r) w h e l =

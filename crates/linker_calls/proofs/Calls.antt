@@ -39,6 +39,12 @@ use Rattle.linker_calls.specs.Stored.{crs-stored, missing-stored, used-p
 use Rattle.linker_calls.specs.Linked.{headerCrs, Links, one-more}
 use Rattle.linker_calls.specs.Left as left-by
 
+-- a call that passes the tests is lent an encoding
+pub tests-encoded
+    : (at : ℕ) (b : Bytes) {n : ℕ} → n ≡ tested (goodWindow at (b .window)) (isRegister (b .records) (b .names) (b .missing)) → n ≡ 0
+    → Encoded (b .records) (b .names)
+tests-encoded at b e z = (b .missing, tests-pass _ _ e z .1)
+
 -- a call that is done leaves the register that it says
 completes
     : (b : Bytes) (r : Register) (v : ℕ) (w : List ℕ) {records names missing : List ℕ} → records ≡ encodeRecords (length (b .records)) r
@@ -65,7 +71,7 @@ module _ (at : ℕ) (b : Bytes) (g : goodWindow at (b .window) ≡ true) (v : is
       ∙ ap (λ (p : Rebased × List ℕ). run at (enter (length (b .records)) (length (b .names)) r base size auto (next r) (p .0)) (p .1)) (sym ex)
 
   module _ {n : ℕ} {w₂ records names : List ℕ}
-      (e : _≡_ {A = ℕ × List ℕ × List ℕ × List ℕ} (n, w₂, records, names) (entered at (b .records) (b .names) r base size auto x w₁)) where
+      (e : _≡_ {A = ℕ × List ℕ × List ℕ × List ℕ} (n, w₂, records, names) (entered at (b .records) (b .names) base size auto x w₁)) where
     pub hindered : (n ≡ 0 → ⊥) → left n 0 (lent w₂ records names (b .missing)) ≡ outcome call at b
     hindered k =
         ap (λ (y : ℕ × List ℕ × List ℕ × List ℕ). left (y .0) 0 (lent (y .1) (y .2) (y .3) (b .missing))) e
@@ -87,16 +93,15 @@ module _ (at base size : ℕ) (b : Bytes) where
 
   module _ {t : ℕ} (et : t ≡ tested (goodWindow at (b .window)) (isRegister (b .records) (b .names) (b .missing))) (ez : t ≡ 0) {x : Rebased}
       {w₁ : List ℕ} (ex : _≡_ {A = Rebased × List ℕ} (x, w₁) (run at (rebaseStatic base) (b .window))) {n : ℕ} {w₂ records names : List ℕ}
-      (e : (missing : List ℕ) → isRegister (b .records) (b .names) missing ≡ true
-      → _≡_ {A = ℕ × List ℕ × List ℕ × List ℕ} (n, w₂, records, names)
-      (entered at (b .records) (b .names) (registerOf (b .records) (b .names) missing) base size true x w₁)) where
+      (e : _≡_ {A = ℕ × List ℕ × List ℕ × List ℕ} (n, w₂, records, names)
+      (entered at (b .records) (b .names) base size true x w₁)) where
     passed : (goodWindow at (b .window) ≡ true) × (isRegister (b .records) (b .names) (b .missing) ≡ true)
     passed = tests-pass _ _ et ez
 
     pub initialize-hindered : (n ≡ 0 → ⊥) → left n 0 (lent w₂ records names (b .missing)) ≡ initializeOutcome base size at b
     unfolding initializeOutcome initialize
     initialize-hindered k =
-        hindered at b (passed .0) (passed .1) (rebaseStatic base) base size true (λ s. initialized s base) ex (e (b .missing) (passed .1)) k
+        hindered at b (passed .0) (passed .1) (rebaseStatic base) base size true (λ s. initialized s base) ex e k
 
     pub initialize-done
         : n ≡ 0 → {w₃ records₃ : List ℕ} → w₃ ≡ run at (unhung base) w₂ .1 → records₃ ≡ setCrs records base
@@ -104,7 +109,7 @@ module _ (at base size : ℕ) (b : Bytes) where
     unfolding initializeOutcome initialize initialized unhung setField run _>>=_ withCrs appended encodeNames
     initialize-done z {w₃} ew er =
         let v = passed .1 in
-        let i = is-in at b (passed .0) v (rebaseStatic base) base size true (λ s. initialized s base) ex (e (b .missing) v) z in
+        let i = is-in at b (passed .0) v (rebaseStatic base) base size true (λ s. initialized s base) ex e z in
         let m = run at (readModule base size true) (run at (resetExternalRelocations base) w₁ .1) .0 in
         let s = withCrs (appended (lentRegister b) m) base in
         completes b s 0 w₃ (er ∙ ap (λ l. setCrs l base) (i .records-now) ∙ crs-stored (length (b .records)) base (appended (lentRegister b) m))
@@ -122,9 +127,8 @@ module _ (at : ℕ) (l : Lent) (auto level : ℕ) (b : Bytes) where
 
   module _ {t : ℕ} (et : t ≡ tested (goodWindow at (b .window)) (isRegister (b .records) (b .names) (b .missing))) (ez : t ≡ 0) {x : Rebased}
       {w₁ : List ℕ} (ex : _≡_ {A = Rebased × List ℕ} (x, w₁) (run at (rebase l) (b .window))) {n : ℕ} {w₂ records names : List ℕ}
-      (e : (missing : List ℕ) → isRegister (b .records) (b .names) missing ≡ true
-      → _≡_ {A = ℕ × List ℕ × List ℕ × List ℕ} (n, w₂, records, names)
-      (entered at (b .records) (b .names) (registerOf (b .records) (b .names) missing) (l .base) (l .size) (not (eqb auto 0)) x w₁)) where
+      (e : _≡_ {A = ℕ × List ℕ × List ℕ × List ℕ} (n, w₂, records, names)
+      (entered at (b .records) (b .names) (l .base) (l .size) (not (eqb auto 0)) x w₁)) where
     ready : (goodWindow at (b .window) ≡ true) × (isRegister (b .records) (b .names) (b .missing) ≡ true)
     ready = tests-pass _ _ et ez
 
@@ -134,7 +138,7 @@ module _ (at : ℕ) (l : Lent) (auto level : ℕ) (b : Bytes) where
     pub load-hindered : (n ≡ 0 → ⊥) → left n 0 (lent w₂ records names (b .missing)) ≡ loadOutcome l auto level at b
     unfolding loadOutcome load
     load-hindered k =
-        hindered at b (ready .0) (ready .1) (rebase l) (l .base) (l .size) (not (eqb auto 0)) then ex (e (b .missing) (ready .1)) k
+        hindered at b (ready .0) (ready .1) (rebase l) (l .base) (l .size) (not (eqb auto 0)) then ex e k
 
     module _ (z : n ≡ 0) (sw : Below 256 (b .window)) (sr : Below 256 (b .records)) (hb : l .base < 2 ^ 32) (hs : l .size < 2 ^ 32) where
       abbrev reset : List ℕ
@@ -144,7 +148,7 @@ module _ (at : ℕ) (l : Lent) (auto level : ℕ) (b : Bytes) where
       m = run at (readModule (l .base) (l .size) (not (eqb auto 0))) reset .0
 
       enters : In at b (l .base) (l .size) (not (eqb auto 0)) w₁ x w₂ records names
-      enters = is-in at b (ready .0) (ready .1) (rebase l) (l .base) (l .size) (not (eqb auto 0)) then ex (e (b .missing) (ready .1)) z
+      enters = is-in at b (ready .0) (ready .1) (rebase l) (l .base) (l .size) (not (eqb auto 0)) then ex e z
 
       reset-bytes : Below 256 reset
       reset-bytes =
@@ -188,13 +192,10 @@ module _ (at base : ℕ) (b : Bytes) where
     open-now : (goodWindow at (b .window) ≡ true) × (isRegister (b .records) (b .names) (b .missing) ≡ true)
     open-now = tests-pass _ _ et ez
 
-    pub unload-encoded : Encoded (b .records) (b .names)
-    unload-encoded = (b .missing, open-now .1)
-
     module _ {x : Found}
         (ex : (names : List ℕ) → Encoded (b .records) names → x ≡ placeFrom 32 (modulesOf (b .records) names) (hasBase base)) where
       first : x ≡ placeFrom 32 (modulesOf (b .records) (b .names)) (hasBase base)
-      first = ex (b .names) unload-encoded
+      first = ex (b .names) (b .missing, open-now .1)
 
       pub unload-none : x ≡ found.Nothing → left 0 0 b ≡ unloadOutcome base at b
       unload-none z =

@@ -19,7 +19,7 @@ use Rattle.linker.specs.Lists.{register}
 use Rattle.linker.specs.Fix.{fix}
 use Rattle.linker.specs.Calls.{Answer, Done, listed, missingNow, linked}
 use Rattle.linker_relocation.specs.Runs.{seq, gives}
-use Rattle.linker_imports.specs.Missing.{Noted}
+use Rattle.linker_imports.specs.Missing.{imported, Noted}
 use Rattle.linker_imports.specs.Modules.{butLast, new-is-last, modules-are}
 use Rattle.linker_calls.specs.Stored.{crs-is}
 
@@ -48,7 +48,7 @@ module _ (at : ℕ) (records names missing : List ℕ) (l : Lent) (auto : Bool) 
     (e₁ : w₁ ≡ run at (listed (headerCrs records) (l .base) auto) w .1) {w₂ : List ℕ} (rs ms : List ℕ)
     (e₂ : let r = registerOf records names missing in
     let x = run at (applyImportNamedSymbols (r .modules) (l .base) (r .missing)) w₁ in
-    (w₂ ≡ x .1) × Noted r rs names ms (x .0)) where
+    (_≡_ {A = List ℕ × List ℕ × List ℕ} (w₂, rs, ms) (imported r records x)) × Noted r rs names ms (x .0)) where
   pub still-encoded : Encoded rs names
   still-encoded = (ms, e₂ .1 .0)
 
@@ -59,9 +59,10 @@ module _ (at : ℕ) (records names missing : List ℕ) (l : Lent) (auto : Bool) 
     abbrev found : List (List ℕ) × List ℕ
     found = run at (applyImportNamedSymbols (appended r m .modules) (l .base) (appended r m .missing)) w₁
 
-    named : (w₂ ≡ found .1) × Noted (appended r m) rs names ms (found .0)
+    named : (_≡_ {A = List ℕ × List ℕ × List ℕ} (w₂, rs, ms) (imported (appended r m) records found)) × Noted (appended r m) rs names ms (found .0)
     named =
-        subst (λ (q : Register). (w₂ ≡ run at (applyImportNamedSymbols (q .modules) (l .base) (q .missing)) w₁ .1)
+        subst (λ (q : Register). (_≡_ {A = List ℕ × List ℕ × List ℕ} (w₂, rs, ms)
+        (imported q records (run at (applyImportNamedSymbols (q .modules) (l .base) (q .missing)) w₁)))
         × Noted q rs names ms (run at (applyImportNamedSymbols (q .modules) (l .base) (q .missing)) w₁ .0)) er e₂
 
     modules : modulesOf rs names ≡ r .modules ++ (m ∷ [])
@@ -79,7 +80,7 @@ module _ (at : ℕ) (records names missing : List ℕ) (l : Lent) (auto : Bool) 
     unfolding linked appended run
     links =
         let h₁ : w₁ ≡ run at (listed (r .crs) (l .base) auto) w .1 = e₁ ∙ ap (λ c. run at (listed c (l .base) auto) w .1) crs in
-        let h₂ : _≡_ {A = List (List ℕ) × List ℕ} (found .0, w₂) found = ap (λ u. (found .0, u)) (named .0) in
+        let h₂ : _≡_ {A = List (List ℕ) × List ℕ} (found .0, w₂) found = ap (λ (z : List ℕ × List ℕ × List ℕ). (found .0, z .0)) (named .0) in
         let h₃ : w₃ ≡ run at (applyModuleImports (r .modules ++ (m ∷ [])) (l .base)) w₂ .1 =
         e₃ ∙ ap (λ t. run at (applyModuleImports t (l .base)) w₂ .1) modules in
         let h₄ : w₄ ≡ run at (applyExportsToLoaded m (r .modules)) w₃ .1 =

@@ -1,10 +1,8 @@
 // How a call begins: the two tests that all have, and a module's entry into the register.
 ghost use mathlib.Core.Path.{_≡_};
-ghost use mathlib.Core.Bool.{true};
-ghost use mathlib.Core.List.{List};
-ghost use Prim.Native.Nat.{ℕ};
 ghost use Rattle.window.specs.Memory.{goodWindow};
-ghost use Rattle.register.specs.Decode.{registerOf, isRegister};
+ghost use Rattle.register.specs.Decode.{isRegister};
+ghost use Rattle.register_read.specs.Read.{Encoded};
 ghost use Rattle.linker_entry.specs.Entry.{tested, entered};
 use linker::rebase::Rebased;
 use linker_exports::Indexed;
@@ -36,10 +34,9 @@ pub fn enter(
     auto_link: bool,
     rebased: Rebased,
 ) -> u32
-    ensures { λ r. ⌜ ((missing : List ℕ) → isRegister (now (records .entry)) (now (names .entry)) missing ≡ true
-        → (r, now (w .exit), now (records .exit), now (names .exit))
-        ≡ entered at (now (records .entry)) (now (names .entry)) (registerOf (now (records .entry)) (now (names .entry)) missing)
-        base size «auto_link» rebased (now (w .entry))) ⌝ }
+    requires { ⌜ Encoded (now records) (now names) ⌝ }
+    ensures { λ r. ⌜ (r, now (w .exit), now (records .exit), now (names .exit))
+        ≡ entered at (now (records .entry)) (now (names .entry)) base size «auto_link» rebased (now (w .entry)) ⌝ }
 {
     match rebased {
         Rebased::NotACro => 1,

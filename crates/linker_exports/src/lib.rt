@@ -7,10 +7,12 @@ ghost use Prim.Native.Nat.{ℕ, _+_};
 ghost use Rattle.window.specs.Access.{run};
 ghost use Rattle.layout.specs.Header.{exportNamedSymbolTableOffset, exportIndexedSymbolTableOffset};
 ghost use Rattle.register.specs.Decode.{isRegister, registerOf};
+ghost use Rattle.register.specs.Change.{appended};
+ghost use Rattle.register_read.specs.Read.{Encoded};
 ghost use Rattle.linker.specs.Exports.{namedExports, indexedExports, readSegments, readModule};
 ghost use Rattle.linker_record.specs.Read.{headerWord, segmentsTo, namedTo, indexedTo};
 ghost use Rattle.linker_exports.specs.Modules.{withSegments, withNamed, withIndexeds, Turns, Bare, Unindexed, Empty, Any};
-ghost use Rattle.linker_exports.specs.Exported.{exported, registerWith};
+ghost use Rattle.linker_exports.specs.Exported.{registerIn, entryAnswer, exported, registerWith};
 use layout::fields::entry_address;
 use layout::fields::field;
 use layout::format::EXPORT_INDEXED_SYMBOL_ENTRY_SIZE;
@@ -220,14 +222,14 @@ pub fn index_exports(
     size: u32,
     auto_link: bool,
 ) -> Indexed
-    ensures { λ r. ⌜ ((missing : List ℕ) → isRegister (now (records .entry)) (now (names .entry)) missing ≡ true
-        → ((r, now (records .exit), now (names .exit))
-        ≡ exported (now (records .entry)) (now (names .entry)) (registerOf (now (records .entry)) (now (names .entry)) missing)
-        (run at (readModule base size «auto_link») (now (w .entry)) .0))
-        × (isRegister (now (records .exit)) (now (names .exit)) missing ≡ true)
+    requires { ⌜ Encoded (now records) (now names) ⌝ }
+    ensures { λ r. ⌜ (let old = registerIn (now (records .entry)) (now (names .entry)) in
+        let m = run at (readModule base size «auto_link») (now (w .entry)) .0 in
+        ((entryAnswer (appended old m) r, now (records .exit), now (names .exit)) ≡ exported (now (records .entry)) (now (names .entry)) m)
+        × ((missing : List ℕ) → isRegister (now (records .entry)) (now (names .entry)) missing ≡ true
+        → (isRegister (now (records .exit)) (now (names .exit)) missing ≡ true)
         × (registerOf (now (records .exit)) (now (names .exit)) missing
-        ≡ registerWith (now (records .entry)) (now (names .entry)) (registerOf (now (records .entry)) (now (names .entry)) missing)
-        (run at (readModule base size «auto_link») (now (w .entry)) .0))) ⌝ }
+        ≡ registerWith (now (records .entry)) (now (names .entry)) (registerOf (now (records .entry)) (now (names .entry)) missing) m))) ⌝ }
 {
     let Drafted::Open(first) = begin(at, w, base, size, auto_link, records, names) else {
         return Indexed::NoRoom;

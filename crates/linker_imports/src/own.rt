@@ -5,7 +5,7 @@ ghost use Rattle.window.specs.Access.{run};
 ghost use Rattle.register.specs.Decode.{registerOf, isRegister};
 ghost use Rattle.register_read.specs.Read.{Encoded, modulesOf};
 ghost use Rattle.linker.specs.Imports.{importNamed, applyImportNamedSymbols, importModule, applyModuleImports};
-ghost use Rattle.linker_imports.specs.Missing.{Noted};
+ghost use Rattle.linker_imports.specs.Missing.{imported, Noted};
 use layout::fields::entry_address;
 use layout::fields::field;
 use layout::format::IMPORT_MODULE_ENTRY_SIZE;
@@ -37,7 +37,8 @@ fn import_named(
     requires { ⌜ isRegister (now records) (now names) (now missing) ≡ true ⌝ }
     ensures { λ _. ⌜ (let r = registerOf (now (records .entry)) (now (names .entry)) (now (missing .entry)) in
         let x = run at (importNamed (r .modules) base entry (r .missing)) (now (w .entry)) in
-        (now (w .exit) ≡ x .1) × Noted r (now (records .exit)) (now (names .entry)) (now (missing .exit)) (x .0)) ⌝ }
+        ((now (w .exit), now (records .exit), now (missing .exit)) ≡ imported r (now (records .entry)) x)
+        × Noted r (now (records .exit)) (now (names .entry)) (now (missing .exit)) (x .0)) ⌝ }
 {
     let batch = window::read32(at, w, std::num::wrapping_add_u32(entry, 4));
     if is_unresolved(at, w, batch) {
@@ -67,7 +68,8 @@ pub fn apply_import_named_symbols(
     requires { ⌜ isRegister (now records) (now names) (now missing) ≡ true ⌝ }
     ensures { λ _. ⌜ (let r = registerOf (now (records .entry)) (now (names .entry)) (now (missing .entry)) in
         let x = run at (applyImportNamedSymbols (r .modules) base (r .missing)) (now (w .entry)) in
-        (now (w .exit) ≡ x .1) × Noted r (now (records .exit)) (now (names .entry)) (now (missing .exit)) (x .0)) ⌝ }
+        ((now (w .exit), now (records .exit), now (missing .exit)) ≡ imported r (now (records .entry)) x)
+        × Noted r (now (records .exit)) (now (names .entry)) (now (missing .exit)) (x .0)) ⌝ }
 {
     let table = field(at, w, base, IMPORT_NAMED_SYMBOL_TABLE_OFFSET);
     let count = field(at, w, base, IMPORT_NAMED_SYMBOL_NUM);

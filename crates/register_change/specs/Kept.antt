@@ -4,23 +4,25 @@ use mathlib.Core.Path.{_≡_, refl, sym, ap, _∙_}
 use mathlib.Core.List.{List, [], _∷_, _++_, append-assoc, append-nil}
 use mathlib.Core.Bool.{Bool, true, false}
 use native.Mathlib.Omega.{arith}
-use lib.ListN.{length, drop, replicate, length-append, length-replicate, replicate-append-replicate}
-use lib.Seq.{sets-eq, length-sets, take-append-seam, drop-append-add, drop-at}
+use lib.ListN.{length, drop, getD, replicate, length-append, length-replicate, replicate-append-replicate}
+use lib.Seq.{sets, set-getD, sets-eq, length-sets, take-append-seam, drop-append-add, drop-at}
 use lib.Dec.{leb, ltb}
 use borrow.Author.Tests.{leb-true, ltb-true, le-ltb, le-leb, eq-eqb}
 use Rattle.window.specs.Memory.{if_then_else_}
 use Rattle.name.specs.Name.{isName, noZero}
+use Rattle.window.specs.Bytes.{join}
 use Rattle.window.specs.Word.{wordIn, setWordIn}
 use Rattle.window.specs.Tests.{both, also}
-use Rattle.register.specs.Words.{holds, wordsIn, word-row}
+use Rattle.register.specs.Words.{holds, bytesOf, wordsIn, word-row}
 use Rattle.register.specs.Module.{Register, proper, properNames}
 use Rattle.register.specs.Proper.{Proper, proper-parts, parts-proper}
 use Rattle.register.specs.Encode.{encodeWords, crsKnown, crsBase, slot, slots}
 use Rattle.register.specs.Decode.{settled-other, encodes, registerOf, isRegister}
 use Rattle.register.specs.Slots.{length-slot, length-slots}
 use Rattle.register.specs.CheckIs.{long, read-back, word₅, register-parts, is-register}
-use Rattle.register.specs.Buffers.{padded, padded-holds, names-are}
+use Rattle.register.specs.Buffers.{Below, padded, padded-holds, names-are}
 use Rattle.register.specs.Change.{withCrs, withMissing}
+use Rattle.register_append.specs.Sets.{sets-inside, store-word}
 use Rattle.register_change.specs.Bytes.{setCrs, putSlot, takesName, pushMissing}
 use Rattle.register_change.specs.Encoded.{header-there, store-encodes}
 
@@ -123,16 +125,53 @@ length-put : (missing : List ℕ) (place : ℕ) (name : List ℕ) → length (pu
 unfolding putSlot
 length-put missing place name = length-sets missing place (length name % 256 ∷ length name / 256 ∷ name)
 
+-- word 5 counts the missing names
+count-word
+    : (records names missing : List ℕ) (r : Register) → proper r ≡ true → encodes records names missing r ≡ true
+    → wordIn records 20 ≡ length (r .missing)
+count-word records names missing r p e =
+    word-row records 5 (omega (arith, long records names missing r p e .1))
+    ∙ sym (settled-other (wordsIn records) 5 (λ z. omega arith))
+    ∙ word₅ records names missing r p e
+
+-- a word written where it stands
+word-again : (l : List ℕ) (i : ℕ) → Below 256 l → setWordIn l i (wordIn l i) ≡ l
+unfolding setWordIn wordIn
+word-again l i b =
+    let a₀ = getD l i 0 in
+    let a₁ = getD l (i + 1) 0 in
+    let a₂ = getD l (i + 2) 0 in
+    let a₃ = getD l (i + 3) 0 in
+    let q₁ : join a₀ a₁ a₂ a₃ / 256 ≡ a₁ + 256 * (a₂ + 256 * a₃) = omega (arith, b i) in
+    let q₂ : (a₁ + 256 * (a₂ + 256 * a₃)) / 256 ≡ a₂ + 256 * a₃ = omega (arith, b (i + 1)) in
+    let q₃ : (a₂ + 256 * a₃) / 256 ≡ a₃ = omega (arith, b (i + 2)) in
+    let e₀ : join a₀ a₁ a₂ a₃ % 256 ≡ a₀ = omega (arith, b i) in
+    let e₁ : (a₁ + 256 * (a₂ + 256 * a₃)) % 256 ≡ a₁ = omega (arith, b (i + 1)) in
+    let e₂ : (a₂ + 256 * a₃) % 256 ≡ a₂ = omega (arith, b (i + 2)) in
+    let e₃ : a₃ % 256 ≡ a₃ = omega (arith, b (i + 3)) in
+    rw (q₁, q₂, q₃, e₀, e₁, e₂, e₃, set-getD l i 0, set-getD l (i + 1) 0, set-getD l (i + 2) 0, set-getD l (i + 3) 0)
+
+-- a word written twice
+pub word-twice : (l : List ℕ) (i a b : ℕ) → setWordIn (setWordIn l i a) i b ≡ setWordIn l i b
+unfolding bytesOf
+word-twice l i a b =
+    let z : i ≡ i + 0 = omega arith in
+    store-word (setWordIn l i a) i b
+    ∙ ap (λ t. sets t i (bytesOf b)) (store-word l i a)
+    ∙ ap (λ k. sets (sets l i (bytesOf a)) k (bytesOf b)) z
+    ∙ sets-inside l i (bytesOf a) 0 (bytesOf b) (omega arith)
+    ∙ sym (store-word l i b)
+
+pub count-again
+    : (records names missing : List ℕ) → Below 256 records → isRegister records names missing ≡ true
+    → setWordIn records 20 (length (registerOf records names missing .missing)) ≡ records
+count-again records names missing b h =
+    let p = register-parts records names missing h in
+    rw (← count-word records names missing (registerOf records names missing) (p .0) (p .1)) (word-again records 20 b)
+
 module _ (records names missing name : List ℕ) (g : isName name ≡ true) where
   abbrev pushed : List ℕ × List ℕ
   pushed = pushMissing records missing name
-
-  -- word 5 counts the missing names
-  count-word : (r : Register) → proper r ≡ true → encodes records names missing r ≡ true → wordIn records 20 ≡ length (r .missing)
-  count-word r p e =
-      word-row records 5 (omega (arith, long records names missing r p e .1))
-      ∙ sym (settled-other (wordsIn records) 5 (λ z. omega arith))
-      ∙ word₅ records names missing r p e
 
   -- the lengths are those of a register and of a name
   takes : (r : Register) → encodes records names missing r ≡ true → takesName (length records) (length missing) (length name) ≡ true
@@ -149,7 +188,7 @@ module _ (records names missing name : List ℕ) (g : isName name ≡ true) wher
       → encodes (pushed .0) names (pushed .1) (withMissing r name) ≡ true
   unfolding pushMissing withMissing encodeWords
   push-encodes r p e =
-      rw (takes r e, count-word r p e) (go (ltb (length (r .missing)) 64) refl)
+      rw (takes r e, count-word records names missing r p e) (go (ltb (length (r .missing)) 64) refl)
     where
       ns : List (List ℕ)
       ns = r .missing
@@ -189,3 +228,19 @@ module _ (records names missing name : List ℕ) (g : isName name ≡ true) wher
       let e = push-encodes r (p .0) (p .1) in
       let q = push-proper r name (p .0) g in
       (is-register (pushed .0) names (pushed .1) (withMissing r name) q e, read-back (pushed .0) names (pushed .1) (withMissing r name) q e)
+
+  -- of the records word 5 alone is another
+  pub push-counts
+      : Below 256 records → isRegister records names missing ≡ true
+      → pushed .0 ≡ setWordIn records 20 (length (withMissing (registerOf records names missing) name .missing))
+  unfolding pushMissing withMissing
+  push-counts b h =
+      let p = register-parts records names missing h in
+      rw (takes r (p .1), count-word records names missing r (p .0) (p .1)) (go (ltb (length (r .missing)) 64))
+    where
+      r : Register
+      r = registerOf records names missing
+
+      go : (t : Bool) → step t (length (r .missing)) .0 ≡ setWordIn records 20 (length (if t then r .missing ++ (name ∷ []) else r .missing))
+      go true = rw (length-append (r .missing) (name ∷ []))
+      go false = sym (count-again records names missing b h)

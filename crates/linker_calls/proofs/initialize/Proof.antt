@@ -1,4 +1,4 @@
-use Rattle.linker_calls.proofs.Calls.{initialize-refused, initialize-hindered, initialize-done}
+use Rattle.linker_calls.proofs.Calls.{tests-encoded, initialize-refused, initialize-hindered, initialize-done}
 use Rattle.linker_calls.specs.Steps.{lent}
 use borrow.Author.Needs.{needs}
 use Rattle.linker_calls.proofs.initialize.Statement.{statement}
@@ -29,7 +29,11 @@ rebase-static-requires : tie.Need-rebase-static-requires
 rebase-static-requires c κs = search needs
 
 enter-requires : tie.Need-enter-requires
-enter-requires c κs = search needs
+enter-requires c κs =
+    let p7 = c .before .before .before .before .before .before .before in
+    let p8 = p7 .before in
+    let a = p8 .before .before .before .before .before .before .before .before .before .args in
+    tests-encoded (a .at) (lent (a .window .now) (a .records .now) (a .names .now) (a .missing .now)) (p8 .tested .ensures) (p7 .if1 .left)
 
 same-length-5 : tie.Need-same-length-5
 same-length-5 c = search needs
@@ -45,9 +49,14 @@ same-length-8 c = search needs
 
 returns-2 : tie.Need-returns-2
 returns-2 c =
-    let a = c .before .before .before .before .before .before .before .before .before .before .before .before .before .before .before .before .before .before .before .before .before .before .before .before .before .args in
+    let p7 = c .before .before .before .before .before .before .before in
+    let p13 = p7 .before .before .before .before .before .before in
+    let p15 = p13 .before .before in
+    let p16 = p15 .before in
+    let a = p16 .before .before .before .before .before .before .before .before .before .args in
     let b = lent (a .window .now) (a .records .now) (a .names .now) (a .missing .now) in
-    initialize-hindered (a .at) (a .base) (a .size) b (c .before .before .before .before .before .before .before .before .before .before .before .before .before .before .before .before .tested .ensures) (c .before .before .before .before .before .before .before .before .before .before .before .before .before .before .before .if1 .left) (c .before .before .before .before .before .before .before .before .before .before .before .before .before .rebase-static .ensures) (c .before .before .before .before .before .before .before .enter .ensures) (c .if2 .taken)
+    initialize-hindered (a .at) (a .base) (a .size) b (p16 .tested .ensures) (p15 .if1 .left) (p13 .rebase-static .ensures) (p7 .enter .ensures)
+    (c .if2 .taken)
 
 unhang-requires : tie.Need-unhang-requires
 unhang-requires c κs = search needs
@@ -69,10 +78,17 @@ same-length-12 c = search needs
 
 returns-3 : tie.Need-returns-3
 returns-3 c =
-    let a = c .before .before .before .before .before .before .before .before .before .before .before .before .before .before .before .before .before .before .before .before .before .before .before .before .before .before .before .before .before .before .before .before .before .args in
+    let p2 = c .before .before in
+    let p6 = p2 .before .before .before .before in
+    let p8 = p6 .before .before in
+    let p15 = p8 .before .before .before .before .before .before .before in
+    let p21 = p15 .before .before .before .before .before .before in
+    let p23 = p21 .before .before in
+    let p24 = p23 .before in
+    let a = p24 .before .before .before .before .before .before .before .before .before .args in
     let b = lent (a .window .now) (a .records .now) (a .names .now) (a .missing .now) in
-    initialize-done (a .at) (a .base) (a .size) b (c .before .before .before .before .before .before .before .before .before .before .before .before .before .before .before .before .before .before .before .before .before .before .before .before .tested .ensures) (c .before .before .before .before .before .before .before .before .before .before .before .before .before .before .before .before .before .before .before .before .before .before .before .if1 .left) (c .before .before .before .before .before .before .before .before .before .before .before .before .before .before .before .before .before .before .before .before .before .rebase-static .ensures) (c .before .before .before .before .before .before .before .before .before .before .before .before .before .before .before .enter .ensures) (c .before .before .before .before .before .before .before .before .if2 .left)
-    (c .before .before .before .before .before .before .unhang .ensures) (c .before .before .set-crs .ensures)
+    initialize-done (a .at) (a .base) (a .size) b (p24 .tested .ensures) (p23 .if1 .left) (p21 .rebase-static .ensures) (p15 .enter .ensures)
+    (p8 .if2 .left) (p6 .unhang .ensures) (p2 .set-crs .ensures)
 
 pub initialize-spec : {M : Type 1} → statement M
 initialize-spec =

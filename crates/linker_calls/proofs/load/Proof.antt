@@ -1,4 +1,4 @@
-use Rattle.linker_calls.proofs.Calls.{load-refused, load-hindered, load-linkable, load-done}
+use Rattle.linker_calls.proofs.Calls.{tests-encoded, load-refused, load-hindered, load-linkable, load-done}
 use Rattle.linker_calls.specs.Steps.{lent, toLoad}
 use native.Mathlib.Omega.{arith}
 use mathlib.Core.Path.{_∙_}
@@ -40,7 +40,11 @@ rebase-requires : tie.Need-rebase-requires
 rebase-requires c κs = search needs
 
 enter-requires : tie.Need-enter-requires
-enter-requires c κs = search needs
+enter-requires c κs =
+    let p9 = c .before .before .before .before .before .before .before .before .before in
+    let p10 = p9 .before in
+    let a = p10 .before .before .before .before .before .before .before .before .before .args in
+    tests-encoded (a .at) (lent (a .window .now) (a .records .now) (a .names .now) (a .missing .now)) (p10 .tested .ensures) (p9 .if1 .left)
 
 same-length-5 : tie.Need-same-length-5
 same-length-5 c = search needs

@@ -1,4 +1,4 @@
-use Rattle.linker_calls.proofs.Calls.{unload-refused, unload-encoded, unload-none, unload-stands, unload-done}
+use Rattle.linker_calls.proofs.Calls.{unload-refused, tests-encoded, unload-none, unload-stands, unload-done}
 use Rattle.linker_calls.specs.Steps.{lent}
 use borrow.Author.Needs.{needs}
 use Rattle.linker_calls.proofs.unload.Statement.{statement}
@@ -34,7 +34,7 @@ first-with-base-requires c κs =
     let p11 = p2 .before .before .before .before .before .before .before .before .before in
     let a = p11 .args in
     let b = lent (a .window .now) (a .records .now) (a .names .now) (a .missing .now) in
-    (_, unload-encoded (a .at) (a .base) b (p2 .tested .ensures) (p1 .if1 .left))
+    (_, tests-encoded (a .at) b (p2 .tested .ensures) (p1 .if1 .left))
 
 enum-known-place : tie.Need-enum-known-place
 enum-known-place c = search needs
@@ -71,7 +71,7 @@ reset-importers-requires c κs =
     let p18 = p9 .before .before .before .before .before .before .before .before .before in
     let a = p18 .args in
     let b = lent (a .window .now) (a .records .now) (a .names .now) (a .missing .now) in
-    unload-encoded (a .at) (a .base) b (p9 .tested .ensures) (p8 .if1 .left)
+    tests-encoded (a .at) b (p9 .tested .ensures) (p8 .if1 .left)
 
 unlist-requires : tie.Need-unlist-requires
 unlist-requires c κs = search needs

@@ -27,12 +27,12 @@ enum-told-5 c = search needs
 returns : tie.Need-returns
 returns c =
     let a = c .before .before .before .before .before .args in
-    λ missing h. enter-1 (a .at) (a .w .now) (a .records .now) (a .names .now) _ (a .base) (a .size) (a .auto-link) (c .enum-told .given .1)
+    enter-1 (a .at) (a .w .now) (a .records .now) (a .names .now) (a .base) (a .size) (a .auto-link) (c .enum-told .given .1)
 
 returns-2 : tie.Need-returns-2
 returns-2 c =
     let a = c .before .before .before .before .before .args in
-    λ missing h. enter-2 (a .at) (a .w .now) (a .records .now) (a .names .now) _ (a .base) (a .size) (a .auto-link) (c .enum-told2 .given .1)
+    enter-2 (a .at) (a .w .now) (a .records .now) (a .names .now) (a .base) (a .size) (a .auto-link) (c .enum-told2 .given .1)
 
 same-length : tie.Need-same-length
 same-length c = search needs
@@ -45,9 +45,12 @@ same-length-3 c = search needs
 
 returns-3 : tie.Need-returns-3
 returns-3 c =
-    let a = c .before .before .before .before .before .before .before .before .before .before .before .before .before .before .before .before .before .before .before .args in
-    λ missing h. enter-5 (a .at) (a .w .now) (a .records .now) (a .names .now) _ (a .base) (a .size) (a .auto-link) (c .before .before .before .before .before .before .before .before .before .before .before .before .before .before .enum-told3 .given .1)
-    (c .before .before .before .before .before .before .before .before .before .before .before .before .reset-external-relocations .ensures) (c .before .before .before .before .before .before .index-exports .ensures missing h .0) (c .enum-told4 .given .1)
+    let p6 = c .before .before .before .before .before .before in
+    let p12 = p6 .before .before .before .before .before .before in
+    let p14 = p12 .before .before in
+    let a = p14 .before .before .before .before .before .args in
+    enter-5 (a .at) (a .w .now) (a .records .now) (a .names .now) (a .base) (a .size) (a .auto-link) (p14 .enum-told3 .given .1)
+    (p12 .reset-external-relocations .ensures) (p6 .index-exports .result) (p6 .index-exports .ensures .0) (c .enum-told4 .given .1)
 
 same-length-4 : tie.Need-same-length-4
 same-length-4 c = search needs
@@ -60,9 +63,12 @@ same-length-6 c = search needs
 
 returns-4 : tie.Need-returns-4
 returns-4 c =
-    let a = c .before .before .before .before .before .before .before .before .before .before .before .before .before .before .before .before .before .before .before .args in
-    λ missing h. enter-0 (a .at) (a .w .now) (a .records .now) (a .names .now) _ (a .base) (a .size) (a .auto-link) (c .before .before .before .before .before .before .before .before .before .before .before .before .before .before .enum-told3 .given .1)
-    (c .before .before .before .before .before .before .before .before .before .before .before .before .reset-external-relocations .ensures) (c .before .before .before .before .before .before .index-exports .ensures missing h .0) (c .enum-told5 .given .1)
+    let p6 = c .before .before .before .before .before .before in
+    let p12 = p6 .before .before .before .before .before .before in
+    let p14 = p12 .before .before in
+    let a = p14 .before .before .before .before .before .args in
+    enter-0 (a .at) (a .w .now) (a .records .now) (a .names .now) (a .base) (a .size) (a .auto-link) (p14 .enum-told3 .given .1)
+    (p12 .reset-external-relocations .ensures) (p6 .index-exports .result) (p6 .index-exports .ensures .0) (c .enum-told5 .given .1)
 
 pub enter-spec : {M : Type 1} → statement M
 enter-spec =

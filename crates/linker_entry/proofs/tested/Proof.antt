@@ -2,6 +2,7 @@ use Rattle.linker_entry.proofs.Laws.{tested-3, tested-4, tested-0}
 use borrow.Author.Tests.{not-true, not-false}
 use mathlib.Core.Path.{sym, _∙_}
 use borrow.Author.Needs.{needs}
+use Rattle.register.specs.Decode.{isRegister}
 use Rattle.linker_entry.proofs.tested.Statement.{statement}
 use Rattle.linker_entry.proofs.tested.Tie as tie
 
@@ -10,7 +11,9 @@ good-window-requires c κs = search needs
 
 returns : tie.Need-returns
 returns c =
-    tested-3 _ (sym (c .before .good-window .ensures) ∙ not-true _ (c .if1 .taken))
+    let a = c .before .before .before .before .before .before .args in
+    tested-3 (isRegister (a .records .now) (a .names .now) (a .missing .now))
+    (sym (c .before .good-window .ensures) ∙ not-true _ (c .if1 .taken))
 
 is-register-requires : tie.Need-is-register-requires
 is-register-requires c κs = search needs

@@ -1,6 +1,6 @@
 use native.Mathlib.Omega.{arith}
 use borrow.Author.Needs.{needs}
-use Rattle.linker_exports.specs.Exported.{not-begun, not-filled, finished-all}
+use Rattle.linker_exports.specs.Exported.{for-all, not-begun, not-filled, finished-all}
 use Rattle.linker_exports.proofs.index_exports.Statement.{statement}
 use Rattle.linker_exports.proofs.index_exports.Tie as tie
 
@@ -25,9 +25,10 @@ returns c =
     let b₈ = b₄ .before .before .before .before in
     let b₁₂ = b₈ .before .before .before .before in
     let a = b₁₂ .args in
-    λ missing h. not-begun (a .at) (a .w .now) (a .records .now) (a .names .now) (a .base) (a .size) (a .auto-link)
+    for-all (a .records .now) (a .names .now) _ _ _ _ (b₁₂ .pre)
+    (λ missing h. not-begun (a .at) (a .w .now) (a .records .now) (a .names .now) (a .base) (a .size) (a .auto-link)
     (λ i. omega (arith, b₈ .before .before .slice-known .given i)) (omega (arith, b₁₂ .fits .base)) (omega (arith, b₁₂ .fits .size))
-    missing h _ _ _ (b₄ .before .before .begin .ensures) (c .enum-told .given .1)
+    missing h _ _ _ (b₄ .before .before .begin .ensures) (c .enum-told .given .1))
 
 add-lists-requires : tie.Need-add-lists-requires
 add-lists-requires c κs = search needs
@@ -52,10 +53,11 @@ returns-2 c =
     let b₁₆ = b₁₂ .before .before .before .before in
     let b₂₀ = b₁₆ .before .before .before .before in
     let a = b₂₀ .before .before .args in
-    λ missing h. not-filled (a .at) (a .w .now) (a .records .now) (a .names .now) (a .base) (a .size) (a .auto-link)
+    for-all (a .records .now) (a .names .now) _ _ _ _ (b₂₀ .before .before .pre)
+    (λ missing h. not-filled (a .at) (a .w .now) (a .records .now) (a .names .now) (a .base) (a .size) (a .auto-link)
     (λ i. omega (arith, b₂₀ .slice-known .given i)) (omega (arith, b₂₀ .before .before .fits .base))
     (omega (arith, b₂₀ .before .before .fits .size)) missing h _ _ _ (b₁₆ .begin .ensures) _ (b₈ .before .before .first .given .1) _ _ _
-    (b₄ .before .before .add-lists .ensures) (c .enum-told2 .given .1)
+    (b₄ .before .before .add-lists .ensures) (c .enum-told2 .given .1))
 
 finish-record-requires : tie.Need-finish-record-requires
 finish-record-requires c κs = search needs
@@ -75,11 +77,12 @@ returns-3 c =
     let b₂₀ = b₁₆ .before .before .before .before in
     let b₂₄ = b₂₀ .before .before .before .before in
     let a = b₂₄ .before .before .before .args in
-    λ missing h. finished-all (a .at) (a .w .now) (a .records .now) (a .names .now) (a .base) (a .size) (a .auto-link)
+    for-all (a .records .now) (a .names .now) _ _ _ _ (b₂₄ .before .before .before .pre)
+    (λ missing h. finished-all (a .at) (a .w .now) (a .records .now) (a .names .now) (a .base) (a .size) (a .auto-link)
     (λ i. omega (arith, b₂₄ .before .slice-known .given i)) (omega (arith, b₂₄ .before .before .before .fits .base))
     (omega (arith, b₂₄ .before .before .before .fits .size)) missing h _ _ _ (b₂₀ .before .begin .ensures) _
     (b₁₂ .before .before .before .first .given .1) _ _ _ (b₈ .before .before .before .add-lists .ensures) _ (b₄ .before .last .given .1)
-    (c .before .before .finish-record .ensures)
+    (c .before .before .finish-record .ensures))
 
 pub index-exports-spec : {M : Type 1} → statement M
 index-exports-spec =

@@ -17,7 +17,7 @@ Inv-loop at w₀ records₀ names missing₀ base table count index₀ w records
     × (length w ≡ length w₀)
     × (length records ≡ length records₀)
     × (length missing ≡ length missing₀)
-    × Reached at base table (registerOf records₀ names missing₀) records names missing index count w
+    × Reached at base table (registerOf records₀ names missing₀) records₀ records names missing index count w
     (run at (applyImportNamedSymbols ((registerOf records₀ names missing₀) .modules) base ((registerOf records₀ names missing₀) .missing)) w₀)
 
 abbrev μ-loop : tie.MeasureT-loop
@@ -32,14 +32,15 @@ field-requires-2 c κs = search needs
 loop-holds : tie.Need-loop-holds Inv-loop μ-loop
 loop-holds c =
     let p2 = c .before .before in
-    let p8 = p2 .before .before .before .before .before .before in
+    let p6 = p2 .before .before .before .before in
+    let p8 = p6 .before .before in
     let a = p8 .args in (
       omega arith,
       refl,
       refl,
       refl,
       reached-starts (a .at) (a .base) (a .records .now) (a .names .now) (a .missing .now)
-          (a .w .now) (p8 .pre) (p2 .field .ensures) (c .field2 .ensures),
+          (a .w .now) (λ i. omega (arith, p6 .slice-known2 .given i)) (p8 .pre) (p2 .field .ensures) (c .field2 .ensures),
     )
 
 entry-address-requires : tie.Need-entry-address-requires Inv-loop μ-loop
@@ -69,7 +70,7 @@ loop-again c =
       p6 .import-named .kept .1 .0 ∙ p12 .loop .inv .1,
       p6 .import-named .kept .1 .1 .0 ∙ p12 .loop .inv .2,
       p6 .import-named .kept .1 .1 .1 .1 .0 ∙ p12 .loop .inv .3,
-      reached-next (a .at) (a .base) (p15 .field .result) r (p12 .loop .records) (a .names .now) (p12 .loop .missing)
+      reached-next (a .at) (a .base) (p15 .field .result) r (a .records .now) (p12 .loop .records) (a .names .now) (p12 .loop .missing)
           (p12 .loop .index) (p13 .field2 .result) (p12 .loop .w) _ (p12 .loop .inv .4) _ _ (p11 .loop-test .taken) (p10 .entry-address .ensures)
           (p6 .import-named .ensures),
     )
@@ -97,7 +98,7 @@ returns c =
     let p10 = p4 .before .before .before .before .before .before in
     let a = p10 .args in
     reached-over (a .at) (a .base) (p4 .field .result)
-    (registerOf (a .records .now) (a .names .now) (a .missing .now)) (p1 .loop .records) (a .names .now) (p1 .loop .missing)
+    (registerOf (a .records .now) (a .names .now) (a .missing .now)) (a .records .now) (p1 .loop .records) (a .names .now) (p1 .loop .missing)
     (p1 .loop .index) (p2 .field2 .result) (p1 .loop .w) _ (p1 .loop .inv .4) (c .loop-test .left)
 
 pub apply-import-named-symbols-spec : {M : Type 1} → statement M

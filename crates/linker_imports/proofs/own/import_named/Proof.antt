@@ -1,4 +1,5 @@
 -- By whether the batch waits, and whether an auto-linked module has the name.
+use native.Mathlib.Omega.{arith}
 use borrow.Author.Needs.{needs}
 use Rattle.name.specs.Name.{name-fits, name-taken}
 use Rattle.linker_imports.proofs.Missing.{own-passed, own-found, own-missing}
@@ -72,10 +73,12 @@ returns c =
     let p16 = p15 .before in
     let p18 = p16 .before .before in
     let p19 = p18 .before in
-    let p25 = p19 .before .before .before .before .before .before in
+    let p23 = p19 .before .before .before .before in
+    let p25 = p23 .before .before in
     let a = p25 .args in
-    own-found (a .records .now) (a .names .now) (a .missing .now) (a .at) (a .base) (a .entry) (a .w .now) (p25 .pre) (p19 .wrapping-add-u32 .ensures)
-    (p18 .read32 .ensures) (p16 .is-unresolved .ensures) _ (p15 .if1 .taken) (p13 .read322 .ensures) (p10 .read-name .ensures) (p7 .lookup .ensures)
+    own-found (a .records .now) (a .names .now) (a .missing .now) (a .at) (a .base) (a .entry) (a .w .now)
+    (λ i. omega (arith, p23 .slice-known2 .given i)) (p25 .pre) (p19 .wrapping-add-u32 .ensures) (p18 .read32 .ensures)
+    (p16 .is-unresolved .ensures) _ (p15 .if1 .taken) (p13 .read322 .ensures) (p10 .read-name .ensures) (p7 .lookup .ensures)
     (p5 .symbol .given .1) (p2 .apply-relocation-batch .ensures)
 
 same-length-3 : tie.Need-same-length-3
@@ -98,9 +101,11 @@ returns-2 c =
     let p19 = p18 .before in
     let p21 = p19 .before .before in
     let p22 = p21 .before in
-    let p28 = p22 .before .before .before .before .before .before in
+    let p26 = p22 .before .before .before .before in
+    let p28 = p26 .before .before in
     let a = p28 .args in
-    own-missing (a .records .now) (a .names .now) (a .missing .now) (a .at) (a .base) (a .entry) (a .w .now) (p28 .pre)
+    own-missing (a .records .now) (a .names .now) (a .missing .now) (a .at) (a .base) (a .entry) (a .w .now)
+    (λ i. omega (arith, p26 .slice-known2 .given i)) (p28 .pre)
     (p22 .wrapping-add-u32 .ensures)
     (p21 .read32 .ensures) (p19 .is-unresolved .ensures) _ (p18 .if1 .taken) (p16 .read322 .ensures) (p13 .read-name .ensures) (p10 .lookup .ensures)
     (p8 .enum-told .given .1) (p4 .push-missing .ensures)
@@ -113,10 +118,12 @@ returns-3 c =
     let p1 = c .before in
     let p3 = p1 .before .before in
     let p4 = p3 .before in
-    let p10 = p4 .before .before .before .before .before .before in
+    let p8 = p4 .before .before .before .before in
+    let p10 = p8 .before .before in
     let a = p10 .args in
-    own-passed (a .records .now) (a .names .now) (a .missing .now) (a .at) (a .base) (a .entry) (a .w .now) (p10 .pre) (p4 .wrapping-add-u32 .ensures)
-    (p3 .read32 .ensures) (p1 .is-unresolved .ensures) (c .if1 .left)
+    own-passed (a .records .now) (a .names .now) (a .missing .now) (a .at) (a .base) (a .entry) (a .w .now)
+    (λ i. omega (arith, p8 .slice-known2 .given i)) (p10 .pre) (p4 .wrapping-add-u32 .ensures) (p3 .read32 .ensures)
+    (p1 .is-unresolved .ensures) (c .if1 .left)
 
 pub import-named-spec : {M : Type 1} → statement M
 import-named-spec =
