@@ -11,9 +11,9 @@ use Rattle.layout_relocation.specs.Relocation.{relocatedWord}
 use Rattle.layout_relocation.specs.declared.Patch.the-variants.{Word}
 use Rattle.layout.specs.declared.segments.Address.the-variants.{At}
 use Rattle.linker.specs.Relocation.{writePlace}
-use Rattle.history.specs.Image.{Table, tables, segments, namedExports, moduleEntries, externals, namedImports, internals, start, count, entry, fileSegment, tag, kind, symbolSegment}
+use Rattle.history.specs.Image.{Table, tables, segments, namedExports, exportTree, moduleEntries, externals, namedImports, staticAnonymous, internals, staticRelocations, start, count, entry, fileSegment, tag, kind, symbolSegment}
 use Rattle.history.specs.Arrival.{Coming, initialized, loaded, Image, baseOf, sizeOf, oldPlace, address, handler, Area}
-use Rattle.history.specs.Imports.{Import, importTable, IsImport, batch, runStart, runCount, InRun, BatchOf}
+use Rattle.history.specs.Imports.{Import, named, indexed, anonymous, importTable, IsImport, importEntry, batch, runStart, runCount, InRun, BatchOf}
 
 -- what must lie in the image apart from each other: the header, table number n, the string that a pointer gives
 pub data Part : Type 0 where
@@ -45,10 +45,19 @@ module _ (F : ℕ → ℕ) where
   InPart (table n) o = (n < length tables) × In (start F (tableNumber n)) (count F (tableNumber n) * tableNumber n .width) o
   InPart (string p) o = Pointer p × (p ≢ 0) × InString p o
 
-  -- what of a part the linker reads or writes: of the tables not the export tree and the two static ones, of a string at most 512 bytes
+  -- what an import asks for, its first word, is read if it is named or the run of a module entry has it
+  unfoldable pub Asked : Import → Type 0
+  Asked (named i) = Unit {0}
+  Asked (indexed i) = (j : ℕ) × (j < count F moduleEntries) × InRun F j (indexed i)
+  Asked (anonymous i) = (j : ℕ) × (j < count F moduleEntries) × InRun F j (anonymous i)
+
+  -- what of a part the linker reads or writes: nothing of the export tree and the two static tables, what an import asks for only where
+  -- it is read, and of a string at most 512 bytes
   unfoldable pub Touched : Part → ℕ → Type 0
   Touched header o = Unit {0}
-  Touched (table n) o = (n ≢ 3) × (n ≢ 9) × (n ≢ 11)
+  Touched (table n) o =
+      (tableNumber n ≢ exportTree) × (tableNumber n ≢ staticAnonymous) × (tableNumber n ≢ staticRelocations)
+      × ((i : Import) → IsImport F i → tableNumber n ≡ importTable i → In (importEntry F i) 4 o → Asked i)
   Touched (string p) o = o < p + 512
 
   pub record LaidAlone (size : ℕ) : Type 0 where
