@@ -1,5 +1,11 @@
 -- The premises of demand 3 can be met.
 pub mod Image
+pub mod Open
+pub mod Tests
+pub mod Laid
+pub mod Together
+pub mod Tested
+pub mod Told
 pub mod Computed
 pub mod Sessions
 pub mod Premises
