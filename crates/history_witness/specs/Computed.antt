@@ -1,13 +1,12 @@
 -- The calls of two sessions, written out, and what each gives: number, value and every byte left.
-use Prim.Native.Nat.{ℕ, _+_}
+use Prim.Native.Nat.{ℕ}
 use mathlib.Core.Path.{_≡_, refl}
 use mathlib.Core.List.{List, [], _∷_, _++_}
-use mathlib.Core.Bool.{Bool, true}
+use mathlib.Core.Bool.{true}
 use Rattle.register.specs.declared.words.Crs.the-variants.{Known}
 use Rattle.register.specs.Module.{Module, Register}
 use Rattle.register.specs.Buffers.{encodeRecords, encodeNames, encodeMissing}
 use Rattle.linker.specs.declared.rebase.Lent.{Lent}
-use Rattle.linker.specs.declared.call.Call.{Call}
 use Rattle.linker.specs.declared.call.Call.the-variants.{Initialize, Load, Unload}
 use Rattle.linker.specs.Outcome.{Bytes, Outcome, refused}
 use Rattle.history.specs.Sessions.{given}
@@ -162,6 +161,10 @@ o₇ = refl
 pub o₈ : given (Unload 0x100420) at b₃ ≡ done 1 b₂
 unfolding opened shown
 o₈ = refl
+
+pub o₉ : given (Unload 0x100420) at b₂ ≡ done 0 b₂
+unfolding opened shown
+o₉ = refl
 
 pub q₁ : given (Initialize 0x100000 0x178) bt d₀ ≡ done 0 d₁
 unfolding opened shown

@@ -1,9 +1,9 @@
 -- Whether an image is well laid, as a test that antt computes, and that an image which passes is. The test asks for a little more.
 use Prim.Native.Nat.{ℕ, zero, suc, _+_, _-_, _*_, _/_, _≤_, _<_}
-use mathlib.Core.Path.{_≡_, refl, sym, ap, _∙_}
+use mathlib.Core.Path.{_≡_, refl}
 use mathlib.Core.Logic.{_≢_, _⊎_, inl, inr}
 use mathlib.Core.List.{List, [], _∷_}
-use mathlib.Core.Bool.{Bool, true, false, not, _&&_, _||_}
+use mathlib.Core.Bool.{Bool, true, not, _&&_, _||_}
 use native.Mathlib.Omega.{arith}
 use native.Mathlib.Decide.{decLt}
 use lib.ListN.{length}
@@ -20,8 +20,8 @@ use Rattle.layout.specs.declared.segments.Address.the-variants.{At, Nowhere}
 use Rattle.linker.specs.Relocation.{batchLimit, writePlace}
 use Rattle.history.specs.Image.{Table, tables, namedExports, moduleEntries, externals, namedImports, indexedImports, anonymousImports, internals, start, count, entry, fileSegment, tag, endMark}
 use Rattle.history.specs.Arrival.{Coming, initialized, loaded, Image, baseOf, sizeOf, oldPlace, address, handler, Area, Lent-area}
-use Rattle.history.specs.Imports.{Import, named, indexed, anonymous, importTable, IsImport, importEntry, batch, runStart, runCount, InRun, BatchOf}
-use Rattle.history.specs.WellLaid.{Part, header, table, string, tableNumber, Pointer, of-module, of-export, of-import, of-entry, InString, InPart, LaidAlone, Relocated, external, internal, WordAt, NoList, LaidInPlace, WellLaid}
+use Rattle.history.specs.Imports.{Import, named, indexed, anonymous, importTable, IsImport, batch, runStart, runCount, BatchOf}
+use Rattle.history.specs.WellLaid.{Part, header, table, string, tableNumber, Pointer, of-module, of-export, of-import, of-entry, InPart, LaidAlone, Relocated, external, internal, WordAt, NoList, WellLaid}
 use Rattle.history_witness.specs.Tests.{all, each, meets, nth, either, apart, never-both, alike, alike-true}
 
 -- parts, imports and relocated words by their numbers
@@ -307,7 +307,7 @@ module _ (F : ℕ → ℕ) where
       begins-at zero h = inl refl
       begins-at (suc d) h = inr (d, refl, not-eqb _ _ h)
 
-      a-batch : (i : Import) → meets (batch-tests i) ≡ true → BatchOf F i (first-entry i) (last-entry i)
+      pub a-batch : (i : Import) → meets (batch-tests i) ≡ true → BatchOf F i (first-entry i) (last-entry i)
       unfolding batch-tests
       a-batch i h =
           record {

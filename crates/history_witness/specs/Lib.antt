@@ -9,3 +9,4 @@ pub mod Told
 pub mod Computed
 pub mod Sessions
 pub mod Premises
+pub mod Items

@@ -1,32 +1,28 @@
 -- The two are sessions, and meet every premise of `Demand3`.
-use Prim.Native.Nat.{ℕ, _+_, _^_, _≤_, _<_}
-use mathlib.Core.Path.{_≡_, refl, sym, ap, _∙_}
+use Prim.Native.Nat.{ℕ}
+use mathlib.Core.Path.{_≡_, refl, ap}
 use mathlib.Core.Logic.{_≢_, inl, inr}
-use mathlib.Core.List.{List, [], _∷_, _++_, map}
+use mathlib.Core.List.{List, [], _∷_}
 use mathlib.Core.Bool.{Bool, true, false}
 use native.Mathlib.Omega.{arith}
 use lib.ListN.{length}
 use Rattle.window.specs.Memory.{byteAt}
 use Rattle.window.specs.Within.{In}
-use Rattle.linker.specs.declared.rebase.Lent.{Lent}
-use Rattle.linker.specs.declared.call.Call.{Call}
-use Rattle.linker.specs.declared.call.Call.the-variants.{Initialize, Load, Unload}
-use Rattle.linker.specs.Outcome.{Bytes}
 use Rattle.linker.specs.Valid.{AreBytes}
-use Rattle.history.specs.Arrival.{Arrival, Image, imageOf, Area}
+use Rattle.history.specs.Arrival.{Arrival, Image, baseOf, isCrs, Area}
 use Rattle.history.specs.WellLaid.{WellLaid}
-use Rattle.history.specs.Sessions.{Turn, Words, Between, Lends, Trace, own, comes, arrived, Areas, Fresh}
+use Rattle.history.specs.Sessions.{Words, Between, Lends, Trace, own, comes, arrived, Areas, Fresh}
 use Rattle.history.specs.Outcomes.{Made, Promised}
-use Rattle.history.specs.Demand3.{Each, Pairs, InOrder, AutoLinked, ImportsKept, BaseNot0, InWindow, Apart, OtherName, OtherExports, ExportsOnce, Premises, images}
-use Rattle.history_witness.specs.Image.{zeros, cro}
+use Rattle.history.specs.Demand3.{Each, Pairs, InOrder, AutoLinked, ImportsKept, InWindow, Apart, OtherName, OtherExports, ExportsOnce, Premises}
+use Rattle.history_witness.specs.Image.{cro}
 use Rattle.history_witness.specs.Open.{opened}
 use Rattle.history_witness.specs.Laid.{laid-tests, laid}
 use Rattle.history_witness.specs.Tests.{meets}
-use Rattle.history_witness.specs.Together.{each-all, pairs, pairs-all, in-true, in-test, once-test, once-true, apart-test, apart-true, name-test, name-true, exports-test, exports-true}
+use Rattle.history_witness.specs.Together.{each-all, pairs-all, in-true, in-test, once-test, once-true, apart-test, apart-true, name-test, name-true, exports-test, exports-true}
 use Rattle.history_witness.specs.Tested.{tested}
-use Rattle.history_witness.specs.Told.{Exact, came, brings, ours, came-are, ours-are, small-all, are-bytes, same-between, next-own, next-unfit, promised, Quiet, quiet, two-faced, Ordered, ordered}
-use Rattle.history_witness.specs.Computed.{at, bt, page₀, page₁, small, large, b₀, b₁, b₂, b₃, d₀, d₁, short, wrong, shown, o₁, o₂, o₃, o₄}
-use Rattle.history_witness.specs.Sessions.{t₁, t₂, t₃, t₄, t₅, t₆, t₇, t₈, A, u₁, u₂, B, exact-a, exact-b, c, m, n, C, M, N, c-is, images-a, images-b, c-area, same-next, begins}
+use Rattle.history_witness.specs.Told.{came, brings, ours, came-are, ours-are, small-all, are-bytes, same-between, next-own, next-unfit, promised, Quiet, quiet, two-faced, Ordered, ordered}
+use Rattle.history_witness.specs.Computed.{at, bt, page₁, b₀, b₁, b₂, b₃, d₀, d₁, short, wrong, shown, o₁, o₂, o₃, o₄}
+use Rattle.history_witness.specs.Sessions.{t₁, t₂, t₃, t₄, t₅, t₆, t₇, t₈, t₉, A, u₁, u₂, B, exact-a, exact-b, c, m, n, C, M, N, c-is, images-a, images-b, c-area, same-next, begins}
 
 -- bytes are bytes
 bytes-a : AreBytes b₀ × AreBytes (b₁ cro) × AreBytes b₂ × AreBytes b₃
@@ -75,27 +71,31 @@ words-are = omega arith
 pub trace-a : Trace at A
 unfolding Trace Each Lends ours
 trace-a = (
-  (words-are .1, bytes-a .3),
-  next-own at t₈ _ (exact-a .1) refl (same-between at _ b₃),
+  (words-are .1, bytes-a .2),
+  next-own at t₉ _ (exact-a .1) refl (same-between at _ b₂),
   (
-    (words-are .4, bytes-a .3),
-    next-own at t₇ _ (exact-a .1 .1) refl (same-between at _ b₃),
+    (words-are .1, bytes-a .3),
+    next-own at t₈ _ (exact-a .1 .1) refl (same-between at _ b₃),
     (
-      (words-are .3, bytes-a .2),
-      next-own at t₆ _ (exact-a .1 .1 .1) refl (same-between at _ b₂),
+      (words-are .4, bytes-a .3),
+      next-own at t₇ _ (exact-a .1 .1 .1) refl (same-between at _ b₃),
       (
-        (words-are .0, bytes-a .1),
-        next-own at t₅ _ (exact-a .1 .1 .1 .1) refl others-write,
+        (words-are .3, bytes-a .2),
+        next-own at t₆ _ (exact-a .1 .1 .1 .1) refl (same-between at _ b₂),
         (
-          (words-are .2, bytes-a .0),
-          next-own at t₄ _ (exact-a .1 .1 .1 .1 .1) refl (same-between at _ b₀),
+          (words-are .0, bytes-a .1),
+          next-own at t₅ _ (exact-a .1 .1 .1 .1 .1) refl others-write,
           (
-            (words-are .2, bytes-misfit .1),
-            next-unfit at t₃ _ o₃ refl,
+            (words-are .2, bytes-a .0),
+            next-own at t₄ _ (exact-a .1 .1 .1 .1 .1 .1) refl (same-between at _ b₀),
             (
-              (words-are .1, bytes-misfit .0),
-              next-unfit at t₂ _ o₂ refl,
-              ((words-are .0, bytes-a .0), next-own at t₁ [] tt refl fresh-a, tt),
+              (words-are .2, bytes-misfit .1),
+              next-unfit at t₃ _ o₃ refl,
+              (
+                (words-are .1, bytes-misfit .0),
+                next-unfit at t₂ _ o₂ refl,
+                ((words-are .0, bytes-a .0), next-own at t₁ [] tt refl fresh-a, tt),
+              ),
             ),
           ),
         ),
@@ -145,7 +145,7 @@ pairs-exports : Pairs OtherExports three
 unfolding opened shown tested
 pairs-exports = pairs-all exports-test exports-true three refl
 
-windows-a : Each (λ a. (q : ℕ) → Area a q → In at (length (b₃ .window)) q) three
+windows-a : Each (λ a. (q : ℕ) → Area a q → In at (length (b₂ .window)) q) three
 unfolding opened shown tested
 windows-a = each-all (λ a. in-test a at 4096) (λ a. in-true a at 4096) three refl
 
@@ -153,7 +153,7 @@ windows-b : Each (λ a. (q : ℕ) → Area a q → In bt (length (d₁ .window))
 unfolding opened shown tested
 windows-b = each-all (λ a. in-test a bt 8192) (λ a. in-true a bt 8192) two refl
 
-own-a : own A ≡ t₈ ∷ t₇ ∷ t₆ ∷ t₅ ∷ t₄ ∷ t₁ ∷ []
+own-a : own A ≡ t₉ ∷ t₈ ∷ t₇ ∷ t₆ ∷ t₅ ∷ t₄ ∷ t₁ ∷ []
 unfolding ours
 own-a = ours-are A exact-a
 
@@ -164,19 +164,27 @@ own-b = ours-are B exact-b
 some-come : {a : Arrival} {S : List Arrival} → a ∷ S ≢ []
 some-come {a} {S} e = let z : length (a ∷ S) ≡ 0 = ap length e in absurd (omega (arith, z))
 
+-- the CRS has another base
+base-other : Each (λ a. isCrs (a .coming) ≡ true → baseOf (a .coming) ≢ 0x100420) (c ∷ m ∷ n ∷ [])
+unfolding Each
+base-other = ((λ h. λ z. absurd (omega arith)), ((λ h. two-faced false h refl), ((λ h. two-faced false h refl), tt)))
+
 crs-first-a : Ordered A
-unfolding Ordered InOrder Each came brings comes
+unfolding Ordered InOrder came brings comes
 crs-first-a = (
-  (λ e. ((λ h. λ z. absurd (omega arith)), ((λ h. two-faced false h refl), ((λ h. two-faced false h refl), tt)))),
+  (λ e. base-other),
   (
-    (λ e. two-faced false e refl),
+    (λ e. base-other),
     (
-      (λ e. some-come),
+      (λ e. two-faced false e refl),
       (
         (λ e. some-come),
         (
-          (λ e. refl),
-          ((λ e. two-faced false e refl), ((λ e. two-faced false e refl), ((λ e. two-faced false e refl), tt))),
+          (λ e. some-come),
+          (
+            (λ e. refl),
+            ((λ e. two-faced false e refl), ((λ e. two-faced false e refl), ((λ e. two-faced false e refl), tt))),
+          ),
         ),
       ),
     ),
@@ -187,21 +195,21 @@ crs-first-b : Ordered B
 unfolding Ordered InOrder came brings comes
 crs-first-b = ((λ e. some-come), ((λ e. refl), tt))
 
+not-refused : {X : Type 0} → _≡_ {A = Bool} true false → X
+not-refused e = two-faced true refl e
+
+quiet-a : Each Quiet A
+unfolding Each
+quiet-a = (
+  not-refused,
+  (not-refused, ((λ e. refl), (not-refused, (not-refused, (not-refused, ((λ e. refl), ((λ e. refl), ((λ e. refl), tt)))))))),
+)
+
 pub premises-a : Premises A
 unfolding Each Pairs InWindow AutoLinked ImportsKept
 premises-a =
     record {
-      harmless =
-          quiet A exact-a (
-            (λ e. two-faced true refl e),
-            (
-              (λ e. refl),
-              (
-                (λ e. two-faced true refl e),
-                ((λ e. two-faced true refl e), ((λ e. two-faced true refl e), ((λ e. refl), ((λ e. refl), ((λ e. refl), tt))))),
-              ),
-            ),
-          );
+      harmless = quiet A exact-a quiet-a;
       crs-first = ordered A exact-a crs-first-a;
       auto-linked = rw images-a (tt, (refl, (refl, tt)));
       imports-kept = rw images-a (tt, (omega arith, (omega arith, tt)));
@@ -218,7 +226,7 @@ pub premises-b : Premises B
 unfolding Each Pairs InWindow AutoLinked ImportsKept
 premises-b =
     record {
-      harmless = quiet B exact-b ((λ e. two-faced true refl e), ((λ e. two-faced true refl e), tt));
+      harmless = quiet B exact-b (not-refused, (not-refused, tt));
       crs-first = ordered B exact-b crs-first-b;
       auto-linked = rw images-b (tt, (refl, tt));
       imports-kept = rw images-b (tt, (omega arith, tt));

@@ -1,29 +1,28 @@
 -- Two sessions: what comes in them, and that they end alike.
-use Prim.Native.Nat.{ℕ, zero, suc, _+_, _^_, _≤_, _<_}
+use Prim.Native.Nat.{ℕ, _+_, _^_, _≤_, _<_}
 use mathlib.Core.Path.{_≡_, refl, sym, ap, _∙_, fun-ext}
 use mathlib.Core.List.{List, [], _∷_, _++_, map}
-use mathlib.Core.Bool.{true, false}
+use mathlib.Core.Bool.{true}
 use native.Mathlib.Omega.{arith}
 use native.Mathlib.Decide.{decLt}
 use lib.ListN.{length, getD, take, drop, List·getD-eq-default}
 use lib.Seq.{getD-take, getD-drop, getD-append-add}
 use borrow.Author.Tests.{lt-ltb, le-ltb}
 use Rattle.window.specs.Memory.{place, byteAt}
-use Rattle.window.specs.Within.{In, Agree}
+use Rattle.window.specs.Within.{In}
 use Rattle.register.specs.Words.{flat}
 use Rattle.linker.specs.declared.call.Call.{Call}
 use Rattle.linker.specs.declared.call.Call.the-variants.{Initialize, Load, Unload}
 use Rattle.linker.specs.Outcome.{Bytes, Outcome, refused}
-use Rattle.linker.specs.Valid.{AreBytes}
 use Rattle.history.specs.Arrival.{Coming, initialized, loaded, Arrival, Image, cut, imageOf, baseOf, sizeOf, Area}
-use Rattle.history.specs.Sessions.{Turn, Words, Between, Next, Trace, comes, arrived, others, stay, standing, Areas, Fresh}
+use Rattle.history.specs.Sessions.{Turn, comes, arrived, others, stay, standing}
 use Rattle.history.specs.Demand3.{Each, SameStanding, images}
 use Rattle.history_witness.specs.Image.{zeros, cro, c-words, m-words, n-words}
 use Rattle.history_witness.specs.Open.{opened}
 use Rattle.history_witness.specs.Together.{in-true}
 use Rattle.history_witness.specs.Tested.{tested}
-use Rattle.history_witness.specs.Told.{Exact, came, stood, ours, brings, came-are, stood-are, ours-are, small-all, are-bytes, same-between}
-use Rattle.history_witness.specs.Computed.{at, bt, page₀, page₁, small, large, b₀, b₁, b₂, b₃, d₀, d₁, d₂, short, wrong, done, shown, o₁, o₂, o₃, o₄, o₅, o₆, o₇, o₈, q₁, q₂}
+use Rattle.history_witness.specs.Told.{Exact, came, stood, brings, came-are, stood-are}
+use Rattle.history_witness.specs.Computed.{at, bt, page₀, page₁, small, large, b₀, b₁, b₂, b₃, d₀, d₁, d₂, short, wrong, done, shown, o₁, o₂, o₃, o₄, o₅, o₆, o₇, o₈, o₉, q₁, q₂}
 
 abbrev turn : Call → ℕ → Bytes → Outcome → Turn
 turn c at b o = record { call = c; at = at; before = b; gave = o }
@@ -38,7 +37,7 @@ t₂ = turn (Unload 0x100420) at short (refused 3 short)
 abbrev pub t₃ : Turn
 t₃ = turn (Initialize 0x100000 0x178) at wrong (refused 4 wrong)
 
--- the CRS comes; others write the magic word; `m` comes; `n` comes; a load finds no room; `n` leaves
+-- the CRS comes; others write the magic word; `m` comes; `n` comes; a load finds no room; `n` leaves, and cannot leave again
 abbrev pub t₄ : Turn
 t₄ = turn (Initialize 0x100000 0x178) at b₀ (done 0 (b₁ 0))
 
@@ -54,8 +53,11 @@ t₇ = turn (Load (small 0x100f7c 0x84) 1 0) at b₃ (refused 5 b₃)
 abbrev pub t₈ : Turn
 t₈ = turn (Unload 0x100420) at b₃ (done 1 b₂)
 
+abbrev pub t₉ : Turn
+t₉ = turn (Unload 0x100420) at b₂ (done 0 b₂)
+
 abbrev pub A : List Turn
-A = t₈ ∷ t₇ ∷ t₆ ∷ t₅ ∷ t₄ ∷ t₃ ∷ t₂ ∷ t₁ ∷ []
+A = t₉ ∷ t₈ ∷ t₇ ∷ t₆ ∷ t₅ ∷ t₄ ∷ t₃ ∷ t₂ ∷ t₁ ∷ []
 
 -- on another window, in larger buffers: the CRS and `m` come, with another auto-link parameter
 abbrev pub u₁ : Turn
@@ -69,7 +71,7 @@ B = u₂ ∷ u₁ ∷ []
 
 pub exact-a : Exact A
 unfolding Each
-exact-a = (o₈, (o₇, (o₆, (o₅, (o₄, (o₃, (o₂, (o₁, tt))))))))
+exact-a = (o₉, (o₈, (o₇, (o₆, (o₅, (o₄, (o₃, (o₂, (o₁, tt)))))))))
 
 pub exact-b : Exact B
 unfolding Each

@@ -1,5 +1,5 @@
 -- Turns that tell what the definition gives: what came, what stands and which calls are the session's own, as they tell it.
-use Prim.Native.Nat.{ℕ, zero, suc, _<_}
+use Prim.Native.Nat.{ℕ, zero, suc}
 use mathlib.Core.Path.{_≡_, refl, sym, ap, _∙_}
 use mathlib.Core.List.{List, [], _∷_, _++_}
 use mathlib.Core.Bool.{Bool, true, false, _&&_, _||_}
@@ -14,7 +14,7 @@ use Rattle.linker.specs.declared.call.Call.the-variants.{Initialize, Load, Unlo
 use Rattle.linker.specs.Outcome.{Bytes}
 use Rattle.linker.specs.Valid.{AreBytes}
 use Rattle.history.specs.Arrival.{Arrival}
-use Rattle.history.specs.Sessions.{given, Turn, after, expected, done, unfit, own, comes, brought, arrived, stay, standing, Between, Lends, Next}
+use Rattle.history.specs.Sessions.{given, Turn, expected, done, unfit, own, comes, brought, arrived, stay, standing, Between, Lends, Next}
 use Rattle.history.specs.Outcomes.{Made, Promised}
 use Rattle.history.specs.Demand3.{Each, Harmless, InOrder, CrsFirst}
 
