@@ -11,16 +11,16 @@ use Rattle.window.specs.Within.{In}
 use Rattle.linker.specs.Valid.{AreBytes}
 use Rattle.history.specs.Arrival.{Arrival, Image, baseOf, isCrs, Area}
 use Rattle.history.specs.WellLaid.{WellLaid}
-use Rattle.history.specs.Sessions.{Words, Between, Lends, Trace, own, comes, arrived, Areas, Fresh}
+use Rattle.history.specs.Sessions.{Words, Between, Lends, Trace, comes, arrived, Areas, Fresh}
 use Rattle.history.specs.Outcomes.{Made, Promised}
-use Rattle.history.specs.Demand3.{Each, Pairs, InOrder, AutoLinked, ImportsKept, InWindow, Apart, OtherName, OtherExports, ExportsOnce, Premises}
+use Rattle.history.specs.Demand3.{Each, Pairs, InOrder, AutoLinked, ImportsKept, Apart, OtherName, OtherExports, ExportsOnce, Premises}
 use Rattle.history_witness.specs.Image.{cro}
 use Rattle.history_witness.specs.Open.{opened}
 use Rattle.history_witness.specs.Laid.{laid-tests, laid}
 use Rattle.history_witness.specs.Tests.{meets}
 use Rattle.history_witness.specs.Together.{each-all, pairs-all, in-true, in-test, once-test, once-true, apart-test, apart-true, name-test, name-true, exports-test, exports-true}
 use Rattle.history_witness.specs.Tested.{tested}
-use Rattle.history_witness.specs.Told.{came, brings, ours, came-are, ours-are, small-all, are-bytes, same-between, next-own, next-unfit, promised, Quiet, quiet, two-faced, Ordered, ordered}
+use Rattle.history_witness.specs.Told.{came, brings, ours, came-are, small-all, are-bytes, same-between, next-own, next-unfit, promised, Quiet, two-faced, Ordered, Suits, front, premises-of, windows-of}
 use Rattle.history_witness.specs.Computed.{at, bt, page₁, b₀, b₁, b₂, b₃, d₀, d₁, short, wrong, shown, o₁, o₂, o₃, o₄}
 use Rattle.history_witness.specs.Sessions.{t₁, t₂, t₃, t₄, t₅, t₆, t₇, t₈, t₉, A, u₁, u₂, B, exact-a, exact-b, c, m, n, C, M, N, c-is, images-a, images-b, c-area, same-next, begins}
 
@@ -119,10 +119,10 @@ pub made-b : Made Promised B
 made-b = promised B exact-b
 
 -- what antt computes of the three images
-abbrev three : List Image
+abbrev pub three : List Image
 three = C ∷ M ∷ N ∷ []
 
-abbrev two : List Image
+abbrev pub two : List Image
 two = C ∷ M ∷ []
 
 each-laid : Each WellLaid three
@@ -145,21 +145,33 @@ pairs-exports : Pairs OtherExports three
 unfolding opened shown tested
 pairs-exports = pairs-all exports-test exports-true three refl
 
-windows-a : Each (λ a. (q : ℕ) → Area a q → In at (length (b₂ .window)) q) three
+pub suits-three : Suits three
+unfolding Each AutoLinked ImportsKept
+suits-three =
+    record {
+      auto-linked = (tt, (refl, (refl, tt)));
+      imports-kept = (tt, (omega arith, (omega arith, tt)));
+      base-not-0 = (omega arith, (omega arith, (omega arith, tt)));
+      areas-apart = pairs-apart;
+      other-names = pairs-names;
+      other-exports = pairs-exports;
+      exports-once = each-once;
+      well-laid = each-laid;
+    }
+
+pub windows-a : Each (λ a. (q : ℕ) → Area a q → In at 4096 q) three
 unfolding opened shown tested
 windows-a = each-all (λ a. in-test a at 4096) (λ a. in-true a at 4096) three refl
 
-windows-b : Each (λ a. (q : ℕ) → Area a q → In bt (length (d₁ .window)) q) two
+windows-b : Each (λ a. (q : ℕ) → Area a q → In bt 8192 q) two
 unfolding opened shown tested
 windows-b = each-all (λ a. in-test a bt 8192) (λ a. in-true a bt 8192) two refl
 
-own-a : own A ≡ t₉ ∷ t₈ ∷ t₇ ∷ t₆ ∷ t₅ ∷ t₄ ∷ t₁ ∷ []
-unfolding ours
-own-a = ours-are A exact-a
-
-own-b : own B ≡ u₂ ∷ u₁ ∷ []
-unfolding ours
-own-b = ours-are B exact-b
+pub long
+    : (length (b₀ .window) ≡ 4096) × (length (b₁ cro .window) ≡ 4096) × (length (b₂ .window) ≡ 4096) × (length (b₃ .window) ≡ 4096)
+    × (length (d₁ .window) ≡ 8192)
+unfolding opened shown
+long = (refl, refl, refl, refl, refl)
 
 some-come : {a : Arrival} {S : List Arrival} → a ∷ S ≢ []
 some-come {a} {S} e = let z : length (a ∷ S) ≡ 0 = ap length e in absurd (omega (arith, z))
@@ -169,7 +181,7 @@ base-other : Each (λ a. isCrs (a .coming) ≡ true → baseOf (a .coming) ≢ 0
 unfolding Each
 base-other = ((λ h. λ z. absurd (omega arith)), ((λ h. two-faced false h refl), ((λ h. two-faced false h refl), tt)))
 
-crs-first-a : Ordered A
+pub crs-first-a : Ordered A
 unfolding Ordered InOrder came brings comes
 crs-first-a = (
   (λ e. base-other),
@@ -198,7 +210,7 @@ crs-first-b = ((λ e. some-come), ((λ e. refl), tt))
 not-refused : {X : Type 0} → _≡_ {A = Bool} true false → X
 not-refused e = two-faced true refl e
 
-quiet-a : Each Quiet A
+pub quiet-a : Each Quiet A
 unfolding Each
 quiet-a = (
   not-refused,
@@ -206,35 +218,11 @@ quiet-a = (
 )
 
 pub premises-a : Premises A
-unfolding Each Pairs InWindow AutoLinked ImportsKept
-premises-a =
-    record {
-      harmless = quiet A exact-a quiet-a;
-      crs-first = ordered A exact-a crs-first-a;
-      auto-linked = rw images-a (tt, (refl, (refl, tt)));
-      imports-kept = rw images-a (tt, (omega arith, (omega arith, tt)));
-      base-not-0 = rw images-a (omega arith, (omega arith, (omega arith, tt)));
-      in-window = rw (images-a, own-a) windows-a;
-      areas-apart = rw images-a pairs-apart;
-      other-names = rw images-a pairs-names;
-      other-exports = rw images-a pairs-exports;
-      exports-once = rw images-a each-once;
-      well-laid = rw images-a each-laid;
-    }
+unfolding ours
+premises-a = premises-of A three exact-a images-a suits-three quiet-a crs-first-a (windows-of t₉ _ 4096 three (long .2) windows-a)
 
 pub premises-b : Premises B
-unfolding Each Pairs InWindow AutoLinked ImportsKept
+unfolding Each ours
 premises-b =
-    record {
-      harmless = quiet B exact-b (not-refused, (not-refused, tt));
-      crs-first = ordered B exact-b crs-first-b;
-      auto-linked = rw images-b (tt, (refl, tt));
-      imports-kept = rw images-b (tt, (omega arith, tt));
-      base-not-0 = rw images-b (omega arith, (omega arith, tt));
-      in-window = rw (images-b, own-b) windows-b;
-      areas-apart = rw images-b ((pairs-apart .0 .0, tt), (tt, tt));
-      other-names = rw images-b ((pairs-names .0 .0, tt), (tt, tt));
-      other-exports = rw images-b ((pairs-exports .0 .0, tt), (tt, tt));
-      exports-once = rw images-b (each-once .0, (each-once .1 .0, tt));
-      well-laid = rw images-b (each-laid .0, (each-laid .1 .0, tt));
-    }
+    premises-of B two exact-b images-b (front two (N ∷ []) suits-three) (not-refused, (not-refused, tt)) crs-first-b
+    (windows-of u₂ _ 8192 two (long .4) windows-b)

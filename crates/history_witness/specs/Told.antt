@@ -1,22 +1,25 @@
 -- Turns that tell what the definition gives: what came, what stands and which calls are the session's own, as they tell it.
 use Prim.Native.Nat.{ℕ, zero, suc}
-use mathlib.Core.Path.{_≡_, refl, sym, ap, _∙_}
+use mathlib.Core.Path.{_≡_, refl, sym, ap, _∙_, subst}
 use mathlib.Core.List.{List, [], _∷_, _++_}
 use mathlib.Core.Bool.{Bool, true, false, _&&_, _||_}
 use native.Mathlib.Omega.{arith}
+use lib.ListN.{length}
 use lib.Dec.{eqb, ltb, lit<}
 use borrow.Author.Tests.{ltb-true}
 use Rattle.window.specs.Memory.{if_then_else_, byteAt}
+use Rattle.window.specs.Within.{In}
 use Rattle.window.specs.Tests.{both}
 use Rattle.register.specs.Buffers.{Below}
 use Rattle.linker.specs.declared.call.Call.{Call}
 use Rattle.linker.specs.declared.call.Call.the-variants.{Initialize, Load, Unload}
 use Rattle.linker.specs.Outcome.{Bytes}
 use Rattle.linker.specs.Valid.{AreBytes}
-use Rattle.history.specs.Arrival.{Arrival}
+use Rattle.history.specs.Arrival.{Arrival, Image, Area}
+use Rattle.history.specs.WellLaid.{WellLaid}
 use Rattle.history.specs.Sessions.{given, Turn, expected, done, unfit, own, comes, brought, arrived, stay, standing, Between, Lends, Next}
 use Rattle.history.specs.Outcomes.{Made, Promised}
-use Rattle.history.specs.Demand3.{Each, Harmless, InOrder, CrsFirst}
+use Rattle.history.specs.Demand3.{Each, Pairs, Harmless, InOrder, CrsFirst, AutoLinked, ImportsKept, BaseNot0, InWindow, Apart, OtherName, OtherExports, ExportsOnce, Premises, images}
 
 -- "a turn as the definition gives it"
 abbrev pub Exact : List Turn → Type 0
@@ -124,3 +127,62 @@ pub next-unfit
     : (at : ℕ) (t : Turn) (ts : List Turn) → expected t ≡ t .gave → (eqb (t .gave .number) 3 || eqb (t .gave .number) 4) ≡ true → Next at ts t
 unfolding Next unfit
 next-unfit at t ts h e = λ u. two-faced _ e (rw h at u)
+
+-- the premises on the images that came
+pub record Suits (S : List Image) : Type 0 where
+  pub auto-linked : Each (λ m. AutoLinked (m .coming)) S
+  pub imports-kept : Each (λ m. ImportsKept (m .coming)) S
+  pub base-not-0 : Each (λ m. BaseNot0 (m .coming)) S
+  pub areas-apart : Pairs Apart S
+  pub other-names : Pairs OtherName S
+  pub other-exports : Pairs OtherExports S
+  pub exports-once : Each ExportsOnce S
+  pub well-laid : Each WellLaid S
+
+-- some of the first of them
+each-front : {A : Type 0} (P : A → Type 0) (l m : List A) → Each P (l ++ m) → Each P l
+unfolding Each
+each-front P [] m h = tt
+each-front P (x ∷ l) m h = (h .0, each-front P l m (h .1))
+
+pairs-front : {A : Type 0} (R : A → A → Type 0) (l m : List A) → Pairs R (l ++ m) → Pairs R l
+unfolding Pairs
+pairs-front R [] m h = tt
+pairs-front R (x ∷ l) m h = (each-front (R x) l m (h .0), pairs-front R l m (h .1))
+
+pub front : (S T : List Image) → Suits (S ++ T) → Suits S
+front S T h =
+    record {
+      auto-linked = each-front _ S T (h .auto-linked);
+      imports-kept = each-front _ S T (h .imports-kept);
+      base-not-0 = each-front _ S T (h .base-not-0);
+      areas-apart = pairs-front Apart S T (h .areas-apart);
+      other-names = pairs-front OtherName S T (h .other-names);
+      other-exports = pairs-front OtherExports S T (h .other-exports);
+      exports-once = each-front ExportsOnce S T (h .exports-once);
+      well-laid = each-front WellLaid S T (h .well-laid);
+    }
+
+pub premises-of
+    : (ts : List Turn) (S : List Image) → Exact ts → images ts ≡ S → Suits S → Each Quiet ts → Ordered ts → Each (InWindow (ours ts)) S → Premises ts
+premises-of ts S e i s q o w =
+    record {
+      harmless = quiet ts e q;
+      crs-first = ordered ts e o;
+      auto-linked = rw i (s .auto-linked);
+      imports-kept = rw i (s .imports-kept);
+      base-not-0 = rw i (s .base-not-0);
+      in-window = rw (ours-are ts e, i) w;
+      areas-apart = rw i (s .areas-apart);
+      other-names = rw i (s .other-names);
+      other-exports = rw i (s .other-exports);
+      exports-once = rw i (s .exports-once);
+      well-laid = rw i (s .well-laid);
+    }
+
+-- a window of n bytes holds their areas
+pub windows-of
+    : (t : Turn) (ts : List Turn) (n : ℕ) (S : List Image) → length (t .before .window) ≡ n → Each (λ a. (q : ℕ) → Area a q → In (t .at) n q) S
+    → Each (InWindow (t ∷ ts)) S
+unfolding InWindow
+windows-of t ts n S e h = subst (λ k. Each (λ a. (q : ℕ) → Area a q → In (t .at) k q) S) (sym e) h
