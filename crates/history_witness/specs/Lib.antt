@@ -10,3 +10,4 @@ pub mod Computed
 pub mod Sessions
 pub mod Premises
 pub mod Items
+pub mod Shams
