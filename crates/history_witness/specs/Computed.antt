@@ -34,7 +34,7 @@ abbrev pub page₃ : List ℕ
 page₃ = page c-linked m-linked n-loaded (lent-words 0x100584 0x100580)
 
 -- the modules' records
-abbrev c-module : Module
+abbrev pub c-module : Module
 c-module =
     record {
       base = 0x100000;
@@ -46,7 +46,7 @@ c-module =
       indexed = [];
     }
 
-abbrev m-module : Module
+abbrev pub m-module : Module
 m-module =
     record {
       base = 0x100200;
@@ -58,7 +58,7 @@ m-module =
       indexed = [];
     }
 
-abbrev n-module : Module
+abbrev pub n-module : Module
 n-module =
     record {
       base = 0x100420;
@@ -71,7 +71,7 @@ n-module =
     }
 
 -- `g` is noted as missing when `m` comes
-abbrev register : List Module → List (List ℕ) → Register
+abbrev pub register : List Module → List (List ℕ) → Register
 register ms missing = record { modules = ms; crs = Known 0x100000; missing = missing }
 
 -- a window, and a register in so many bytes of records and names: none yet, or one that stands

@@ -10,4 +10,5 @@ pub mod Computed
 pub mod Sessions
 pub mod Premises
 pub mod Items
+pub mod Hasty
 pub mod Shams

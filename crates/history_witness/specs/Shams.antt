@@ -1,8 +1,7 @@
 -- "Which sham linkers come closest?": document 01's six, none of which meets demand 3. Four are refuted by the outcomes, two by the
 -- import clause alone, each in a session of the witness whose last call the sham makes in its own way.
-use Prim.Native.Nat.{ℕ, _<_}
+use Prim.Native.Nat.{ℕ}
 use mathlib.Core.Path.{_≡_, refl, sym, ap, _∙_}
-use mathlib.Core.Logic.{_≢_}
 use mathlib.Core.List.{List, [], _∷_, map}
 use mathlib.Core.Bool.{Bool, true, false, _||_}
 use native.Mathlib.Omega.{arith}
@@ -10,13 +9,32 @@ use lib.Dec.{eqb}
 use Rattle.window.specs.Memory.{if_then_else_, byteAt}
 use Rattle.linker.specs.declared.call.Call.{Call}
 use Rattle.linker.specs.declared.call.Call.the-variants.{Initialize, Load, Unload}
-use Rattle.linker.specs.Outcome.{Bytes, Outcome, refused}
-use Rattle.history.specs.Arrival.{Arrival, Image, imageOf}
-use Rattle.history.specs.Sessions.{given, Turn, expected, done, unfit, own, comes, brought, arrived, standing, Next, Trace}
+use Rattle.linker.specs.Outcome.{Bytes, Outcome, refused, outcome}
+use Rattle.linker.specs.Calls.{Answer, Kept, Done, Standing, unknown, stands, firstWithBase, unlisted}
+use Rattle.linker.specs.Unrebase.{unrebase}
+use Rattle.window.specs.Access.{Prog, ret, _>>=_, _>>_}
+use Rattle.register.specs.Module.{Register}
+use Rattle.register.specs.Change.{removed}
+use Rattle.window.specs.Memory.{_⊕_}
+use Rattle.window.specs.Mirror.{word}
+use Rattle.layout.specs.Format.{relocationType}
+use Rattle.layout_relocation.specs.Relocation.{relocatedWord}
+use Rattle.layout_relocation.specs.declared.Patch.the-variants.{Word}
+use Rattle.layout.specs.declared.segments.Address.the-variants.{At, Nowhere}
+use Rattle.history.specs.Image.{externals, nameOf, tag, kind, addend}
+use Rattle.history.specs.Imports.{named, IsImport, wanted, Exports, Exporter, Holds}
+use Rattle.history.specs.Arrival.{Image, imageOf, address, handler, exportOf}
+use Rattle.history.specs.Sessions as sessions
+use Rattle.history.specs.Sessions.{given, Turn, expected, unfit, own, comes, brought, arrived, others, stay, standing, Next, Trace}
 use Rattle.history.specs.Outcomes.{Linker, Made, Follows}
-use Rattle.history.specs.Demand3.{Each, Harmless, CrsFirst, InWindow, Premises, images, lefts, ends, AllHold, Linked, Demand3}
-use Rattle.history_witness.specs.Told.{Exact, came, brings, stood, ours, came-are, stood-are, front, Quiet, Ordered, premises-of, windows-of}
-use Rattle.history_witness.specs.Computed.{at, b₀}
+use Rattle.history.specs.Demand3.{Each, Harmless, CrsFirst, InWindow, Premises, images, lefts, ends, ImportClause, AllHold, Linked, Demand3}
+use Rattle.history_witness.specs.Told.{Exact, came, brings, stood, ours, came-are, stood-are, front, two-faced, Ordered, premises-of, windows-of}
+use Rattle.history_witness.specs.Image.{cro, n-words, change, c-linked, m-linked, n-loaded, lent-words, page}
+use Rattle.history_witness.specs.Open.{opened}
+use Rattle.history_witness.specs.Tested.{tested}
+use Rattle.history_witness.specs.Items.{items}
+use Rattle.history_witness.specs.Hasty.{hasty, hastened}
+use Rattle.history_witness.specs.Computed.{at, c-module, m-module, n-module, register, stored, small, large, short, b₀, b₁, b₂, b₃, done, shown, o₁, o₂, o₃, o₄, o₅, o₆, o₇}
 use Rattle.history_witness.specs.Sessions.{t₁, t₂, t₃, t₄, t₅, t₆, t₇, t₈, A, exact-a, c, m, n, C, M, N, c-is, m-is, n-is}
 use Rattle.history_witness.specs.Premises.{trace-a, suits-three, windows-a, long, three, two, quiet-a, crs-first-a}
 
@@ -43,7 +61,7 @@ module _ (t : Turn) (ts : List Turn) (o : Outcome) where
   windows-told b us (a ∷ S) h = (window-told b us a (h .0), windows-told b us S (h .1))
 
   premises-told : Premises (t ∷ ts) → Premises (told t o ∷ ts)
-  unfolding Each Harmless CrsFirst arrived brought done own unfit
+  unfolding Each Harmless CrsFirst arrived brought sessions.done own unfit
   premises-told h =
       record {
         harmless = h .harmless;
@@ -60,7 +78,7 @@ module _ (t : Turn) (ts : List Turn) (o : Outcome) where
       }
 
   standing-told : standing (told t o ∷ ts) ≡ standing (t ∷ ts)
-  unfolding standing brought done
+  unfolding standing brought sessions.done
   standing-told = refl
 
   ends-told : expected t ≡ t .gave → (eqb (t .gave .number) 3 || eqb (t .gave .number) 4) ≡ false → ends (told t o ∷ ts) ≡ byteAt (t .at) (o .left .window)
@@ -229,3 +247,136 @@ always-0-fails = by-outcome (always 0) t₁ [] exact₁ trace₁ premises₁ tt 
 pub always-2-fails : Demand3 (Sham (always 2)) → ⊥
 unfolding always Each
 always-2-fails = by-outcome (always 2) t₁ [] exact₁ trace₁ premises₁ tt (λ e h. omega arith)
+
+-- a linker whose programs are its own; its last call leaves an import that holds another address
+module _ (f : Call → ℕ → Bytes → Outcome) where
+  abbrev pub Own : Linker
+  Own c at b o = o ≡ f c at b
+
+  made-own : (ts : List Turn) → Each (λ t. f (t .call) (t .at) (t .before) ≡ t .gave) ts → Made Own ts
+  unfolding Made Each
+  made-own [] h = tt
+  made-own (t ∷ ts) h = (sym (h .0), made-own ts (h .1))
+
+  -- what demand 3 then says of that call: of the modules that stand and the bytes that it leaves
+  by-imports
+      : (t : Turn) (ts : List Turn) (o : Outcome) (S : List Image) → Exact (t ∷ ts) → Trace at (t ∷ ts) → Premises (t ∷ ts)
+      → Each (λ t. f (t .call) (t .at) (t .before) ≡ t .gave) (told t o ∷ ts) → map imageOf (stood (t ∷ ts)) ≡ S
+      → (eqb (t .gave .number) 3 || eqb (t .gave .number) 4) ≡ false → Demand3 Own → AllHold S (byteAt (t .at) (o .left .window))
+  unfolding Each Linked
+  by-imports t ts o S e x p h i u d =
+      let l : Linked (told t o ∷ ts) =
+      gives Own at (told t o ∷ ts) (trace-told t ts o at x) (made-own (told t o ∷ ts) h) (premises-told t ts o p) d .1 in
+      rw (standing-told t ts o, stood-are (t ∷ ts) e, i, ends-told t ts o (e .0) u) at (l .0)
+
+-- the import `g` of `m`, and the second entry of its batch, of kind 10
+g-import : IsImport (M .file) (named 1)
+unfolding opened shown tested
+g-import = omega arith
+
+g-name : nameOf (M .file) (wanted (M .file) (named 1)) ≡ 0x67 ∷ []
+unfolding opened shown tested
+g-name = refl
+
+g-address : address M (tag (M .file) externals 2) ≡ At 0x100408
+unfolding opened shown tested
+g-address = refl
+
+g-word : (symbol : ℕ) → relocatedWord (relocationType (kind (M .file) externals 2)) (addend (M .file) externals 2) symbol 0x100408 ≡ Word (symbol ⊕ 8)
+unfolding opened shown tested
+g-word symbol = refl
+
+g-holds : (B : ℕ → ℕ) (symbol : ℕ) → Holds B M (named 1) symbol → word B 0x100408 ≡ symbol ⊕ 8
+unfolding Holds
+g-holds B symbol h = h 1 2 2 (items .batch) (omega arith) (omega arith) 0x100408 (symbol ⊕ 8) g-address (g-word symbol)
+
+-- without `n` nobody exports it
+g-nowhere : (exportOf C (0x67 ∷ []) ≡ Nowhere) × (exportOf M (0x67 ∷ []) ≡ Nowhere)
+unfolding opened shown tested
+g-nowhere = (refl, refl)
+
+no-exporter : (x : Image) → exportOf x (0x67 ∷ []) ≡ Nowhere → (p : ℕ) → Exporter x M (named 1) p → ⊥
+unfolding Exporter Exports
+no-exporter x h p e =
+    let y : exportOf x (0x67 ∷ []) ≡ At p = rw g-name at (e .0) in
+    let z : _≡_ {A = ℕ} 0 1 = cc in
+    omega arith
+
+-- "one that unloads without resetting": the program but for that line
+unfoldable pub leave : Register → ℕ → Standing → Prog Answer
+leave r base unknown = ret Kept
+leave r base (stands m k) = do
+  unlisted (r .crs) base
+  unrebase base
+  ret (Done 1 (removed r k))
+
+unfoldable pub forgetful : Call → ℕ → Bytes → Outcome
+forgetful (Initialize base size) at b = given (Initialize base size) at b
+forgetful (Load l auto level) at b = given (Load l auto level) at b
+forgetful (Unload base) at b = outcome (λ records names r. leave r base (firstWithBase base (r .modules) 0)) at b
+
+-- what it leaves: the words of `g` are still those that `n` gave
+abbrev left₅ : Bytes
+left₅ =
+    stored 192 8 (register (c-module ∷ m-module ∷ []) ((0x67 ∷ []) ∷ []))
+    (page c-linked (change ((0x088, 0) ∷ (0x08c, 0x100200) ∷ []) m-linked) n-words (lent-words 0x100584 0x100580))
+
+unload-left : forgetful (Unload 0x100420) at b₃ ≡ done 1 left₅
+unfolding opened shown forgetful leave
+unload-left = refl
+
+unload-short : forgetful (Unload 0x100420) at short ≡ refused 3 short
+unfolding opened shown forgetful leave
+unload-short = refl
+
+left-word : word (byteAt at (left₅ .window)) 0x100408 ≡ 0x100584
+unfolding opened shown tested
+left-word = refl
+
+pub forgetful-fails : Demand3 (Own forgetful) → ⊥
+unfolding forgetful Each stood stay others brings comes AllHold ImportClause
+forgetful-fails d =
+    let h : AllHold two (byteAt at (left₅ .window)) =
+    by-imports forgetful t₈ (t₇ ∷ s₆) (done 1 left₅) two exact₈ trace₈ premises₈
+    (unload-left, (o₇, (o₆, (o₅, (o₄, (o₃, (unload-short, (o₁, tt)))))))) (rw (c-is, m-is) refl) refl d in
+    let k : Holds (byteAt at (left₅ .window)) M (named 1) (handler M) =
+    h .1 .0 .0 (named 1) g-import .1 (no-exporter C (g-nowhere .0), (no-exporter M (g-nowhere .1), tt)) in
+    let w = g-holds _ (handler M) k in
+    omega (arith, w, left-word, items .handled)
+
+-- "One patching a batch's first entry and marking it resolved": the second word of `g` is still the handler's
+abbrev left₆ : Bytes
+left₆ =
+    stored 192 8 (register (c-module ∷ m-module ∷ n-module ∷ []) ((0x67 ∷ []) ∷ []))
+    (page c-linked (change ((0x208, 0x100408) ∷ []) m-linked) n-loaded (lent-words 0x100584 0x100580))
+
+load-left : hasty (Load (small 0x100420 0x168) 1 0) at b₂ ≡ done 0 left₆
+unfolding opened shown hastened
+load-left = refl
+
+load-first : hasty (Load large 1 1) at (b₁ cro) ≡ done 0x210 b₂
+unfolding opened shown hastened
+load-first = refl
+
+load-refused : hasty (Load large 1 1) at b₀ ≡ refused 1 b₀
+unfolding opened shown hastened
+load-refused = refl
+
+second-word : word (byteAt at (left₆ .window)) 0x100408 ≡ 0x100408
+unfolding opened shown tested
+second-word = refl
+
+n-exports : Exporter N M (named 1) 0x10057c
+unfolding Exporter Exports
+n-exports = (rw g-name (items .by-name), (λ e. two-faced false e refl))
+
+pub hasty-fails : Demand3 (Own hasty) → ⊥
+unfolding hasty Each stood stay brings comes AllHold ImportClause
+hasty-fails d =
+    let h : AllHold three (byteAt at (left₆ .window)) =
+    by-imports hasty t₆ s₅ (done 0 left₆) three exact₆ trace₆ premises₆
+    (load-left, (load-first, (o₄, (o₃, (o₂, (load-refused, tt)))))) (rw (c-is, m-is, n-is) refl) refl d in
+    let k : Holds (byteAt at (left₆ .window)) M (named 1) 0x10057c =
+    h .1 .0 .0 (named 1) g-import .0 .1 .1 .0 0x10057c n-exports in
+    let w = g-holds _ 0x10057c k in
+    omega (arith, w, second-word)
