@@ -1,24 +1,17 @@
 -- The calls of two sessions, written out, and what each gives: number, value and every byte left.
 use Prim.Native.Nat.{ℕ}
 use mathlib.Core.Path.{_≡_, refl}
-use mathlib.Core.List.{List, [], _∷_, _++_}
+use mathlib.Core.List.{List, [], _∷_}
 use mathlib.Core.Bool.{true}
 use Rattle.register.specs.declared.words.Crs.the-variants.{Known}
 use Rattle.register.specs.Module.{Module, Register}
-use Rattle.register.specs.Buffers.{encodeRecords, encodeNames, encodeMissing}
 use Rattle.linker.specs.declared.rebase.Lent.{Lent}
 use Rattle.linker.specs.declared.call.Call.the-variants.{Initialize, Load, Unload}
 use Rattle.linker.specs.Outcome.{Bytes, Outcome, refused}
 use Rattle.history.specs.Sessions.{given}
 use Rattle.history_witness.specs.Image.{zeros, cro, c-words, m-words, n-words, change, c-rebased, c-linked, m-loaded, m-linked, n-loaded, lent-words, page}
 use Rattle.history_witness.specs.Open.{opened}
-
--- the windows' addresses; the second window is a page longer, in front
-abbrev pub at : ℕ
-at = 0x100000
-
-abbrev pub bt : ℕ
-bt = 0x0ff000
+use Rattle.history_witness.specs.Behind.{at, bt, ahead, lies, tried, program, Tried, stored, given-behind}
 
 -- the pages: at first; after `initialize`; after the load of `m`; after the load of `n`
 abbrev pub page₀ : ℕ → List ℕ
@@ -79,10 +72,6 @@ abbrev pub fresh : ℕ → ℕ → List ℕ → Bytes
 fresh records names w =
     record { window = w; records = zeros records; names = zeros names; missing = zeros 32896 }
 
-abbrev pub stored : ℕ → ℕ → Register → List ℕ → Bytes
-stored records names r w =
-    record { window = w; records = encodeRecords records r; names = encodeNames names r; missing = encodeMissing r }
-
 abbrev pub small : ℕ → ℕ → Lent
 small base size =
     record { base = base; size = size; «data_at» = 0; «data_size» = 0; «bss_at» = 0; «bss_size» = 0 }
@@ -105,15 +94,29 @@ b₂ = stored 192 8 (register (c-module ∷ m-module ∷ []) ((0x67 ∷ []) ∷ 
 abbrev pub b₃ : Bytes
 b₃ = stored 192 8 (register (c-module ∷ m-module ∷ n-module ∷ []) ((0x67 ∷ []) ∷ [])) page₃
 
--- the bytes of the second
+-- the bytes of the second, but for the page in front: `n` comes before `m`, so that nothing is missing
 abbrev pub d₀ : Bytes
-d₀ = fresh 512 64 (zeros 4096 ++ page₀ cro)
+d₀ = fresh 512 64 (page₀ cro)
 
 abbrev pub d₁ : Bytes
-d₁ = stored 512 64 (register (c-module ∷ []) []) (zeros 4096 ++ page₁ cro)
+d₁ = stored 512 64 (register (c-module ∷ []) []) (page₁ cro)
+
+abbrev pub page₄ : List ℕ
+page₄ = page (change ((0x088, 0x100420) ∷ []) c-rebased) (m-words cro) (change ((0x08c, 0x100420) ∷ []) n-loaded) (lent-words 0 0)
 
 abbrev pub d₂ : Bytes
-d₂ = stored 512 64 (register (c-module ∷ m-module ∷ []) ((0x67 ∷ []) ∷ [])) (zeros 4096 ++ page₂)
+d₂ = stored 512 64 (register (c-module ∷ n-module ∷ []) []) page₄
+
+abbrev pub page₅ : List ℕ
+page₅ =
+    page (change ((0x088, 0x100420) ∷ []) c-linked) (change ((0x088, 0) ∷ []) m-linked) (change ((0x088, 0x100200) ∷ []) n-loaded)
+    (lent-words 0x100584 0x100580)
+
+abbrev pub d₃ : Bytes
+d₃ = stored 512 64 (register (c-module ∷ n-module ∷ m-module ∷ []) []) page₅
+
+abbrev pub d₄ : Bytes
+d₄ = stored 512 64 (register (c-module ∷ m-module ∷ []) []) page₂
 
 -- lent in between: 4,095 bytes, which are no window, and a register of 65 modules, which is none
 abbrev pub short : Bytes
@@ -154,7 +157,7 @@ pub o₆ : given (Load (small 0x100420 0x168) 1 0) at b₂ ≡ done 0 b₃
 unfolding opened shown
 o₆ = refl
 
-pub o₇ : given (Load (small 0x100f7c 0x84) 1 0) at b₃ ≡ refused 5 b₃
+pub o₇ : given (Load (small 0x100560 0x138) 1 0) at b₃ ≡ refused 5 b₃
 unfolding opened shown
 o₇ = refl
 
@@ -166,10 +169,31 @@ pub o₉ : given (Unload 0x100420) at b₂ ≡ done 0 b₂
 unfolding opened shown
 o₉ = refl
 
-pub q₁ : given (Initialize 0x100000 0x178) bt d₀ ≡ done 0 d₁
-unfolding opened shown
-q₁ = refl
+-- the second session's calls: in the page alone, and with the page in front
+r₁ : Tried (Initialize 0x100000 0x178) d₀ 512 64 0 (register (c-module ∷ []) []) (page₁ cro)
+unfolding opened shown tried lies program
+r₁ = record { whole = refl; records-are = refl; names-are = refl; valid = refl; leads = refl }
 
-pub q₂ : given (Load large 2 1) bt d₁ ≡ done 0x210 d₂
-unfolding opened shown
-q₂ = refl
+r₂ : Tried (Load (small 0x100420 0x168) 1 0) d₁ 512 64 0 (register (c-module ∷ n-module ∷ []) []) page₄
+unfolding opened shown tried lies program
+r₂ = record { whole = refl; records-are = refl; names-are = refl; valid = refl; leads = refl }
+
+r₃ : Tried (Load large 2 1) d₂ 512 64 0x210 (register (c-module ∷ n-module ∷ m-module ∷ []) []) page₅
+unfolding opened shown tried lies program
+r₃ = record { whole = refl; records-are = refl; names-are = refl; valid = refl; leads = refl }
+
+r₄ : Tried (Unload 0x100420) d₃ 512 64 1 (register (c-module ∷ m-module ∷ []) []) page₂
+unfolding opened shown tried lies program
+r₄ = record { whole = refl; records-are = refl; names-are = refl; valid = refl; leads = refl }
+
+pub q₁ : given (Initialize 0x100000 0x178) bt (ahead d₀) ≡ done 0 (ahead d₁)
+q₁ = given-behind (Initialize 0x100000 0x178) d₀ r₁
+
+pub q₂ : given (Load (small 0x100420 0x168) 1 0) bt (ahead d₁) ≡ done 0 (ahead d₂)
+q₂ = given-behind (Load (small 0x100420 0x168) 1 0) d₁ r₂
+
+pub q₃ : given (Load large 2 1) bt (ahead d₂) ≡ done 0x210 (ahead d₃)
+q₃ = given-behind (Load large 2 1) d₂ r₃
+
+pub q₄ : given (Unload 0x100420) bt (ahead d₃) ≡ done 1 (ahead d₄)
+q₄ = given-behind (Unload 0x100420) d₃ r₄

@@ -197,9 +197,7 @@ n-loaded =
 unfoldable pub lent-words : ℕ → ℕ → List ℕ
 lent-words indexed anonymous = indexed ∷ 0 ∷ 0 ∷ 0 ∷ 0 ∷ anonymous ∷ 0 ∷ 0 ∷ []
 
--- one page: the three images, what is lent to `m`, and at the end a magic word with nothing behind it
+-- one page: the three images, what is lent to `m`, and a magic word with only zeros behind it
 unfoldable pub page : List ℕ → List ℕ → List ℕ → List ℕ → List ℕ
 page c m n lent =
-    flat
-    (c ++ (zeros 0x22 ++ (m ++ (zeros 4 ++ (n ++ (zeros 6 ++ (lent ++ (zeros 0x28f ++ (cro ∷ []))))))))
-    )
+    flat (c ++ (zeros 0x22 ++ (m ++ (zeros 4 ++ (n ++ (zeros 6 ++ (lent ++ (zeros 8 ++ (cro ∷ zeros 0x287)))))))))

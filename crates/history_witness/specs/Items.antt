@@ -22,8 +22,9 @@ use Rattle.history_witness.specs.Open.{opened}
 use Rattle.history_witness.specs.Laid.{a-batch}
 use Rattle.history_witness.specs.Tested.{tested}
 use Rattle.history_witness.specs.Told.{came, brings, came-are}
-use Rattle.history_witness.specs.Computed.{at, bt, large, shown, o₁, o₂, o₃, o₇}
-use Rattle.history_witness.specs.Sessions.{t₁, t₂, t₃, t₄, t₅, t₆, t₇, t₈, A, u₂, B, M, N, end-alike}
+use Rattle.history_witness.specs.Behind.{at, bt, behind}
+use Rattle.history_witness.specs.Computed.{large, shown, o₁, o₂, o₃, o₇}
+use Rattle.history_witness.specs.Sessions.{t₁, t₂, t₃, t₄, t₅, t₆, t₇, t₈, A, u₃, u₄, B, M, N, end-alike}
 use Rattle.history_witness.specs.Premises.{trace-a, trace-b, made-a, made-b, premises-a, premises-b, others-write}
 
 -- the premises of `Demand3 Promised` are met
@@ -93,8 +94,12 @@ pub record Items : Type 0 where
   pub between : Between at (t₄ ∷ t₁ ∷ []) (after t₄) (t₅ .before)
   -- item 10: the second session is on another window, with another auto-link parameter, and ends alike
   pub windows : at ≢ bt
-  pub auto : (t₅ .call ≡ Load large 1 1) × (u₂ .call ≡ Load large 2 1)
+  pub auto : (t₅ .call ≡ Load large 1 1) × (u₃ .call ≡ Load large 2 1)
   pub alike : SameStanding (standing A) (standing B)
+  -- there `m` comes after `n`: its own load links the batch of `g` and the module entry; then `n`, the head of the list, leaves
+  pub own-load : (wordAt bt (after u₃ .window) 0x100408 ≡ 0x10057c ⊕ 8) × (wordAt bt (after u₃ .window) 0x1005a0 ≡ 0x100584)
+  pub own-reset : (wordAt bt (after u₄ .window) 0x100408 ≡ 0x100400 ⊕ 8) × (wordAt bt (after u₄ .window) 0x1005a0 ≡ 0x100400)
+  pub heads : (wordAt bt (after u₃ .window) 0x100088 ≡ 0x100420) × (wordAt bt (after u₄ .window) 0x100088 ≡ 0x100200)
 
 none-came : arrived (t₃ ∷ t₂ ∷ t₁ ∷ []) ≡ []
 unfolding Each came brings
@@ -105,7 +110,7 @@ unfolding unfit
 misfit t n e h = rw e h
 
 pub items : Items
-unfolding opened shown tested From InRun
+unfolding opened shown tested behind From InRun
 items =
     record {
       handled = refl;
@@ -135,4 +140,7 @@ items =
       windows = λ e. absurd (omega arith);
       auto = (refl, refl);
       alike = end-alike;
+      own-load = (refl, refl);
+      own-reset = (refl, refl);
+      heads = (refl, refl);
     }

@@ -6,6 +6,7 @@ pub mod Laid
 pub mod Together
 pub mod Tested
 pub mod Told
+pub mod Behind
 pub mod Computed
 pub mod Sessions
 pub mod Premises

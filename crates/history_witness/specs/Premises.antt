@@ -10,28 +10,29 @@ use Rattle.window.specs.Memory.{byteAt}
 use Rattle.window.specs.Within.{In}
 use Rattle.linker.specs.Valid.{AreBytes}
 use Rattle.history.specs.Arrival.{Arrival, Image, baseOf, isCrs, Area}
-use Rattle.history.specs.WellLaid.{WellLaid}
 use Rattle.history.specs.Sessions.{Words, Between, Lends, Trace, comes, arrived, Areas, Fresh}
 use Rattle.history.specs.Outcomes.{Made, Promised}
-use Rattle.history.specs.Demand3.{Each, Pairs, InOrder, AutoLinked, ImportsKept, Apart, OtherName, OtherExports, ExportsOnce, Premises}
+use Rattle.history.specs.Demand3.{Each, InOrder, AutoLinked, ImportsKept, Premises}
 use Rattle.history_witness.specs.Image.{cro}
 use Rattle.history_witness.specs.Open.{opened}
 use Rattle.history_witness.specs.Laid.{laid-tests, laid}
 use Rattle.history_witness.specs.Tests.{meets}
 use Rattle.history_witness.specs.Together.{each-all, pairs-all, in-true, in-test, once-test, once-true, apart-test, apart-true, name-test, name-true, exports-test, exports-true}
 use Rattle.history_witness.specs.Tested.{tested}
-use Rattle.history_witness.specs.Told.{came, brings, ours, came-are, small-all, are-bytes, same-between, next-own, next-unfit, promised, Quiet, two-faced, Ordered, Suits, front, premises-of, windows-of}
-use Rattle.history_witness.specs.Computed.{at, bt, page₁, b₀, b₁, b₂, b₃, d₀, d₁, short, wrong, shown, o₁, o₂, o₃, o₄}
-use Rattle.history_witness.specs.Sessions.{t₁, t₂, t₃, t₄, t₅, t₆, t₇, t₈, t₉, A, u₁, u₂, B, exact-a, exact-b, c, m, n, C, M, N, c-is, images-a, images-b, c-area, same-next, begins}
+use Rattle.history_witness.specs.Told.{came, brings, ours, came-are, small-all, are-bytes, same-between, next-own, next-unfit, promised, Quiet, two-faced, Ordered, Suits, premises-of, windows-of}
+use Rattle.history_witness.specs.Behind.{at, bt, behind, ahead}
+use Rattle.history_witness.specs.Computed.{page₁, b₀, b₁, b₂, b₃, d₀, d₁, d₂, d₃, short, wrong, shown, o₁, o₂, o₃, o₄}
+use Rattle.history_witness.specs.Sessions.{t₁, t₂, t₃, t₄, t₅, t₆, t₇, t₈, t₉, A, u₁, u₂, u₃, u₄, B, exact-a, exact-b, c, m, n, c′, m′, n′, C, M, N, c-is, images-a, images-b, c-area, same-pages, same-part}
 
 -- bytes are bytes
 bytes-a : AreBytes b₀ × AreBytes (b₁ cro) × AreBytes b₂ × AreBytes b₃
 unfolding opened shown small-all
 bytes-a = (are-bytes b₀ refl refl, are-bytes (b₁ cro) refl refl, are-bytes b₂ refl refl, are-bytes b₃ refl refl)
 
-bytes-b : AreBytes d₀ × AreBytes d₁
-unfolding opened shown small-all
-bytes-b = (are-bytes d₀ refl refl, are-bytes d₁ refl refl)
+bytes-b : AreBytes (ahead d₀) × AreBytes (ahead d₁) × AreBytes (ahead d₂) × AreBytes (ahead d₃)
+unfolding opened shown behind small-all
+bytes-b =
+    (are-bytes (ahead d₀) refl refl, are-bytes (ahead d₁) refl refl, are-bytes (ahead d₂) refl refl, are-bytes (ahead d₃) refl refl)
 
 bytes-misfit : AreBytes short × AreBytes wrong
 unfolding opened small-all
@@ -41,7 +42,7 @@ fresh-a : Fresh b₀
 unfolding opened shown
 fresh-a = (refl, refl)
 
-fresh-b : Fresh d₀
+fresh-b : Fresh (ahead d₀)
 unfolding opened shown
 fresh-b = (refl, refl)
 
@@ -51,7 +52,7 @@ came-first = came-are (t₄ ∷ t₁ ∷ []) (o₄, (o₁, tt))
 
 first-kept : (q : ℕ) → Areas (c ∷ []) q → byteAt at (page₁ 0) q ≡ byteAt at (page₁ cro) q
 unfolding Areas
-first-kept q (inl h) = begins (page₁ 0) (page₁ cro) 0x178 q same-next (omega arith) (c-area q (rw c-is at h))
+first-kept q (inl h) = same-part (page₁ 0) (page₁ cro) 0 0x178 q (same-pages .1) (omega arith) (c-area q (rw c-is at h))
 first-kept q (inr h) = absurd h
 
 same-lengths : length (page₁ 0) ≡ length (page₁ cro)
@@ -64,7 +65,7 @@ others-write =
     record { register = (refl, refl, refl); length-kept = same-lengths; areas-kept = λ q h. first-kept q (rw came-first at h) }
 
 -- arguments are 32-bit numbers
-words-are : Words (t₁ .call) × Words (t₂ .call) × Words (t₃ .call) × Words (t₆ .call) × Words (t₇ .call) × Words (u₂ .call)
+words-are : Words (t₁ .call) × Words (t₂ .call) × Words (t₃ .call) × Words (t₆ .call) × Words (t₇ .call) × Words (u₃ .call)
 unfolding Words
 words-are = omega arith
 
@@ -107,9 +108,17 @@ trace-a = (
 pub trace-b : Trace bt B
 unfolding Trace Each Lends ours
 trace-b = (
-  (words-are .5, bytes-b .1),
-  next-own bt u₂ _ (exact-b .1) refl (same-between bt _ d₁),
-  ((words-are .2, bytes-b .0), next-own bt u₁ [] tt refl fresh-b, tt),
+  (words-are .1, bytes-b .3),
+  next-own bt u₄ _ (exact-b .1) refl (same-between bt _ (ahead d₃)),
+  (
+    (words-are .5, bytes-b .2),
+    next-own bt u₃ _ (exact-b .1 .1) refl (same-between bt _ (ahead d₂)),
+    (
+      (words-are .3, bytes-b .1),
+      next-own bt u₂ _ (exact-b .1 .1 .1) refl (same-between bt _ (ahead d₁)),
+      ((words-are .2, bytes-b .0), next-own bt u₁ [] tt refl fresh-b, tt),
+    ),
+  ),
 )
 
 pub made-a : Made Promised A
@@ -122,71 +131,72 @@ made-b = promised B exact-b
 abbrev pub three : List Image
 three = C ∷ M ∷ N ∷ []
 
-abbrev pub two : List Image
-two = C ∷ M ∷ []
-
-each-laid : Each WellLaid three
-unfolding opened shown tested
-each-laid = each-all (λ a. meets (laid-tests a)) laid three refl
-
-each-once : Each ExportsOnce three
-unfolding opened shown tested
-each-once = each-all once-test once-true three refl
-
-pairs-apart : Pairs Apart three
-unfolding opened shown tested
-pairs-apart = pairs-all apart-test apart-true three refl
-
-pairs-names : Pairs OtherName three
-unfolding opened shown tested
-pairs-names = pairs-all name-test name-true three refl
-
-pairs-exports : Pairs OtherExports three
-unfolding opened shown tested
-pairs-exports = pairs-all exports-test exports-true three refl
+abbrev other : List Image
+other = C ∷ N ∷ M ∷ []
 
 pub suits-three : Suits three
-unfolding Each AutoLinked ImportsKept
+unfolding opened shown tested Each AutoLinked ImportsKept
 suits-three =
     record {
       auto-linked = (tt, (refl, (refl, tt)));
       imports-kept = (tt, (omega arith, (omega arith, tt)));
       base-not-0 = (omega arith, (omega arith, (omega arith, tt)));
-      areas-apart = pairs-apart;
-      other-names = pairs-names;
-      other-exports = pairs-exports;
-      exports-once = each-once;
-      well-laid = each-laid;
+      areas-apart = pairs-all apart-test apart-true three refl;
+      other-names = pairs-all name-test name-true three refl;
+      other-exports = pairs-all exports-test exports-true three refl;
+      exports-once = each-all once-test once-true three refl;
+      well-laid = each-all (λ a. meets (laid-tests a)) laid three refl;
+    }
+
+suits-other : Suits other
+unfolding opened shown tested Each AutoLinked ImportsKept
+suits-other =
+    record {
+      auto-linked = (tt, (refl, (refl, tt)));
+      imports-kept = (tt, (omega arith, (omega arith, tt)));
+      base-not-0 = (omega arith, (omega arith, (omega arith, tt)));
+      areas-apart = pairs-all apart-test apart-true other refl;
+      other-names = pairs-all name-test name-true other refl;
+      other-exports = pairs-all exports-test exports-true other refl;
+      exports-once = each-all once-test once-true other refl;
+      well-laid = each-all (λ a. meets (laid-tests a)) laid other refl;
     }
 
 pub windows-a : Each (λ a. (q : ℕ) → Area a q → In at 4096 q) three
 unfolding opened shown tested
 windows-a = each-all (λ a. in-test a at 4096) (λ a. in-true a at 4096) three refl
 
-windows-b : Each (λ a. (q : ℕ) → Area a q → In bt 8192 q) two
+windows-b : Each (λ a. (q : ℕ) → Area a q → In bt 8192 q) other
 unfolding opened shown tested
-windows-b = each-all (λ a. in-test a bt 8192) (λ a. in-true a bt 8192) two refl
+windows-b = each-all (λ a. in-test a bt 8192) (λ a. in-true a bt 8192) other refl
 
 pub long
     : (length (b₀ .window) ≡ 4096) × (length (b₁ cro .window) ≡ 4096) × (length (b₂ .window) ≡ 4096) × (length (b₃ .window) ≡ 4096)
-    × (length (d₁ .window) ≡ 8192)
-unfolding opened shown
+    × (length (ahead d₃ .window) ≡ 8192)
+unfolding opened shown behind
 long = (refl, refl, refl, refl, refl)
 
 some-come : {a : Arrival} {S : List Arrival} → a ∷ S ≢ []
 some-come {a} {S} e = let z : length (a ∷ S) ≡ 0 = ap length e in absurd (omega (arith, z))
 
--- the CRS has another base
-base-other : Each (λ a. isCrs (a .coming) ≡ true → baseOf (a .coming) ≢ 0x100420) (c ∷ m ∷ n ∷ [])
+-- the CRS has another base than `n`
+abbrev NotCrs : Arrival → Type 0
+NotCrs a = isCrs (a .coming) ≡ true → baseOf (a .coming) ≢ 0x100420
+
+others-base : Each NotCrs (c ∷ m ∷ n ∷ []) × Each NotCrs (c′ ∷ n′ ∷ m′ ∷ [])
 unfolding Each
-base-other = ((λ h. λ z. absurd (omega arith)), ((λ h. two-faced false h refl), ((λ h. two-faced false h refl), tt)))
+others-base =
+    let it : _≡_ {A = ℕ} 0x100000 0x100420 → ⊥ = λ z. omega arith in (
+      ((λ h. it), ((λ h. two-faced false h refl), ((λ h. two-faced false h refl), tt))),
+      ((λ h. it), ((λ h. two-faced false h refl), ((λ h. two-faced false h refl), tt))),
+    )
 
 pub crs-first-a : Ordered A
 unfolding Ordered InOrder came brings comes
 crs-first-a = (
-  (λ e. base-other),
+  (λ e. others-base .0),
   (
-    (λ e. base-other),
+    (λ e. others-base .0),
     (
       (λ e. two-faced false e refl),
       (
@@ -205,7 +215,7 @@ crs-first-a = (
 
 crs-first-b : Ordered B
 unfolding Ordered InOrder came brings comes
-crs-first-b = ((λ e. some-come), ((λ e. refl), tt))
+crs-first-b = ((λ e. others-base .1), ((λ e. some-come), ((λ e. some-come), ((λ e. refl), tt))))
 
 not-refused : {X : Type 0} → _≡_ {A = Bool} true false → X
 not-refused e = two-faced true refl e
@@ -224,5 +234,5 @@ premises-a = premises-of A three exact-a images-a suits-three quiet-a crs-first-
 pub premises-b : Premises B
 unfolding Each ours
 premises-b =
-    premises-of B two exact-b images-b (front two (N ∷ []) suits-three) (not-refused, (not-refused, tt)) crs-first-b
-    (windows-of u₂ _ 8192 two (long .4) windows-b)
+    premises-of B other exact-b images-b suits-other (not-refused, (not-refused, (not-refused, (not-refused, tt)))) crs-first-b
+    (windows-of u₄ _ 8192 other (long .4) windows-b)

@@ -1,7 +1,8 @@
 -- Two sessions: what comes in them, and that they end alike.
-use Prim.Native.Nat.{ℕ, _+_, _^_, _≤_, _<_}
+use Prim.Native.Nat.{ℕ, _+_, _-_, _^_, _≤_, _<_}
 use mathlib.Core.Path.{_≡_, refl, sym, ap, _∙_, fun-ext}
-use mathlib.Core.List.{List, [], _∷_, _++_, map}
+use mathlib.Core.Logic.{inl, inr}
+use mathlib.Core.List.{List, [], _∷_, map}
 use mathlib.Core.Bool.{true}
 use native.Mathlib.Omega.{arith}
 use native.Mathlib.Decide.{decLt}
@@ -14,7 +15,7 @@ use Rattle.register.specs.Words.{flat}
 use Rattle.linker.specs.declared.call.Call.{Call}
 use Rattle.linker.specs.declared.call.Call.the-variants.{Initialize, Load, Unload}
 use Rattle.linker.specs.Outcome.{Bytes, Outcome, refused}
-use Rattle.history.specs.Arrival.{Coming, initialized, loaded, Arrival, Image, cut, imageOf, baseOf, sizeOf, Area}
+use Rattle.history.specs.Arrival.{Coming, initialized, loaded, Arrival, Image, cut, imageOf, baseOf, sizeOf, Area, Lent-area}
 use Rattle.history.specs.Sessions.{Turn, comes, arrived, others, stay, standing}
 use Rattle.history.specs.Demand3.{Each, SameStanding, images}
 use Rattle.history_witness.specs.Image.{zeros, cro, c-words, m-words, n-words}
@@ -22,7 +23,8 @@ use Rattle.history_witness.specs.Open.{opened}
 use Rattle.history_witness.specs.Together.{in-true}
 use Rattle.history_witness.specs.Tested.{tested}
 use Rattle.history_witness.specs.Told.{Exact, came, stood, brings, came-are, stood-are}
-use Rattle.history_witness.specs.Computed.{at, bt, page₀, page₁, small, large, b₀, b₁, b₂, b₃, d₀, d₁, d₂, short, wrong, done, shown, o₁, o₂, o₃, o₄, o₅, o₆, o₇, o₈, o₉, q₁, q₂}
+use Rattle.history_witness.specs.Behind.{at, bt, behind, ahead}
+use Rattle.history_witness.specs.Computed.{page₀, page₁, page₄, small, large, b₀, b₁, b₂, b₃, d₀, d₁, d₂, d₃, d₄, short, wrong, done, shown, o₁, o₂, o₃, o₄, o₅, o₆, o₇, o₈, o₉, q₁, q₂, q₃, q₄}
 
 abbrev turn : Call → ℕ → Bytes → Outcome → Turn
 turn c at b o = record { call = c; at = at; before = b; gave = o }
@@ -48,7 +50,7 @@ abbrev pub t₆ : Turn
 t₆ = turn (Load (small 0x100420 0x168) 1 0) at b₂ (done 0 b₃)
 
 abbrev pub t₇ : Turn
-t₇ = turn (Load (small 0x100f7c 0x84) 1 0) at b₃ (refused 5 b₃)
+t₇ = turn (Load (small 0x100560 0x138) 1 0) at b₃ (refused 5 b₃)
 
 abbrev pub t₈ : Turn
 t₈ = turn (Unload 0x100420) at b₃ (done 1 b₂)
@@ -59,15 +61,21 @@ t₉ = turn (Unload 0x100420) at b₂ (done 0 b₂)
 abbrev pub A : List Turn
 A = t₉ ∷ t₈ ∷ t₇ ∷ t₆ ∷ t₅ ∷ t₄ ∷ t₃ ∷ t₂ ∷ t₁ ∷ []
 
--- on another window, in larger buffers: the CRS and `m` come, with another auto-link parameter
+-- on another window, in larger buffers: the CRS, `n` and `m` come, `m` with another auto-link parameter; `n` leaves
 abbrev pub u₁ : Turn
-u₁ = turn (Initialize 0x100000 0x178) bt d₀ (done 0 d₁)
+u₁ = turn (Initialize 0x100000 0x178) bt (ahead d₀) (done 0 (ahead d₁))
 
 abbrev pub u₂ : Turn
-u₂ = turn (Load large 2 1) bt d₁ (done 0x210 d₂)
+u₂ = turn (Load (small 0x100420 0x168) 1 0) bt (ahead d₁) (done 0 (ahead d₂))
+
+abbrev pub u₃ : Turn
+u₃ = turn (Load large 2 1) bt (ahead d₂) (done 0x210 (ahead d₃))
+
+abbrev pub u₄ : Turn
+u₄ = turn (Unload 0x100420) bt (ahead d₃) (done 1 (ahead d₄))
 
 abbrev pub B : List Turn
-B = u₂ ∷ u₁ ∷ []
+B = u₄ ∷ u₃ ∷ u₂ ∷ u₁ ∷ []
 
 pub exact-a : Exact A
 unfolding Each
@@ -75,7 +83,7 @@ exact-a = (o₉, (o₈, (o₇, (o₆, (o₅, (o₄, (o₃, (o₂, (o₁, tt)))))
 
 pub exact-b : Exact B
 unfolding Each
-exact-b = (q₂, (q₁, tt))
+exact-b = (q₄, (q₃, (q₂, (q₁, tt))))
 
 -- what comes
 abbrev pub c : Arrival
@@ -87,17 +95,20 @@ m = record { coming = loaded large true 1; bytes = byteAt at (page₁ cro) }
 abbrev pub n : Arrival
 n = record { coming = loaded (small 0x100420 0x168) true 0; bytes = byteAt at (b₂ .window) }
 
-abbrev pub d : Arrival
-d = record { coming = initialized 0x100000 0x178; bytes = byteAt bt (zeros 4096 ++ page₀ cro) }
+abbrev pub c′ : Arrival
+c′ = record { coming = initialized 0x100000 0x178; bytes = byteAt bt (behind (page₀ cro)) }
 
-abbrev pub k : Arrival
-k = record { coming = loaded large true 1; bytes = byteAt bt (zeros 4096 ++ page₁ cro) }
+abbrev pub n′ : Arrival
+n′ = record { coming = loaded (small 0x100420 0x168) true 0; bytes = byteAt bt (behind (page₁ cro)) }
+
+abbrev pub m′ : Arrival
+m′ = record { coming = loaded large true 1; bytes = byteAt bt (behind page₄) }
 
 pub came-a : arrived A ≡ c ∷ m ∷ n ∷ []
 unfolding came brings comes
 came-a = came-are A exact-a
 
-pub came-b : arrived B ≡ d ∷ k ∷ []
+pub came-b : arrived B ≡ c′ ∷ n′ ∷ m′ ∷ []
 unfolding came brings comes
 came-b = came-are B exact-b
 
@@ -105,8 +116,8 @@ pub stood-a : standing A ≡ c ∷ m ∷ []
 unfolding stood stay others brings comes
 stood-a = stood-are A exact-a
 
-pub stood-b : standing B ≡ d ∷ k ∷ []
-unfolding stood stay brings comes
+pub stood-b : standing B ≡ c′ ∷ m′ ∷ []
+unfolding stood stay others brings comes
 stood-b = stood-are B exact-b
 
 -- the three images by themselves
@@ -147,50 +158,63 @@ pub n-is : imageOf n ≡ N
 unfolding opened shown
 n-is = image-is (n .coming) at 0x420 0x168 (b₂ .window) (flat n-words) refl refl (omega arith) refl refl
 
-pub d-is : imageOf d ≡ C
-unfolding opened shown
-d-is = image-is (d .coming) bt 0x1000 0x178 (zeros 4096 ++ page₀ cro) (flat c-words) refl refl (omega arith) refl refl
+pub c′-is : imageOf c′ ≡ C
+unfolding opened shown behind
+c′-is = image-is (c′ .coming) bt 0x1000 0x178 (behind (page₀ cro)) (flat c-words) refl refl (omega arith) refl refl
 
-pub k-is : imageOf k ≡ M
-unfolding opened shown
-k-is = image-is (k .coming) bt 0x1200 0x210 (zeros 4096 ++ page₁ cro) (flat (m-words cro)) refl refl (omega arith) refl refl
+pub n′-is : imageOf n′ ≡ N
+unfolding opened shown behind
+n′-is = image-is (n′ .coming) bt 0x1420 0x168 (behind (page₁ cro)) (flat n-words) refl refl (omega arith) refl refl
+
+pub m′-is : imageOf m′ ≡ M
+unfolding opened shown behind
+m′-is = image-is (m′ .coming) bt 0x1200 0x210 (behind page₄) (flat (m-words cro)) refl refl (omega arith) refl refl
 
 pub images-a : images A ≡ C ∷ M ∷ N ∷ []
 images-a = ap (map imageOf) came-a ∙ rw (c-is, m-is, n-is) refl
 
-pub images-b : images B ≡ C ∷ M ∷ []
-images-b = ap (map imageOf) came-b ∙ rw (d-is, k-is) refl
+pub images-b : images B ≡ C ∷ N ∷ M ∷ []
+images-b = ap (map imageOf) came-b ∙ rw (c′-is, n′-is, m′-is) refl
 
 -- one window holds the bytes of the other, a page further on
-shifted : (w : List ℕ) (q : ℕ) → In 0x100000 0x1000 q → byteAt bt (zeros 4096 ++ w) q ≡ byteAt at w q
-unfolding byteAt place
+shifted : (w : List ℕ) (q : ℕ) → In 0x100000 0x1000 q → byteAt bt (behind w) q ≡ byteAt at w q
+unfolding byteAt place behind
 shifted w q i =
-    let e : place bt q ≡ 4096 + place at q = omega (arith, i) in
-    rw e (getD-append-add (zeros 4096) w (place at q) 0)
+    let e : place bt q ≡ 4096 + place at q = omega (arith, i) in rw e (getD-append-add (zeros 4096) w (place at q) 0)
 
--- what two windows begin with
-pub begins : (u w : List ℕ) (n q : ℕ) → take n u ≡ take n w → n ≤ 4096 → In 0x100000 n q → byteAt at u q ≡ byteAt at w q
+-- what two pages have in one place
+pub same-part
+    : (u w : List ℕ) (i n q : ℕ) → take n (drop i u) ≡ take n (drop i w) → i + n ≤ 4096 → In (0x100000 + i) n q → byteAt at u q ≡ byteAt at w q
 unfolding byteAt place
-begins u w n q e l i =
-    let s : place at q < n = omega (arith, i) in
-    sym (getD-take n u (place at q) 0 s) ∙ rw e (getD-take n w (place at q) 0 s)
+same-part u w i n q e l h = sym (go u) ∙ ap (λ l. getD l (place at q - i) 0) e ∙ go w
+  where
+    go : (v : List ℕ) → getD (take n (drop i v)) (place at q - i) 0 ≡ getD v (place at q) 0
+    go v =
+        let x : place at q - i < n = omega (arith, h) in
+        let y : i + (place at q - i) ≡ place at q = omega (arith, h) in
+        getD-take n (drop i v) (place at q - i) 0 x ∙ rw (getD-drop i v (place at q - i) 0, y) refl
 
 pub c-area : (q : ℕ) → Area C q → In 0x100000 0x178 q
 unfolding opened shown tested
 c-area = in-true C 0x100000 0x178 refl
 
-pub m-area : (q : ℕ) → Area M q → In 0x100000 0x1000 q
-unfolding opened shown tested
-m-area = in-true M 0x100000 0x1000 refl
-
--- but for the magic word the CRS and what it becomes are the same
-same-first : take 0x178 (page₀ 0) ≡ take 0x178 (page₀ cro)
+-- what others write, and what `n` changes, is outside the CRS and outside `m`
+pub same-pages
+    : (take 0x178 (drop 0 (page₀ 0)) ≡ take 0x178 (drop 0 (page₀ cro))) × (take 0x178 (drop 0 (page₁ 0)) ≡ take 0x178 (drop 0 (page₁ cro)))
+    × (take 0x210 (drop 0x200 (page₁ cro)) ≡ take 0x210 (drop 0x200 page₄)) × (take 0x10 (drop 0x5a0 (page₁ cro)) ≡ take 0x10 (drop 0x5a0 page₄))
+    × (take 0x10 (drop 0x5b0 (page₁ cro)) ≡ take 0x10 (drop 0x5b0 page₄))
 unfolding opened shown
-same-first = refl
+same-pages = (refl, refl, refl, refl, refl)
 
-pub same-next : take 0x178 (page₁ 0) ≡ take 0x178 (page₁ cro)
-unfolding opened shown
-same-next = refl
+-- the same bytes at the same addresses
+carried : (u w : List ℕ) (i n q : ℕ) → take n (drop i u) ≡ take n (drop i w) → i + n ≤ 4096 → In (0x100000 + i) n q → byteAt at u q ≡ byteAt bt (behind w) q
+carried u w i n q e l h = same-part u w i n q e l h ∙ sym (shifted w q (omega (arith, h), omega (arith, h)))
+
+same-m : (q : ℕ) → Area M q → byteAt at (page₁ cro) q ≡ byteAt bt (behind page₄) q
+unfolding Area Lent-area
+same-m q (inl h) = carried (page₁ cro) page₄ 0x200 0x210 q (same-pages .2) (omega arith) h
+same-m q (inr (inl h)) = carried (page₁ cro) page₄ 0x5a0 0x10 q (same-pages .3) (omega arith) h
+same-m q (inr (inr h)) = carried (page₁ cro) page₄ 0x5b0 0x10 q (same-pages .4) (omega arith) h
 
 -- item 10: the second session is on another window, has another auto-link parameter, and ends alike
 pub end-alike : SameStanding (standing A) (standing B)
@@ -198,6 +222,6 @@ unfolding SameStanding
 end-alike =
     rw (stood-a, stood-b) (
       refl,
-      (λ q h. let i = c-area q (rw c-is at h) in begins (page₀ 0) (page₀ cro) 0x178 q same-first (omega arith) i ∙ sym (shifted (page₀ cro) q (omega arith, omega arith))),
-      (refl, (λ q h. sym (shifted (page₁ cro) q (m-area q (rw m-is at h)))), tt),
+      (λ q h. carried (page₀ 0) (page₀ cro) 0 0x178 q (same-pages .0) (omega arith) (c-area q (rw c-is at h))),
+      (refl, (λ q h. same-m q (rw m-is at h)), tt),
     )

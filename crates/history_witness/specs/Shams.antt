@@ -34,9 +34,13 @@ use Rattle.history_witness.specs.Open.{opened}
 use Rattle.history_witness.specs.Tested.{tested}
 use Rattle.history_witness.specs.Items.{items}
 use Rattle.history_witness.specs.Hasty.{hasty, hastened}
-use Rattle.history_witness.specs.Computed.{at, c-module, m-module, n-module, register, stored, small, large, short, b₀, b₁, b₂, b₃, done, shown, o₁, o₂, o₃, o₄, o₅, o₆, o₇}
+use Rattle.history_witness.specs.Behind.{at, stored}
+use Rattle.history_witness.specs.Computed.{c-module, m-module, n-module, register, small, large, short, b₀, b₁, b₂, b₃, done, shown, o₁, o₂, o₃, o₄, o₅, o₆, o₇}
 use Rattle.history_witness.specs.Sessions.{t₁, t₂, t₃, t₄, t₅, t₆, t₇, t₈, A, exact-a, c, m, n, C, M, N, c-is, m-is, n-is}
-use Rattle.history_witness.specs.Premises.{trace-a, suits-three, windows-a, long, three, two, quiet-a, crs-first-a}
+use Rattle.history_witness.specs.Premises.{trace-a, suits-three, windows-a, long, three, quiet-a, crs-first-a}
+
+abbrev two : List Image
+two = C ∷ M ∷ []
 
 -- the same call of the same bytes, which gave something else
 abbrev told : Turn → Outcome → Turn
