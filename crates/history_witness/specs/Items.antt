@@ -24,7 +24,7 @@ use Rattle.history_witness.specs.Tested.{tested}
 use Rattle.history_witness.specs.Told.{came, brings, came-are}
 use Rattle.history_witness.specs.Behind.{at, bt, behind}
 use Rattle.history_witness.specs.Computed.{large, shown, o₁, o₂, o₃, o₇}
-use Rattle.history_witness.specs.Sessions.{t₁, t₂, t₃, t₄, t₅, t₆, t₇, t₈, A, u₃, u₄, B, M, N, end-alike}
+use Rattle.history_witness.specs.Sessions.{t₁, t₂, t₃, t₄, t₅, t₆, t₇, t₈, t₉, A, u₃, u₄, B, M, N, end-alike}
 use Rattle.history_witness.specs.Premises.{trace-a, trace-b, made-a, made-b, premises-a, premises-b, others-write}
 
 -- the premises of `Demand3 Promised` are met
@@ -63,6 +63,9 @@ pub record Items : Type 0 where
   pub by-name : exportOf N (0x67 ∷ []) ≡ At 0x10057c
   pub by-index : indexedOf N 1 ≡ At 0x100584
   pub by-tag : anonymousOf N 0x80 ≡ At 0x100580
+  -- the import `s` of `m` and the import `f` of the CRS are patched by the load of `m`
+  pub own-import : Leaves t₅ 0x100400 (0x100170 ⊕ 4)
+  pub crs-import : Leaves t₄ 0x100168 (0x100168 ⊕ 4) × Leaves t₅ 0x100168 (0x100408 ⊕ 4)
   -- item 1: the named import `g` is patched by the load of `n` and reset by its unload
   pub reset : Turns 0x100408 (0x100400 ⊕ 8) (0x10057c ⊕ 8)
   -- item 2: the module entry's two imports, patched and reset
@@ -80,7 +83,7 @@ pub record Items : Type 0 where
   pub data-placed : placedSegment M 1 ≡ Found (record { offset = 0x1005a0; size = 8; kind = Data })
   pub old-place : oldPlace M ≡ 0x1003f8
   pub internal-word : Leaves t₅ (0x1003f8 + 4) (0x100400 ⊕ 4) × Leaves t₅ (0x1005a0 + 4) 0
-  -- item 6: Bss in a lent area
+  -- item 6: Bss in a lent area, which holds the word of the anonymous import
   pub bss-placed : placedSegment M 2 ≡ Found (record { offset = 0x1005b0; size = 8; kind = Bss })
   -- item 7: refused calls before the CRS, one with number 1 on the session's own bytes and two that are lent what breaks a rule
   pub none-yet : arrived (t₃ ∷ t₂ ∷ t₁ ∷ []) ≡ []
@@ -99,6 +102,7 @@ pub record Items : Type 0 where
   -- there `m` comes after `n`: its own load links the batch of `g` and the module entry; then `n`, the head of the list, leaves
   pub own-load : (wordAt bt (after u₃ .window) 0x100408 ≡ 0x10057c ⊕ 8) × (wordAt bt (after u₃ .window) 0x1005a0 ≡ 0x100584)
   pub own-reset : (wordAt bt (after u₄ .window) 0x100408 ≡ 0x100400 ⊕ 8) × (wordAt bt (after u₄ .window) 0x1005a0 ≡ 0x100400)
+  pub same-end : after u₄ .window ≡ behind (after t₉ .window)
   pub heads : (wordAt bt (after u₃ .window) 0x100088 ≡ 0x100420) × (wordAt bt (after u₄ .window) 0x100088 ≡ 0x100200)
 
 none-came : arrived (t₃ ∷ t₂ ∷ t₁ ∷ []) ≡ []
@@ -117,6 +121,8 @@ items =
       by-name = refl;
       by-index = refl;
       by-tag = refl;
+      own-import = refl;
+      crs-import = (refl, refl);
       reset = (refl, refl, refl);
       from-n = ((0, omega arith, (0, omega arith, refl), refl), (0, omega arith, (0, omega arith, refl), refl));
       indexed-patched = (refl, refl, refl);
@@ -142,5 +148,6 @@ items =
       alike = end-alike;
       own-load = (refl, refl);
       own-reset = (refl, refl);
+      same-end = refl;
       heads = (refl, refl);
     }

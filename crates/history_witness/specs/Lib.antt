@@ -1,4 +1,4 @@
--- The premises of demand 3 can be met.
+-- The premises of demand 3 can be met, and six sham linkers do not meet it.
 pub mod Image
 pub mod Open
 pub mod Tests

@@ -207,7 +207,9 @@ unfolding opened shown
 same-pages = (refl, refl, refl, refl, refl)
 
 -- the same bytes at the same addresses
-carried : (u w : List ℕ) (i n q : ℕ) → take n (drop i u) ≡ take n (drop i w) → i + n ≤ 4096 → In (0x100000 + i) n q → byteAt at u q ≡ byteAt bt (behind w) q
+carried
+    : (u w : List ℕ) (i n q : ℕ) → take n (drop i u) ≡ take n (drop i w) → i + n ≤ 4096 → In (0x100000 + i) n q
+    → byteAt at u q ≡ byteAt bt (behind w) q
 carried u w i n q e l h = same-part u w i n q e l h ∙ sym (shifted w q (omega (arith, h), omega (arith, h)))
 
 same-m : (q : ℕ) → Area M q → byteAt at (page₁ cro) q ≡ byteAt bt (behind page₄) q

@@ -85,7 +85,9 @@ module _ (t : Turn) (ts : List Turn) (o : Outcome) where
   unfolding standing brought sessions.done
   standing-told = refl
 
-  ends-told : expected t ≡ t .gave → (eqb (t .gave .number) 3 || eqb (t .gave .number) 4) ≡ false → ends (told t o ∷ ts) ≡ byteAt (t .at) (o .left .window)
+  ends-told
+      : expected t ≡ t .gave → (eqb (t .gave .number) 3 || eqb (t .gave .number) 4) ≡ false
+      → ends (told t o ∷ ts) ≡ byteAt (t .at) (o .left .window)
   unfolding own unfit lefts
   ends-told e h = rw (e, h) refl
 
