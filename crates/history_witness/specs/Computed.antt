@@ -9,7 +9,7 @@ use Rattle.linker.specs.declared.rebase.Lent.{Lent}
 use Rattle.linker.specs.declared.call.Call.the-variants.{Initialize, Load, Unload}
 use Rattle.linker.specs.Outcome.{Bytes, Outcome, refused}
 use Rattle.history.specs.Sessions.{given}
-use Rattle.history_witness.specs.Image.{zeros, cro, c-words, m-words, n-words, change, c-rebased, c-linked, m-loaded, m-linked, n-loaded, lent-words, page}
+use Rattle.history_witness.specs.Image.{zeros, cro, join, c-words, m-words, n-words, change, c-rebased, c-linked, m-loaded, m-linked, n-loaded, lent-words, page}
 use Rattle.history_witness.specs.Open.{opened}
 use Rattle.history_witness.specs.Behind.{at, bt, ahead, lies, tried, program, Tried, stored, given-behind}
 
@@ -130,7 +130,7 @@ done value b = record { number = 0; value = value; left = b }
 
 -- written out
 unfoldable pub shown : Unit {0}
-unfolding c-words m-words n-words change c-rebased c-linked m-loaded m-linked n-loaded lent-words page
+unfolding join c-words m-words n-words change c-rebased c-linked m-loaded m-linked n-loaded lent-words page
 shown = tt
 
 pub o₁ : given (Load large 1 1) at b₀ ≡ refused 1 b₀

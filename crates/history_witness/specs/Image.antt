@@ -10,98 +10,83 @@ zeros n = replicate n 0
 abbrev pub cro : ℕ
 cro = 0x304f5243
 
--- a header: its magic word and, from 0x0c0 on, the name and the tables, each an offset and a count
-abbrev header : ℕ → List ℕ → List ℕ
-header magic tables = zeros 32 ++ (magic ∷ (zeros 15 ++ tables))
+abbrev pair : ℕ → ℕ → List ℕ
+pair a b = a ∷ b ∷ []
 
--- the CRS, 0x178 bytes: code at 0x100168, an export `s`, an import `f` with its external entry, the strings
+abbrev triple : ℕ → ℕ → ℕ → List ℕ
+triple a b c = a ∷ b ∷ c ∷ []
+
+unfoldable pub join : List (List ℕ) → List ℕ
+join [] = []
+join (l ∷ ls) = l ++ join ls
+
+-- a header: its magic word and, from 0x0c0 on, the name and the tables, each an offset and a count
+abbrev header : ℕ → List (List ℕ) → List ℕ
+header magic tables = zeros 32 ++ (magic ∷ (zeros 15 ++ join tables))
+
+-- the CRS, 0x178 bytes: a segment of code at 0x100168, an export `s`, an import `f`, its external entry, the strings, the code
 unfoldable pub c-words : List ℕ
 c-words =
-    header cro (0x160 ∷ 2 ∷ 0x138 ∷ 1 ∷ 0x144 ∷ 1 ∷ (zeros 8 ++ (0x154 ∷ 1 ∷ 0x14c ∷ 1 ∷ zeros 12)))
-    ++ (0x100168
-    ∷ 0x10
-    ∷ 0
-    ∷ 0x162
-    ∷ 0x80
-    ∷ 0x164
-    ∷ 0x154
-    ∷ 0
-    ∷ 0x102
-    ∷ 4
-    ∷ 0x730063
-    ∷ 0x66
-    ∷ zeros 4)
-
--- the parts of `m`, 0x210 bytes: segments of code, Data and Bss
-abbrev m-segments : List ℕ
-m-segments = 0x200 ∷ 0x10 ∷ 0 ∷ 0x1f8 ∷ 8 ∷ 2 ∷ 0 ∷ 8 ∷ 3 ∷ []
-
--- an export `f`; imports `s` and `g`; a module entry `n`, with an import by index, 1, and one by a tag, 0x80
-abbrev m-symbols : List ℕ
-m-symbols =
-    0x1ee
-    ∷ 0x80
-    ∷ 0x1f0
-    ∷ 0x198
-    ∷ 0x1f2
-    ∷ 0x1a4
-    ∷ 0x1f4
-    ∷ 0x188
-    ∷ 1
-    ∷ 0x190
-    ∷ 1
-    ∷ 1
-    ∷ 0x1bc
-    ∷ 0x80
-    ∷ 0x1d4
+    header cro (pair 0x160 2 ∷ pair 0x138 1 ∷ pair 0x144 1 ∷ zeros 8 ∷ pair 0x154 1 ∷ pair 0x14c 1 ∷ zeros 12 ∷ [])
+    ++ join (
+    triple 0x100168 0x10 0
+    ∷ pair 0x162 0x80
+    ∷ pair 0x164 0x154
+    ∷ triple 0 0x102 4
+    ∷ pair 0x730063 0x66
+    ∷ zeros 4
     ∷ []
+    )
 
--- external entries: of `s`; two of `g`, of kinds 3 and 10; two of the import by index, the first into Data and the second with a tag
--- past Data's end; one of the import by a tag, into Bss; and an internal entry into Data
-abbrev m-entries : List ℕ
-m-entries =
-    0
-    ∷ 0x102
-    ∷ 4
-    ∷ 0x40
-    ∷ 3
-    ∷ 0
-    ∷ 0x80
-    ∷ 0x10a
-    ∷ 8
-    ∷ 0x01
-    ∷ 2
-    ∷ 0
-    ∷ 0x81
-    ∷ 0x102
-    ∷ 0
-    ∷ 0x42
-    ∷ 0x102
-    ∷ 0
-    ∷ 0x41
-    ∷ 2
-    ∷ 4
-    ∷ []
-
--- but for its magic word
+-- `m`, 0x210 bytes, but for its magic word: segments of code, Data and Bss; an export `f`; imports `s` and `g`; a module entry `n`,
+-- with an import by index, 1, and one by a tag, 0x80; external entries: of `s`; two of `g`, of kinds 3 and 10; two of the import by
+-- index, into Data and past its end; one of the import by a tag, into Bss; an internal entry into Data; strings; Data; code
 unfoldable pub m-words : ℕ → List ℕ
 m-words magic =
-    header magic
-    (0x1ec
-    ∷ 2
-    ∷ 0x138
-    ∷ 3
-    ∷ 0x15c
-    ∷ 1
-    ∷ (zeros 6
-    ++ (0x174 ∷ 1 ∷ 0x198 ∷ 6 ∷ 0x164 ∷ 2 ∷ 0x188 ∷ 1 ∷ 0x190 ∷ 1 ∷ (zeros 4 ++ (0x1e0 ∷ 1 ∷ zeros 2)))))
-    ++ (m-segments ++ (m-symbols ++ (m-entries ++ (0x66006d ∷ 0x670073 ∷ 0x6e ∷ zeros 6))))
+    header magic (
+    pair 0x1ec 2
+    ∷ pair 0x138 3
+    ∷ pair 0x15c 1
+    ∷ zeros 6
+    ∷ pair 0x174 1
+    ∷ pair 0x198 6
+    ∷ pair 0x164 2
+    ∷ pair 0x188 1
+    ∷ pair 0x190 1
+    ∷ zeros 4
+    ∷ pair 0x1e0 1
+    ∷ zeros 2
+    ∷ []
+    )
+    ++ join (
+    triple 0x200 0x10 0
+    ∷ triple 0x1f8 8 2
+    ∷ triple 0 8 3
+    ∷ pair 0x1ee 0x80
+    ∷ pair 0x1f0 0x198
+    ∷ pair 0x1f2 0x1a4
+    ∷ triple 0x1f4 0x188 1
+    ∷ pair 0x190 1
+    ∷ pair 1 0x1bc
+    ∷ pair 0x80 0x1d4
+    ∷ triple 0 0x102 4
+    ∷ triple 0x40 3 0
+    ∷ triple 0x80 0x10a 8
+    ∷ triple 0x01 2 0
+    ∷ triple 0x81 0x102 0
+    ∷ triple 0x42 0x102 0
+    ∷ triple 0x41 2 4
+    ∷ triple 0x66006d 0x670073 0x6e
+    ∷ zeros 2
+    ∷ zeros 4
+    ∷ []
+    )
 
--- `n`, 0x168 bytes: it exports `g` by name and two addresses by index, the first of them with the tag of no segment
+-- `n`, 0x168 bytes: code; an export `g` by name and two by index, the first with the tag of no segment
 unfoldable pub n-words : List ℕ
 n-words =
-    header cro (0x154 ∷ 2 ∷ 0x138 ∷ 1 ∷ 0x144 ∷ 1 ∷ 0x14c ∷ 2 ∷ zeros 22)
-    ++ (0x158 ∷ 0x10 ∷ 0 ∷ 0x156 ∷ 0x40 ∷ 0x109 ∷ 0xc0 ∷ 0x67006e ∷ zeros 4)
+    header cro (pair 0x154 2 ∷ pair 0x138 1 ∷ pair 0x144 1 ∷ pair 0x14c 2 ∷ zeros 22 ∷ [])
+    ++ join (triple 0x158 0x10 0 ∷ pair 0x156 0x40 ∷ pair 0x109 0xc0 ∷ (0x67006e ∷ []) ∷ zeros 4 ∷ [])
 
 -- with words put at such offsets
 unfoldable pub change : List (ℕ × ℕ) → List ℕ → List ℕ
@@ -200,4 +185,4 @@ lent-words indexed anonymous = indexed ∷ 0 ∷ 0 ∷ 0 ∷ 0 ∷ anonymous ∷
 -- one page: the three images, what is lent to `m`, and a magic word with only zeros behind it
 unfoldable pub page : List ℕ → List ℕ → List ℕ → List ℕ → List ℕ
 page c m n lent =
-    flat (c ++ (zeros 0x22 ++ (m ++ (zeros 4 ++ (n ++ (zeros 6 ++ (lent ++ (zeros 8 ++ (cro ∷ zeros 0x287)))))))))
+    flat (join (c ∷ zeros 0x22 ∷ m ∷ zeros 4 ∷ n ∷ zeros 6 ∷ lent ∷ zeros 8 ∷ (cro ∷ []) ∷ zeros 0x287 ∷ []))
