@@ -43,7 +43,7 @@ abbrev two : List Image
 two = C ∷ M ∷ []
 
 -- the same call of the same bytes, which gave something else
-abbrev told : Turn → Outcome → Turn
+abbrev pub told : Turn → Outcome → Turn
 told t o = record { call = t .call; at = t .at; before = t .before; gave = o }
 
 -- that is still a session, and the premises are still met: they read the definition
@@ -254,7 +254,14 @@ pub always-2-fails : Demand3 (Sham (always 2)) → ⊥
 unfolding always Each
 always-2-fails = by-outcome (always 2) t₁ [] exact₁ trace₁ premises₁ tt (λ e h. omega arith)
 
--- a linker whose programs are its own; its last call leaves an import that holds another address
+-- what the import clause says of a last call: of the modules that stand and the bytes that it leaves
+held
+    : (t : Turn) (ts : List Turn) (o : Outcome) (S : List Image) → Exact (t ∷ ts) → map imageOf (stood (t ∷ ts)) ≡ S
+    → (eqb (t .gave .number) 3 || eqb (t .gave .number) 4) ≡ false → Linked (told t o ∷ ts) → AllHold S (byteAt (t .at) (o .left .window))
+unfolding Each Linked
+held t ts o S e i u l = rw (standing-told t ts o, stood-are (t ∷ ts) e, i, ends-told t ts o (e .0) u) at (l .0)
+
+-- a linker whose programs are its own
 module _ (f : Call → ℕ → Bytes → Outcome) where
   abbrev pub Own : Linker
   Own c at b o = o ≡ f c at b
@@ -264,16 +271,11 @@ module _ (f : Call → ℕ → Bytes → Outcome) where
   made-own [] h = tt
   made-own (t ∷ ts) h = (sym (h .0), made-own ts (h .1))
 
-  -- what demand 3 then says of that call: of the modules that stand and the bytes that it leaves
   by-imports
-      : (t : Turn) (ts : List Turn) (o : Outcome) (S : List Image) → Exact (t ∷ ts) → Trace at (t ∷ ts) → Premises (t ∷ ts)
-      → Each (λ t. f (t .call) (t .at) (t .before) ≡ t .gave) (told t o ∷ ts) → map imageOf (stood (t ∷ ts)) ≡ S
-      → (eqb (t .gave .number) 3 || eqb (t .gave .number) 4) ≡ false → Demand3 Own → AllHold S (byteAt (t .at) (o .left .window))
-  unfolding Each Linked
-  by-imports t ts o S e x p h i u d =
-      let l : Linked (told t o ∷ ts) =
-      gives Own at (told t o ∷ ts) (trace-told t ts o at x) (made-own (told t o ∷ ts) h) (premises-told t ts o p) d .1 in
-      rw (standing-told t ts o, stood-are (t ∷ ts) e, i, ends-told t ts o (e .0) u) at (l .0)
+      : (t : Turn) (ts : List Turn) (o : Outcome) → Trace at (t ∷ ts) → Premises (t ∷ ts)
+      → Each (λ t. f (t .call) (t .at) (t .before) ≡ t .gave) (told t o ∷ ts) → (Linked (told t o ∷ ts) → ⊥) → Demand3 Own → ⊥
+  by-imports t ts o x p h u d =
+      u (gives Own at (told t o ∷ ts) (trace-told t ts o at x) (made-own (told t o ∷ ts) h) (premises-told t ts o p) d .1)
 
 -- the import `g` of `m`, and the second entry of its batch, of kind 10
 g-import : IsImport (M .file) (named 1)
@@ -339,16 +341,20 @@ left-word : word (byteAt at (left₅ .window)) 0x100408 ≡ 0x100584
 unfolding opened shown tested
 left-word = refl
 
-pub forgetful-fails : Demand3 (Own forgetful) → ⊥
-unfolding forgetful Each stood stay others brings comes AllHold ImportClause
-forgetful-fails d =
-    let h : AllHold two (byteAt at (left₅ .window)) =
-    by-imports forgetful t₈ (t₇ ∷ s₆) (done 1 left₅) two exact₈ trace₈ premises₈
-    (unload-left, (o₇, (o₆, (o₅, (o₄, (o₃, (unload-short, (o₁, tt)))))))) (rw (c-is, m-is) refl) refl d in
+pub forgetful-unlinked : Linked (told t₈ (done 1 left₅) ∷ t₇ ∷ s₆) → ⊥
+unfolding Each stood stay others brings comes AllHold ImportClause
+forgetful-unlinked l =
+    let h : AllHold two (byteAt at (left₅ .window)) = held t₈ (t₇ ∷ s₆) (done 1 left₅) two exact₈ (rw (c-is, m-is) refl) refl l in
     let k : Holds (byteAt at (left₅ .window)) M (named 1) (handler M) =
     h .1 .0 .0 (named 1) g-import .1 (no-exporter C (g-nowhere .0), (no-exporter M (g-nowhere .1), tt)) in
     let w = g-holds _ (handler M) k in
     omega (arith, w, left-word, items .handled)
+
+pub forgetful-fails : Demand3 (Own forgetful) → ⊥
+unfolding forgetful Each
+forgetful-fails =
+    by-imports forgetful t₈ (t₇ ∷ s₆) (done 1 left₅) trace₈ premises₈
+    (unload-left, (o₇, (o₆, (o₅, (o₄, (o₃, (unload-short, (o₁, tt)))))))) forgetful-unlinked
 
 -- "One patching a batch's first entry and marking it resolved": the second word of `g` is still the handler's
 abbrev left₆ : Bytes
@@ -376,13 +382,16 @@ n-exports : Exporter N M (named 1) 0x10057c
 unfolding Exporter Exports
 n-exports = (rw g-name (items .by-name), (λ e. two-faced false e refl))
 
-pub hasty-fails : Demand3 (Own hasty) → ⊥
-unfolding hasty Each stood stay brings comes AllHold ImportClause
-hasty-fails d =
-    let h : AllHold three (byteAt at (left₆ .window)) =
-    by-imports hasty t₆ s₅ (done 0 left₆) three exact₆ trace₆ premises₆
-    (load-left, (load-first, (o₄, (o₃, (o₂, (load-refused, tt)))))) (rw (c-is, m-is, n-is) refl) refl d in
-    let k : Holds (byteAt at (left₆ .window)) M (named 1) 0x10057c =
-    h .1 .0 .0 (named 1) g-import .0 .1 .1 .0 0x10057c n-exports in
+pub hasty-unlinked : Linked (told t₆ (done 0 left₆) ∷ s₅) → ⊥
+unfolding Each stood stay brings comes AllHold ImportClause
+hasty-unlinked l =
+    let h : AllHold three (byteAt at (left₆ .window)) = held t₆ s₅ (done 0 left₆) three exact₆ (rw (c-is, m-is, n-is) refl) refl l in
+    let k : Holds (byteAt at (left₆ .window)) M (named 1) 0x10057c = h .1 .0 .0 (named 1) g-import .0 .1 .1 .0 0x10057c n-exports in
     let w = g-holds _ 0x10057c k in
     omega (arith, w, second-word)
+
+pub hasty-fails : Demand3 (Own hasty) → ⊥
+unfolding hasty Each
+hasty-fails =
+    by-imports hasty t₆ s₅ (done 0 left₆) trace₆ premises₆
+    (load-left, (load-first, (o₄, (o₃, (o₂, (load-refused, tt)))))) hasty-unlinked
