@@ -1,4 +1,4 @@
--- What a call leaves: a window that a run leaves, of the same length; a valid register; and bytes stay bytes.
+-- A call by its program, and what it leaves: a window that a run leaves, of the same length; a valid register; and bytes stay bytes.
 use Prim.Native.Nat.{ℕ}
 use mathlib.Core.Path.{_≡_, refl}
 use mathlib.Core.List.{List}
@@ -52,11 +52,20 @@ outcome-ran call at b =
     chained at b (goodWindow at (b .window)) (isRegister (b .records) (b .names) (b .missing))
     (call (length (b .records)) (length (b .names)) (lentRegister b))
 
+-- the program of a call, on the lent register
+unfoldable pub program : Call → ℕ → ℕ → Register → Prog Answer
+program (Initialize base size) records names r = calls.initialize base size records names r
+program (Load l auto level) records names r = calls.load l (not (eqb auto 0)) level records names r
+program (Unload base) records names r = calls.unload base r
+
+pub given-program : (c : Call) (at : ℕ) (b : Bytes) → given c at b ≡ outcome (program c) at b
+unfolding given program outcome initializeOutcome loadOutcome unloadOutcome
+given-program (Initialize base size) at b = refl
+given-program (Load l auto level) at b = refl
+given-program (Unload base) at b = refl
+
 pub given-ran : (c : Call) (at : ℕ) (b : Bytes) → Ran at (b .window) (given c at b .left .window)
-unfolding given initializeOutcome loadOutcome unloadOutcome
-given-ran (Initialize base size) at b = outcome-ran (calls.initialize base size) at b
-given-ran (Load l auto level) at b = outcome-ran (calls.load l (not (eqb auto 0)) level) at b
-given-ran (Unload base) at b = outcome-ran (λ records names. calls.unload base) at b
+given-ran c at b = rw (given-program c at b) (outcome-ran (program c) at b)
 
 pub given-length : (c : Call) (at : ℕ) (b : Bytes) → length (given c at b .left .window) ≡ length (b .window)
 given-length c at b = let g = given-ran c at b in rw (g .1) (length-run at (g .0) (b .window))

@@ -36,12 +36,7 @@ use Rattle.linker.specs.Valid.{Valid}
 use Rattle.linker.specs.declared.call.Call.{Call}
 use Rattle.linker.specs.declared.call.Call.the-variants.{Initialize, Load, Unload}
 use Rattle.history.specs.Sessions.{given, Turn, expected, done}
-
--- the program of a call, on the lent register
-unfoldable pub program : Call → ℕ → ℕ → Register → Prog Answer
-program (Initialize base size) records names r = calls.initialize base size records names r
-program (Load l auto level) records names r = calls.load l (not (eqb auto 0)) level records names r
-program (Unload base) records names r = calls.unload base r
+use Rattle.history.specs.Windows.{program, given-program}
 
 abbrev pub programOf : Call → Bytes → Prog Answer
 programOf c b = program c (length (b .records)) (length (b .names)) (lentRegister b)
@@ -53,19 +48,12 @@ pub record Performed (c : Call) (at : ℕ) (b : Bytes) : Type 0 where
   pub settled : given c at b ≡ settle b (run at (programOf c b) (b .window))
   pub zero : number (run at (programOf c b) (b .window) .0) ≡ 0
 
--- any call by its program
-given-outcome : (c : Call) (at : ℕ) (b : Bytes) → given c at b ≡ outcome (program c) at b
-unfolding given program outcome initializeOutcome loadOutcome unloadOutcome
-given-outcome (Initialize base size) at b = refl
-given-outcome (Load l auto level) at b = refl
-given-outcome (Unload base) at b = refl
-
 -- 0 comes from a good window and register
 pub performed : (c : Call) (at : ℕ) (b : Bytes) → given c at b .number ≡ 0 → Performed c at b
 unfolding outcome settle number
 performed c at b z =
-    go (goodWindow at (b .window)) refl (isRegister (b .records) (b .names) (b .missing)) refl (sym (ap (λ o. o .number) (given-outcome c at b)) ∙ z)
-    (given-outcome c at b)
+    go (goodWindow at (b .window)) refl (isRegister (b .records) (b .names) (b .missing)) refl (sym (ap (λ o. o .number) (given-program c at b)) ∙ z)
+    (given-program c at b)
   where
     x : Answer × List ℕ
     x = run at (programOf c b) (b .window)

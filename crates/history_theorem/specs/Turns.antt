@@ -27,9 +27,10 @@ use Rattle.linker.specs.declared.call.Call.{Call}
 use Rattle.linker.specs.declared.call.Call.the-variants.{Initialize, Load, Unload}
 use Rattle.history.specs.Sessions.{given, Turn, after, expected, SameBytes, Areas, arrived, Between}
 use Rattle.history.specs.Outcomes.{Gave, Follows, SameEncoded}
+use Rattle.history.specs.Windows.{program}
 use Rattle.history_sessions.specs.Lists.{lacking, Among, nothing, keeps, drops}
 use Rattle.history_sessions.specs.Unique.{imageAt}
-use Rattle.history_sessions.specs.Answers.{program, programOf, Performed, Left, brings-initialize, brings-load, unload-known}
+use Rattle.history_sessions.specs.Answers.{programOf, Performed, Left, brings-initialize, brings-load, unload-known}
 use Rattle.history_theorem.specs.Invariant.{Resting, resting-agree, resting-same}
 use Rattle.history_theorem.specs.Calls.{Fine, unload-rests, load-rests, initialize-rests}
 use Rattle.history_theorem.specs.Back.{Back, Backs, initialize-back, load-back, unload-back}

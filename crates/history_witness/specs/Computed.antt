@@ -1,175 +1,203 @@
--- Two sessions written out, with loads, an unload and a refused call; what antt computes of their calls.
-use Prim.Native.Nat.{ℕ, _+_}
+-- The calls of two sessions, written out, and what each gives: number, value and every byte left.
+use Prim.Native.Nat.{ℕ}
 use mathlib.Core.Path.{_≡_, refl}
-use mathlib.Core.List.{List, [], _∷_, _++_}
-use mathlib.Core.Bool.{Bool, true, _&&_}
-use lib.ListN.{replicate, take, drop}
-use lib.Dec.{ltb}
+use mathlib.Core.List.{List, [], _∷_}
+use mathlib.Core.Bool.{true}
+use Rattle.register.specs.declared.words.Crs.the-variants.{Known}
+use Rattle.register.specs.Module.{Module, Register}
 use Rattle.linker.specs.declared.rebase.Lent.{Lent}
-use Rattle.linker.specs.Outcome.{Bytes}
-use Rattle.linker.specs.Valid.{Valid}
-use Rattle.window.specs.Memory as windowMemory
-use Rattle.window.specs.Access as windowAccess
-use Rattle.window.specs.Loop as windowLoop
-use Rattle.name.specs.Name as windowName
-use Rattle.window.specs.Bytes as windowBytes
-use Rattle.layout.specs.Tables as layoutTables
-use Rattle.layout.specs.Segments as layoutSegments
-use Rattle.layout.specs.Format as layoutFormat
-use Rattle.layout_relocation.specs.Relocation as layoutRelocation
-use Rattle.register.specs.Words as registerWords
-use Rattle.register.specs.Module as registerModule
-use Rattle.register.specs.Encode as registerEncode
-use Rattle.register.specs.Change as registerChange
-use Rattle.register.specs.Decode as registerDecode
-use Rattle.register.specs.Buffers as registerBuffers
-use Rattle.register_append.specs.Draft as registerappendDraft
-use Rattle.register_read.specs.Read as registerreadRead
-use Rattle.linker.specs.Rebase as linkerRebase
-use Rattle.linker.specs.Relocation as linkerRelocation
-use Rattle.linker.specs.Exports as linkerExports
-use Rattle.linker.specs.Imports as linkerImports
-use Rattle.linker.specs.Resets as linkerResets
-use Rattle.linker.specs.Lists as linkerLists
-use Rattle.linker.specs.Fix as linkerFix
-use Rattle.linker.specs.Unrebase as linkerUnrebase
-use Rattle.linker.specs.Calls as linkerCalls
-use Rattle.linker.specs.Outcome as linkerOutcome
-use Rattle.history.specs.Sessions as sessions
-use Rattle.history.specs.Sessions.{Call, initialize, load, unload, given, Turn, after}
-use Rattle.history_witness.specs.Image.{bytes}
+use Rattle.linker.specs.declared.call.Call.the-variants.{Initialize, Load, Unload}
+use Rattle.linker.specs.Outcome.{Bytes, Outcome}
+use Rattle.history.specs.Sessions.{given}
+use Rattle.history.specs.Windows.{program}
+use Rattle.history_witness.specs.Image.{zeros, cro, join, c-words, m-words, n-words, change, c-rebased, c-linked, m-loaded, m-linked, n-loaded, lent-words, page}
+use Rattle.history_witness.specs.Open.{opened}
+use Rattle.history_witness.specs.Behind.{at, bt, ahead, lies, tried, Tried, stored, given-behind}
 
-abbrev pub at : ℕ
-at = 0x100000
+-- the pages: at first; after `initialize`; after the load of `m`; after the load of `n`
+abbrev pub page₀ : ℕ → List ℕ
+page₀ magic = page c-words (m-words magic) n-words (lent-words 0 0)
 
--- one page: the CRS `c` exports `s` and imports `f`; `m` exports `f` and imports `s`; `n` exports `g` and imports `f`
-unfoldable pub page : List ℕ
-page = bytes 0x10 0x63 0x73 0x66 ++ (bytes 0 0x6d 0x66 0x73 ++ (bytes 0 0x6e 0x67 0x66 ++ replicate 0xa00 0))
+abbrev pub page₁ : ℕ → List ℕ
+page₁ magic = page c-rebased (m-words magic) n-words (lent-words 0 0)
 
--- that page, and an empty register in so many bytes
-unfoldable pub fresh : ℕ → ℕ → Bytes
-fresh records names = record { window = page; records = replicate records 0; names = replicate names 0; missing = replicate 32896 0 }
+abbrev pub page₂ : List ℕ
+page₂ = page c-linked m-loaded n-words (lent-words 0x100400 0x100400)
 
-abbrev pub lent : ℕ → Lent
-lent base = record { base = base; size = 0x200; «data_at» = 0; «data_size» = 0; «bss_at» = 0; «bss_size» = 0 }
+abbrev pub page₃ : List ℕ
+page₃ = page c-linked m-linked n-loaded (lent-words 0x100584 0x100580)
 
--- a turn as the definition gives it
-abbrev pub turn : Call → Bytes → Turn
-turn c b = record { call = c; before = b; gave = given c at b }
-
--- the CRS comes; a load is refused, for there is no module; `m` comes; `n` comes and leaves
-abbrev pub t₁ : Turn
-t₁ = turn (initialize 0x100000 0x200) (fresh 512 64)
-
-abbrev pub t₂ : Turn
-t₂ = turn (load (lent 0x100800) 1 0) (after t₁)
-
-abbrev pub t₃ : Turn
-t₃ = turn (load (lent 0x100200) 1 0) (after t₂)
-
-abbrev pub t₄ : Turn
-t₄ = turn (load (lent 0x100400) 1 1) (after t₃)
-
-abbrev pub t₅ : Turn
-t₅ = turn (unload 0x100400) (after t₄)
-
--- in larger buffers, the CRS and `m` come
-abbrev pub u₁ : Turn
-u₁ = turn (initialize 0x100000 0x200) (fresh 1024 128)
-
-abbrev pub u₂ : Turn
-u₂ = turn (load (lent 0x100200) 1 0) (after u₁)
-
--- each is a byte
-unfoldable pub smallAll : List ℕ → Bool
-smallAll [] = true
-smallAll (b ∷ l) = ltb b 256 && smallAll l
-
--- the image at place k of the page
-abbrev pub imageAt : ℕ → Bytes → List ℕ
-imageAt k b = take 0x200 (drop k (b .window))
-
-pub record Computed : Type 0 where
-  -- the numbers
-  pub n₁ : t₁ .gave .number ≡ 0
-  pub n₂ : t₂ .gave .number ≡ 1
-  pub n₃ : t₃ .gave .number ≡ 0
-  pub n₄ : t₄ .gave .number ≡ 0
-  pub n₅ : t₅ .gave .number ≡ 0
-  pub v₁ : u₁ .gave .number ≡ 0
-  pub v₂ : u₂ .gave .number ≡ 0
-  -- the refused call leaves all as it was; in both sessions `m` finds the same window
-  pub kept : after t₂ ≡ after t₁
-  pub alike : after t₁ .window ≡ after u₁ .window
-  -- `m` and `n` are untouched when they are loaded
-  pub image-m : imageAt 0x200 (after t₁) ≡ bytes 0 0x6d 0x66 0x73
-  pub image-n : imageAt 0x400 (after t₃) ≡ bytes 0 0x6e 0x67 0x66
-  -- the register starts empty
-  pub first-a : sessions.Fresh (fresh 512 64)
-  pub first-b : sessions.Fresh (fresh 1024 128)
-  pub valid-a : Valid (fresh 512 64)
-  pub valid-b : Valid (fresh 1024 128)
-  pub small : smallAll page ≡ true
-
-pub computed : Computed
-unfolding
-    smallAll sessions.Fresh page fresh bytes given windowMemory.goodWindow windowMemory.place windowMemory.inside windowMemory.byteAt
-    windowMemory.wordAt windowMemory.putByte windowMemory.putBytes windowMemory.putWord windowMemory.putUpward windowMemory.putPrivileged
-    windowAccess._>>=_ windowAccess.run windowAccess.Reads windowLoop.loop windowName.nameFrom windowName.nameAt windowName.noZero
-    windowName.isName windowName.laidOver windowName.orderOf windowBytes.byteOf windowBytes.reaches layoutTables.tableEntrySizes
-    layoutTables.pointerTables layoutSegments.field layoutSegments.setField layoutSegments.segmentEntry layoutSegments.setSegmentEntry
-    layoutSegments.segment layoutSegments.setSegment layoutSegments.addressIn layoutSegments.tagToAddress layoutFormat.segmentType
-    layoutFormat.relocationType layoutRelocation.patch layoutRelocation.applyRelocation registerWords.part registerWords.same
-    registerWords.allZero registerWords.holds registerWords.bytesOf registerWords.flat registerWords.wordsIn registerModule.named-ok
-    registerModule.findFrom registerModule.findExport registerModule.isNothing registerModule.distinct registerModule.properModule
-    registerModule.properModules registerModule.properNames registerModule.proper registerEncode.exportWords registerEncode.exportNames
-    registerEncode.moduleNames registerEncode.flag registerEncode.moduleWords registerEncode.recordWords registerEncode.recordNames
-    registerEncode.crsKnown registerEncode.crsBase registerEncode.encodeWords registerEncode.slot registerEncode.slots registerChange.newModule
-    registerChange.withSegment registerChange.withIndexed registerChange.putNamed registerChange.withExport registerChange.appended
-    registerChange.without registerChange.removed registerChange.withCrs registerChange.withMissing registerDecode.exportAt
-    registerDecode.exportsFrom registerDecode.exportsIn registerDecode.moduleSize registerDecode.readModule registerDecode.readModules
-    registerDecode.readCrs registerDecode.slotLength registerDecode.slotName registerDecode.readSlots registerDecode.settled registerDecode.body
-    registerDecode.readRegister registerDecode.encodes registerDecode.registerOf registerDecode.isRegister registerDecode.decode
-    registerBuffers.padded registerBuffers.encodeRecords registerBuffers.encodeNames registerBuffers.encodeMissing registerappendDraft.roomIn
-    registerreadRead.modulesOf registerreadRead.moduleBytes registerreadRead.placeFrom registerreadRead.placeAfter registerreadRead.hasBase
-    registerreadRead.hasName registerreadRead.addressOf registerreadRead.exportOf registerreadRead.entryOf registerreadRead.orElse
-    registerreadRead.lookupIn registerreadRead.recordAt registerreadRead.moduleAt linkerRebase.isMagic linkerRebase.moveWord
-    linkerRebase.moveHeader linkerRebase.lentPlace linkerRebase.movedPlace linkerRebase.place linkerRebase.writeBack linkerRebase.moveFound
-    linkerRebase.moveSegment linkerRebase.moveSegments linkerRebase.lookAtSegments linkerRebase.movePointers linkerRebase.moveTable
-    linkerRebase.moveTables linkerRelocation.writePlace linkerRelocation.relocateFrom linkerRelocation.relocateInto
-    linkerRelocation.applyInternalRelocation linkerRelocation.applyInternalRelocations linkerRelocation.unresolvedSymbol
-    linkerRelocation.relocateAt linkerRelocation.resetEntry linkerRelocation.resetExternalRelocations linkerRelocation.walk
-    linkerRelocation.applyRelocationBatch linkerRelocation.batchIsResolved linkerExports.putUsable linkerExports.namedExport
-    linkerExports.namedExports linkerExports.indexedExport linkerExports.indexedExports linkerExports.readSegments linkerExports.readModule
-    linkerImports.anonymousOf linkerImports.isUnresolved linkerImports.resolve linkerImports.noted linkerImports.importNamed
-    linkerImports.applyImportNamedSymbols linkerImports.importFrom linkerImports.linkFrom linkerImports.importsOf linkerImports.moduleByName
-    linkerImports.importModule linkerImports.applyModuleImports linkerImports.serveNamed linkerImports.serveModule linkerImports.serve
-    linkerImports.applyExportsToLoaded linkerResets.reset linkerResets.resetAt linkerResets.resetNamed linkerResets.resetModule
-    linkerResets.resetImports linkerResets.resetImporters linkerLists.register linkerLists.headLeaves linkerLists.middleLeaves
-    linkerLists.newTail linkerLists.tailLeaves linkerLists.otherLeaves linkerLists.leaves linkerLists.unregister linkerFix.alignUp
-    linkerFix.fixedTo linkerFix.fixPair linkerFix.fixFrom linkerFix.fix linkerUnrebase.offsetBack linkerUnrebase.leavesAs
-    linkerUnrebase.unmoveFound linkerUnrebase.unmoveSegments linkerUnrebase.unrebase linkerCalls.number linkerCalls.value linkerCalls.relocate
-    linkerCalls.rebaseWith linkerCalls.rebase linkerCalls.rebaseStatic linkerCalls.fits linkerCalls.enter linkerCalls.initialized
-    linkerCalls.initialize linkerCalls.listed linkerCalls.missingNow linkerCalls.linked linkerCalls.load linkerCalls.firstWithBase
-    linkerCalls.unlisted linkerCalls.leave linkerCalls.unload linkerOutcome.registerAfter linkerOutcome.settle linkerOutcome.outcome
-    linkerOutcome.initializeOutcome linkerOutcome.loadOutcome linkerOutcome.unloadOutcome linkerLists.becomesHead linkerLists.becomesTail
-    linkerFix.endTables linkerUnrebase.unmoveSegment
-computed =
+-- the modules' records
+abbrev pub c-module : Module
+c-module =
     record {
-      n₁ = refl;
-      n₂ = refl;
-      n₃ = refl;
-      n₄ = refl;
-      n₅ = refl;
-      v₁ = refl;
-      v₂ = refl;
-      kept = refl;
-      alike = refl;
-      image-m = refl;
-      image-n = refl;
-      first-a = λ h. (refl, refl);
-      first-b = λ h. (refl, refl);
-      valid-a = refl;
-      valid-b = refl;
-      small = refl;
+      base = 0x100000;
+      size = 0x178;
+      auto = true;
+      name = 0x63 ∷ [];
+      segments = 0x100168 ∷ [];
+      named = record { name = 0x73 ∷ []; address = 0x100170 } ∷ [];
+      indexed = [];
     }
+
+abbrev pub m-module : Module
+m-module =
+    record {
+      base = 0x100200;
+      size = 0x210;
+      auto = true;
+      name = 0x6d ∷ [];
+      segments = 0x100400 ∷ 0x1005a0 ∷ 0x1005b0 ∷ [];
+      named = record { name = 0x66 ∷ []; address = 0x100408 } ∷ [];
+      indexed = [];
+    }
+
+abbrev pub n-module : Module
+n-module =
+    record {
+      base = 0x100420;
+      size = 0x168;
+      auto = true;
+      name = 0x6e ∷ [];
+      segments = 0x100578 ∷ [];
+      named = record { name = 0x67 ∷ []; address = 0x10057c } ∷ [];
+      indexed = 0 ∷ 0x100584 ∷ [];
+    }
+
+-- `g` is noted as missing when `m` comes
+abbrev pub register : List Module → List (List ℕ) → Register
+register ms missing = record { modules = ms; crs = Known 0x100000; missing = missing }
+
+-- a window, and a register in so many bytes of records and names: none yet, or one that stands
+abbrev pub fresh : ℕ → ℕ → List ℕ → Bytes
+fresh records names w =
+    record { window = w; records = zeros records; names = zeros names; missing = zeros 32896 }
+
+abbrev pub small : ℕ → ℕ → Lent
+small base size =
+    record { base = base; size = size; «data_at» = 0; «data_size» = 0; «bss_at» = 0; «bss_size» = 0 }
+
+-- what is lent with `m`: 0x10 bytes of data and 0x10 bytes of bss, outside its image
+abbrev pub large : Lent
+large =
+    record { base = 0x100200; size = 0x210; «data_at» = 0x1005a0; «data_size» = 0x10; «bss_at» = 0x1005b0; «bss_size» = 0x10 }
+
+-- the bytes of the first session: the records are full once `n` stands
+abbrev pub b₀ : Bytes
+b₀ = fresh 192 8 (page₀ 0)
+
+abbrev pub b₁ : ℕ → Bytes
+b₁ magic = stored 192 8 (register (c-module ∷ []) []) (page₁ magic)
+
+abbrev pub b₂ : Bytes
+b₂ = stored 192 8 (register (c-module ∷ m-module ∷ []) ((0x67 ∷ []) ∷ [])) page₂
+
+abbrev pub b₃ : Bytes
+b₃ = stored 192 8 (register (c-module ∷ m-module ∷ n-module ∷ []) ((0x67 ∷ []) ∷ [])) page₃
+
+-- the bytes of the second, but for the page in front: `n` comes before `m`, so that nothing is missing
+abbrev pub d₀ : Bytes
+d₀ = fresh 512 64 (page₀ cro)
+
+abbrev pub d₁ : Bytes
+d₁ = stored 512 64 (register (c-module ∷ []) []) (page₁ cro)
+
+abbrev pub page₄ : List ℕ
+page₄ = page (change ((0x088, 0x100420) ∷ []) c-rebased) (m-words cro) (change ((0x08c, 0x100420) ∷ []) n-loaded) (lent-words 0 0)
+
+abbrev pub d₂ : Bytes
+d₂ = stored 512 64 (register (c-module ∷ n-module ∷ []) []) page₄
+
+abbrev pub page₅ : List ℕ
+page₅ =
+    page (change ((0x088, 0x100420) ∷ []) c-linked) (change ((0x088, 0) ∷ []) m-linked) (change ((0x088, 0x100200) ∷ []) n-loaded)
+    (lent-words 0x100584 0x100580)
+
+abbrev pub d₃ : Bytes
+d₃ = stored 512 64 (register (c-module ∷ n-module ∷ m-module ∷ []) []) page₅
+
+abbrev pub d₄ : Bytes
+d₄ = stored 512 64 (register (c-module ∷ m-module ∷ []) []) page₂
+
+-- lent in between: 4,095 bytes, which are no window, and a register of 65 modules, which is none
+abbrev pub short : Bytes
+short = fresh 32 0 (zeros 4095)
+
+abbrev pub wrong : Bytes
+wrong = record { window = zeros 4096; records = 65 ∷ zeros 31; names = []; missing = [] }
+
+abbrev pub done : ℕ → Bytes → Outcome
+done value b = record { number = 0; value = value; left = b }
+
+abbrev pub refused : ℕ → Bytes → Outcome
+refused number b = record { number = number; value = 0; left = b }
+
+-- written out
+unfoldable pub shown : Unit {0}
+unfolding join c-words m-words n-words change c-rebased c-linked m-loaded m-linked n-loaded lent-words page
+shown = tt
+
+pub o₁ : given (Load large 1 1) at b₀ ≡ refused 1 b₀
+unfolding opened shown
+o₁ = refl
+
+pub o₂ : given (Unload 0x100420) at short ≡ refused 3 short
+unfolding opened shown
+o₂ = refl
+
+pub o₃ : given (Initialize 0x100000 0x178) at wrong ≡ refused 4 wrong
+unfolding opened shown
+o₃ = refl
+
+pub o₄ : given (Initialize 0x100000 0x178) at b₀ ≡ done 0 (b₁ 0)
+unfolding opened shown
+o₄ = refl
+
+pub o₅ : given (Load large 1 1) at (b₁ cro) ≡ done 0x210 b₂
+unfolding opened shown
+o₅ = refl
+
+pub o₆ : given (Load (small 0x100420 0x168) 1 0) at b₂ ≡ done 0 b₃
+unfolding opened shown
+o₆ = refl
+
+pub o₇ : given (Load (small 0x100560 0x138) 1 0) at b₃ ≡ refused 5 b₃
+unfolding opened shown
+o₇ = refl
+
+pub o₈ : given (Unload 0x100420) at b₃ ≡ done 1 b₂
+unfolding opened shown
+o₈ = refl
+
+pub o₉ : given (Unload 0x100420) at b₂ ≡ done 0 b₂
+unfolding opened shown
+o₉ = refl
+
+-- the second session's calls: in the page alone, and with the page in front
+r₁ : Tried (Initialize 0x100000 0x178) d₀ 512 64 0 (register (c-module ∷ []) []) (page₁ cro)
+unfolding opened shown tried lies program
+r₁ = record { whole = refl; records-are = refl; names-are = refl; valid = refl; leads = refl }
+
+r₂ : Tried (Load (small 0x100420 0x168) 1 0) d₁ 512 64 0 (register (c-module ∷ n-module ∷ []) []) page₄
+unfolding opened shown tried lies program
+r₂ = record { whole = refl; records-are = refl; names-are = refl; valid = refl; leads = refl }
+
+r₃ : Tried (Load large 2 1) d₂ 512 64 0x210 (register (c-module ∷ n-module ∷ m-module ∷ []) []) page₅
+unfolding opened shown tried lies program
+r₃ = record { whole = refl; records-are = refl; names-are = refl; valid = refl; leads = refl }
+
+r₄ : Tried (Unload 0x100420) d₃ 512 64 1 (register (c-module ∷ m-module ∷ []) []) page₂
+unfolding opened shown tried lies program
+r₄ = record { whole = refl; records-are = refl; names-are = refl; valid = refl; leads = refl }
+
+pub q₁ : given (Initialize 0x100000 0x178) bt (ahead d₀) ≡ done 0 (ahead d₁)
+q₁ = given-behind (Initialize 0x100000 0x178) d₀ r₁
+
+pub q₂ : given (Load (small 0x100420 0x168) 1 0) bt (ahead d₁) ≡ done 0 (ahead d₂)
+q₂ = given-behind (Load (small 0x100420 0x168) 1 0) d₁ r₂
+
+pub q₃ : given (Load large 2 1) bt (ahead d₂) ≡ done 0x210 (ahead d₃)
+q₃ = given-behind (Load large 2 1) d₂ r₃
+
+pub q₄ : given (Unload 0x100420) bt (ahead d₃) ≡ done 1 (ahead d₄)
+q₄ = given-behind (Unload 0x100420) d₃ r₄

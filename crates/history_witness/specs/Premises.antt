@@ -1,280 +1,238 @@
--- The two sessions meet every premise of `Demand3`.
-use Prim.Native.Nat.{ℕ, _+_, _^_, _≤_, _<_}
-use mathlib.Core.Path.{_≡_, refl, sym, ap, _∙_, fun-ext}
+-- The two are sessions, and meet every premise of `Demand3`.
+use Prim.Native.Nat.{ℕ}
+use mathlib.Core.Path.{_≡_, refl, ap}
 use mathlib.Core.Logic.{_≢_, inl, inr}
-use mathlib.Core.List.{List, [], _∷_, map}
+use mathlib.Core.List.{List, [], _∷_}
 use mathlib.Core.Bool.{Bool, true, false}
 use native.Mathlib.Omega.{arith}
-use native.Mathlib.Decide.{decLt}
-use lib.ListN.{length, getD, take, drop, List·getD-eq-default}
-use lib.Seq.{getD-take, getD-drop}
-use borrow.Author.Tests.{lt-ltb, le-ltb}
-use Rattle.window.specs.Memory.{if_then_else_, place, byteAt}
-use Rattle.window.specs.Mirror.{word, runM}
-use Rattle.window.specs.Access.{_>>=_}
-use Rattle.name.specs.Name.{nameAt, nameFrom}
+use lib.ListN.{length}
+use Rattle.window.specs.Memory.{byteAt}
 use Rattle.window.specs.Within.{In}
-use Rattle.layout.specs.Segments.{addressIn}
-use Rattle.layout.specs.Format.{segmentType}
-use Rattle.layout.specs.declared.segments.Address.the-variants.{At, Nowhere}
-use Rattle.register.specs.Words.{same}
-use Rattle.register.specs.Lists.{same-true}
-use Rattle.linker.specs.Outcome.{Bytes}
-use Rattle.history.specs.Image.{count, start, entry, fileSegment, nameOf, moduleName}
-use Rattle.history.specs.Arrival.{Coming, initialized, loaded, Image, Arrival, cut, imageOf, baseOf, sizeOf, Area, Lent-area, address, handler, placedSegment, segmentPlace, placeOf, loadedPlace, movedOffset, exportName, exportAddress, exportAmong, exportOf, laterExport}
-use Rattle.history.specs.WellLaid.{WellLaid, NoList}
-use Rattle.history.specs.Sessions.{Turn, after, done, arrived}
-use Rattle.history.specs.Windows.{given-length}
-use Rattle.history.specs.Demand3.{Each, Pairs, Premises, Harmless, CrsFirst, InOrder, InWindow, AutoLinked, ImportsKept, Apart, OtherName, OtherExports, ExportsOnce, images}
-use Rattle.history_witness.specs.Image.{bytes, file, size-is, laid}
-use Rattle.history_witness.specs.Computed.{at, page, fresh, lent, t₁, t₂, t₃, t₄, t₅, u₁, u₂, imageAt, computed}
-use Rattle.history_witness.specs.Sessions.{A, B, n, d, k, done-by, came₂, came₃, came₄, came, came-b₁, came-b}
+use Rattle.linker.specs.Valid.{AreBytes}
+use Rattle.history.specs.Arrival.{Arrival, Image, baseOf, isCrs, Area}
+use Rattle.history.specs.Sessions.{Words, Between, Lends, Trace, comes, arrived, Areas, Fresh}
+use Rattle.history.specs.Outcomes.{Made, Promised}
+use Rattle.history.specs.Demand3.{Each, InOrder, AutoLinked, ImportsKept, Premises}
+use Rattle.history_witness.specs.Image.{cro}
+use Rattle.history_witness.specs.Open.{opened}
+use Rattle.history_witness.specs.Laid.{laid-tests, laid}
+use Rattle.history_witness.specs.Tests.{meets}
+use Rattle.history_witness.specs.Together.{each-all, pairs-all, in-true, in-test, once-test, once-true, apart-test, apart-true, name-test, name-true, exports-test, exports-true}
+use Rattle.history_witness.specs.Tested.{tested}
+use Rattle.history_witness.specs.Told.{came, brings, ours, came-are, small-all, are-bytes, same-between, next-own, next-unfit, promised, Quiet, two-faced, Ordered, Suits, premises-of, windows-of}
+use Rattle.history_witness.specs.Behind.{at, bt, behind, ahead}
+use Rattle.history_witness.specs.Computed.{page₁, b₀, b₁, b₂, b₃, d₀, d₁, d₂, d₃, short, wrong, shown, o₁, o₂, o₃, o₄}
+use Rattle.history_witness.specs.Sessions.{t₁, t₂, t₃, t₄, t₅, t₆, t₇, t₈, t₉, A, u₁, u₂, u₃, u₄, B, exact-a, exact-b, c, m, n, c′, m′, n′, C, M, N, c-is, images-a, images-b, c-area, same-pages, same-part}
 
--- an image at place k of the page, read from its base on
-image-is
-    : (f : Coming) (k : ℕ) (w l : List ℕ) → baseOf f ≡ at + k → sizeOf f ≡ 0x200 → k + 0x200 ≤ 2 ^ 31 → take 0x200 (drop k w) ≡ l → length l ≡ 0x200
-    → cut f (byteAt at w) ≡ (λ o. getD l o 0)
-unfolding cut byteAt place
-image-is f k w l b s h e len = fun-ext (λ o. go o (decLt o 0x200))
-  where
-    go : (o : ℕ) → Dec (o < 0x200) → cut f (byteAt at w) o ≡ getD l o 0
-    go o (yes q) =
-        let z : place at (baseOf f + o) ≡ k + o = omega (arith, b) in
-        rw (s, lt-ltb o 0x200 q, z, ← e, getD-take 0x200 (drop k w) o 0 q, getD-drop k w o 0) refl
-    go o (no q) = rw (s, le-ltb o 0x200 (omega arith)) (sym (List·getD-eq-default l 0 (omega (arith, len))))
+-- bytes are bytes
+bytes-a : AreBytes b₀ × AreBytes (b₁ cro) × AreBytes b₂ × AreBytes b₃
+unfolding opened shown small-all
+bytes-a = (are-bytes b₀ refl refl, are-bytes (b₁ cro) refl refl, are-bytes b₂ refl refl, are-bytes b₃ refl refl)
 
--- the three images in their places
-abbrev C : Image
-C = record { coming = initialized 0x100000 0x200; file = file 0x10 0x63 0x73 0x66 }
+bytes-b : AreBytes (ahead d₀) × AreBytes (ahead d₁) × AreBytes (ahead d₂) × AreBytes (ahead d₃)
+unfolding opened shown behind small-all
+bytes-b =
+    (are-bytes (ahead d₀) refl refl, are-bytes (ahead d₁) refl refl, are-bytes (ahead d₂) refl refl, are-bytes (ahead d₃) refl refl)
 
-abbrev M : Image
-M = record { coming = loaded (lent 0x100200) 1 0; file = file 0 0x6d 0x66 0x73 }
+bytes-misfit : AreBytes short × AreBytes wrong
+unfolding opened small-all
+bytes-misfit = (are-bytes short refl refl, are-bytes wrong refl refl)
 
-abbrev N : Image
-N = record { coming = loaded (lent 0x100400) 1 1; file = file 0 0x6e 0x67 0x66 }
+fresh-a : Fresh b₀
+unfolding opened shown
+fresh-a = (refl, refl)
 
-as-image : (f : Coming) {F G : ℕ → ℕ} → F ≡ G → _≡_ {A = Image} (record { coming = f; file = F }) (record { coming = f; file = G })
-as-image f e = ap (λ F. record { coming = f; file = F }) e
+fresh-b : Fresh (ahead d₀)
+unfolding opened shown
+fresh-b = (refl, refl)
 
-first-is : (r s : ℕ) → imageOf (record { coming = initialized 0x100000 0x200; bytes = byteAt at (fresh r s .window) }) ≡ C
-unfolding fresh file page bytes
-first-is r s =
-    as-image (initialized 0x100000 0x200)
-    (image-is (initialized 0x100000 0x200) 0 page (bytes 0x10 0x63 0x73 0x66) refl refl (omega arith) refl (size-is 0x10 0x63 0x73 0x66))
+came-first : arrived (t₄ ∷ t₁ ∷ []) ≡ c ∷ []
+unfolding Each came brings comes
+came-first = came-are (t₄ ∷ t₁ ∷ []) (o₄, (o₁, tt))
 
-second-is : (b : Bytes) → imageAt 0x200 b ≡ bytes 0 0x6d 0x66 0x73
-    → imageOf (record { coming = loaded (lent 0x100200) 1 0; bytes = byteAt at (b .window) }) ≡ M
-unfolding file
-second-is b e =
-    as-image (loaded (lent 0x100200) 1 0)
-    (image-is (loaded (lent 0x100200) 1 0) 0x200 (b .window) (bytes 0 0x6d 0x66 0x73) refl refl (omega arith) e (size-is 0 0x6d 0x66 0x73))
+first-kept : (q : ℕ) → Areas (c ∷ []) q → byteAt at (page₁ 0) q ≡ byteAt at (page₁ cro) q
+unfolding Areas
+first-kept q (inl h) = same-part (page₁ 0) (page₁ cro) 0 0x178 q (same-pages .1) (omega arith) (c-area q (rw c-is at h))
+first-kept q (inr h) = absurd h
 
-third-is : (b : Bytes) → imageAt 0x400 b ≡ bytes 0 0x6e 0x67 0x66
-    → imageOf (record { coming = loaded (lent 0x100400) 1 1; bytes = byteAt at (b .window) }) ≡ N
-unfolding file
-third-is b e =
-    as-image (loaded (lent 0x100400) 1 1)
-    (image-is (loaded (lent 0x100400) 1 1) 0x400 (b .window) (bytes 0 0x6e 0x67 0x66) refl refl (omega arith) e (size-is 0 0x6e 0x67 0x66))
+same-lengths : length (page₁ 0) ≡ length (page₁ cro)
+unfolding opened shown
+same-lengths = refl
 
-images-a : images at A ≡ C ∷ M ∷ N ∷ []
-images-a =
-    ap (map imageOf) came
-    ∙ rw (
-      first-is 512 64,
-      second-is (after t₂) (ap (imageAt 0x200) (computed .kept) ∙ computed .image-m),
-      third-is (after t₃)
-          (computed .image-n),
-    ) refl
+-- item 9: others write the magic word of `m` between two calls, outside all that is loaded so far, the CRS
+pub others-write : Between at (t₄ ∷ t₁ ∷ []) (b₁ 0) (b₁ cro)
+others-write =
+    record { register = (refl, refl, refl); length-kept = same-lengths; areas-kept = λ q h. first-kept q (rw came-first at h) }
 
-images-b : images at B ≡ C ∷ M ∷ []
-images-b =
-    ap (map imageOf) came-b
-    ∙ rw (first-is 1024 128, second-is (after u₁) (ap (λ w. take 0x200 (drop 0x200 w)) (sym (computed .alike)) ∙ computed .image-m)) refl
+-- arguments are 32-bit numbers
+words-are : Words (t₁ .call) × Words (t₂ .call) × Words (t₃ .call) × Words (t₆ .call) × Words (t₇ .call) × Words (u₃ .call)
+unfolding Words
+words-are = omega arith
 
--- they are well laid
-laid-c : WellLaid C
-unfolding address handler placedSegment segmentPlace placeOf addressIn fileSegment start count entry word file bytes NoList
-laid-c = laid 0x10 0x63 0x73 0x66 (initialized 0x100000 0x200) refl refl (λ e. absurd (omega arith)) (refl, refl)
-
-laid-m : WellLaid M
-unfolding address handler placedSegment segmentPlace placeOf loadedPlace movedOffset addressIn fileSegment segmentType start count entry word file bytes NoList
-laid-m = laid 0 0x6d 0x66 0x73 (loaded (lent 0x100200) 1 0) refl refl (λ e. absurd (omega arith)) tt
-
-laid-n : WellLaid N
-unfolding address handler placedSegment segmentPlace placeOf loadedPlace movedOffset addressIn fileSegment segmentType start count entry word file bytes NoList
-laid-n = laid 0 0x6e 0x67 0x66 (loaded (lent 0x100400) 1 1) refl refl (λ e. absurd (omega arith)) tt
-
--- each keeps to its 0x200 bytes
-area-c : (q : ℕ) → Area C q → In 0x100000 0x200 q
-unfolding Area Lent-area segmentPlace placeOf fileSegment start count entry word file bytes
-area-c q (inl h) = h
-area-c q (inr (i, l, h)) =
-    let z : i ≡ 0 = omega arith in
-    let g : In 0x100168 0x10 q = rw z at h in (omega (arith, g), omega (arith, g))
-
-area-lent : (base level : ℕ) (F : ℕ → ℕ) (q : ℕ) → Area (record { coming = loaded (lent base) 1 level; file = F }) q → In base 0x200 q
-unfolding Area Lent-area
-area-lent base level F q (inl h) = h
-area-lent base level F q (inr (inl h)) = absurd (omega (arith, h))
-area-lent base level F q (inr (inr h)) = absurd (omega (arith, h))
-
--- names: each module's own, and the one export's
-names : (moduleName (C .file) ≡ 0x63 ∷ []) × (moduleName (M .file) ≡ 0x6d ∷ []) × (moduleName (N .file) ≡ 0x6e ∷ [])
-unfolding moduleName nameOf nameAt nameFrom runM _>>=_ word file bytes
-names = (refl, refl, refl)
-
-exported : (exportName C 0 ≡ 0x73 ∷ []) × (exportName M 0 ≡ 0x66 ∷ []) × (exportName N 0 ≡ 0x67 ∷ [])
-unfolding exportName nameOf nameAt nameFrom runM _>>=_ entry start word file bytes
-exported = (refl, refl, refl)
-
-other-name : {a b : List ℕ} {x y : ℕ} → a ≡ x ∷ [] → b ≡ y ∷ [] → x ≢ y → a ≢ b
-other-name e g d h = let z : _ ∷ [] ≡ _ ∷ [] = sym e ∙ h ∙ g in d (ap (λ l. getD l 0 0) z)
-
-module _ (x own e i : ℕ) (f : Coming) where
-  abbrev J : Image
-  J = record { coming = f; file = file x own e i }
-
-  -- its one export has that name
-  export-is : (name : List ℕ) (p : ℕ) → exportOf J name ≡ At p → name ≡ exportName J 0
-  unfolding exportOf exportAmong count word file bytes laterExport
-  export-is name p h = go (same name (exportName J 0)) refl h
-    where
-      go : (b : Bool) → same name (exportName J 0) ≡ b → laterExport b (exportAddress J 0) Nowhere ≡ At p → name ≡ exportName J 0
-      go true s g = same-true name (exportName J 0) s
-      go false s g = cc
-
-  once : ExportsOnce J
-  unfolding ExportsOnce count word file bytes
-  once i j l g e p q a b = omega arith
-
-apart : (a b : Image) (p q : ℕ) → ((x : ℕ) → Area a x → In p 0x200 x) → ((x : ℕ) → Area b x → In q 0x200 x) → p + 0x200 ≤ q → Apart a b
-unfolding Apart
-apart a b p q f g l x h k = omega (arith, f x h, g x k)
-
-other-exports : (a b : Image) {x y : ℕ} → ((name : List ℕ) (p : ℕ) → exportOf a name ≡ At p → name ≡ exportName a 0) → exportName a 0 ≡ x ∷ []
-    → ((name : List ℕ) (p : ℕ) → exportOf b name ≡ At p → name ≡ exportName b 0) → exportName b 0 ≡ y ∷ [] → x ≢ y → OtherExports a b
-unfolding OtherExports
-other-exports a b f u g v d name p q h k = other-name u v d (sym (f name p h) ∙ g name q k)
-
-area-m : (q : ℕ) → Area M q → In 0x100200 0x200 q
-area-m = area-lent 0x100200 0 (M .file)
-
-area-n : (q : ℕ) → Area N q → In 0x100400 0x200 q
-area-n = area-lent 0x100400 1 (N .file)
-
-is-c : (name : List ℕ) (p : ℕ) → exportOf C name ≡ At p → name ≡ exportName C 0
-is-c = export-is 0x10 0x63 0x73 0x66 (C .coming)
-
-is-m : (name : List ℕ) (p : ℕ) → exportOf M name ≡ At p → name ≡ exportName M 0
-is-m = export-is 0 0x6d 0x66 0x73 (M .coming)
-
-is-n : (name : List ℕ) (p : ℕ) → exportOf N name ≡ At p → name ≡ exportName N 0
-is-n = export-is 0 0x6e 0x67 0x66 (N .coming)
-
-cons-not-none : {a : Arrival} {l : List Arrival} → a ∷ l ≢ []
-cons-not-none {a} {l} e = let z : length (a ∷ l) ≡ 0 = ap length e in absurd (omega (arith, z))
-
--- a call that is done is not refused
-two-faced : {X : Type 0} (b : Bool) → b ≡ true → b ≡ false → X
-two-faced true h e = let z : _≡_ {A = ℕ} 1 0 = ap (λ (b : Bool). if b then 1 else 0) e in absurd (omega (arith, z))
-two-faced false h e = let z : _≡_ {A = ℕ} 0 1 = ap (λ (b : Bool). if b then 1 else 0) h in absurd (omega (arith, z))
-
-not-refused : (t : Turn) → done at t ≡ true → Harmless at t
-unfolding Harmless
-not-refused t e h = two-faced (done at t) e h
-
-harmless-a : Each (Harmless at) A
-unfolding Each Harmless
-harmless-a = (
-  not-refused t₅ (done-by t₅ (computed .n₅)),
+pub trace-a : Trace at A
+unfolding Trace Each Lends ours
+trace-a = (
+  (words-are .1, bytes-a .2),
+  next-own at t₉ _ (exact-a .1) refl (same-between at _ b₂),
   (
-    not-refused t₄ (done-by t₄ (computed .n₄)),
-    (not-refused t₃ (done-by t₃ (computed .n₃)), ((λ e. computed .kept), (not-refused t₁ (done-by t₁ (computed .n₁)), tt))),
-  ),
-)
-
-crs-first-a : CrsFirst at A
-unfolding CrsFirst InOrder Each arrived
-crs-first-a = (
-  (λ e. rw came₄ ((λ h. λ z. absurd (omega arith)), ((λ h. two-faced false h refl), ((λ h. two-faced false h refl), tt)))),
-  (
-    (λ e. rw came₃ cons-not-none),
-    ((λ e. rw came₂ cons-not-none), ((λ e. two-faced (done at t₂) e (done-by t₂ (computed .n₂))), ((λ e. refl), tt))),
-  ),
-)
-
--- the page keeps its length
-page-length : (r s : ℕ) → length (fresh r s .window) ≡ 4096
-unfolding fresh page bytes
-page-length r s = refl
-
-length₄ : length (t₅ .before .window) ≡ 4096
-length₄ =
-    given-length (t₄ .call) at (t₄ .before)
-    ∙ given-length (t₃ .call) at (t₃ .before)
-    ∙ given-length (t₂ .call) at (t₂ .before)
-    ∙ given-length (t₁ .call) at (t₁ .before)
-    ∙ page-length 512 64
-
-length-b : length (u₂ .before .window) ≡ 4096
-length-b = given-length (u₁ .call) at (u₁ .before) ∙ page-length 1024 128
-
-inside : (a : Image) (p n : ℕ) → n ≡ 4096 → ((x : ℕ) → Area a x → In p 0x200 x) → at ≤ p → p + 0x200 ≤ at + 4096 → (q : ℕ) → Area a q → In at n q
-inside a p n e f l g q h = (omega (arith, f q h), omega (arith, f q h, e))
-
-pub premises-a : Premises at A
-unfolding Each Pairs InWindow AutoLinked ImportsKept OtherName
-premises-a =
-    record {
-      harmless = harmless-a;
-      crs-first = crs-first-a;
-      auto-linked = rw images-a (tt, ((λ e. absurd (omega arith)), ((λ e. absurd (omega arith)), tt)));
-      imports-kept =
-          rw images-a
-          (tt, (((λ e. absurd (omega arith)), (λ e. absurd (omega arith))), (((λ e. absurd (omega arith)), (λ e. absurd (omega arith))), tt)));
-      base-not-0 = rw images-a ((λ e. absurd (omega arith)), ((λ e. absurd (omega arith)), ((λ e. absurd (omega arith)), tt)));
-      in-window =
-          rw images-a (
-            inside C 0x100000 _ length₄ area-c (omega arith) (omega arith),
-            (inside M 0x100200 _ length₄ area-m (omega arith) (omega arith), (inside N 0x100400 _ length₄ area-n (omega arith) (omega arith), tt)),
-          );
-      areas-apart =
-          rw images-a (
-            (apart C M 0x100000 0x100200 area-c area-m (omega arith), (apart C N 0x100000 0x100400 area-c area-n (omega arith), tt)),
-            ((apart M N 0x100200 0x100400 area-m area-n (omega arith), tt), (tt, tt)),
-          );
-      other-names =
-          rw images-a (
-            (other-name (names .0) (names .1) (λ e. absurd (omega arith)), (other-name (names .0) (names .2) (λ e. absurd (omega arith)), tt)),
-            ((other-name (names .1) (names .2) (λ e. absurd (omega arith)), tt), (tt, tt)),
-          );
-      other-exports =
-          rw images-a (
+    (words-are .1, bytes-a .3),
+    next-own at t₈ _ (exact-a .1 .1) refl (same-between at _ b₃),
+    (
+      (words-are .4, bytes-a .3),
+      next-own at t₇ _ (exact-a .1 .1 .1) refl (same-between at _ b₃),
+      (
+        (words-are .3, bytes-a .2),
+        next-own at t₆ _ (exact-a .1 .1 .1 .1) refl (same-between at _ b₂),
+        (
+          (words-are .0, bytes-a .1),
+          next-own at t₅ _ (exact-a .1 .1 .1 .1 .1) refl others-write,
+          (
+            (words-are .2, bytes-a .0),
+            next-own at t₄ _ (exact-a .1 .1 .1 .1 .1 .1) refl (same-between at _ b₀),
             (
-              other-exports C M is-c (exported .0) is-m (exported .1) (λ e. absurd (omega arith)),
-              (other-exports C N is-c (exported .0) is-n (exported .2) (λ e. absurd (omega arith)), tt),
+              (words-are .2, bytes-misfit .1),
+              next-unfit at t₃ _ o₃ refl,
+              (
+                (words-are .1, bytes-misfit .0),
+                next-unfit at t₂ _ o₂ refl,
+                ((words-are .0, bytes-a .0), next-own at t₁ [] tt refl fresh-a, tt),
+              ),
             ),
-            ((other-exports M N is-m (exported .1) is-n (exported .2) (λ e. absurd (omega arith)), tt), (tt, tt)),
-          );
-      exports-once = rw images-a (once 0x10 0x63 0x73 0x66 _, (once 0 0x6d 0x66 0x73 _, (once 0 0x6e 0x67 0x66 _, tt)));
-      well-laid = rw images-a (laid-c, (laid-m, (laid-n, tt)));
+          ),
+        ),
+      ),
+    ),
+  ),
+)
+
+pub trace-b : Trace bt B
+unfolding Trace Each Lends ours
+trace-b = (
+  (words-are .1, bytes-b .3),
+  next-own bt u₄ _ (exact-b .1) refl (same-between bt _ (ahead d₃)),
+  (
+    (words-are .5, bytes-b .2),
+    next-own bt u₃ _ (exact-b .1 .1) refl (same-between bt _ (ahead d₂)),
+    (
+      (words-are .3, bytes-b .1),
+      next-own bt u₂ _ (exact-b .1 .1 .1) refl (same-between bt _ (ahead d₁)),
+      ((words-are .2, bytes-b .0), next-own bt u₁ [] tt refl fresh-b, tt),
+    ),
+  ),
+)
+
+pub made-a : Made Promised A
+made-a = promised A exact-a
+
+pub made-b : Made Promised B
+made-b = promised B exact-b
+
+-- what antt computes of the three images
+abbrev pub three : List Image
+three = C ∷ M ∷ N ∷ []
+
+abbrev other : List Image
+other = C ∷ N ∷ M ∷ []
+
+pub suits-three : Suits three
+unfolding opened shown tested Each AutoLinked ImportsKept
+suits-three =
+    record {
+      auto-linked = (tt, (refl, (refl, tt)));
+      imports-kept = (tt, (omega arith, (omega arith, tt)));
+      base-not-0 = (omega arith, (omega arith, (omega arith, tt)));
+      areas-apart = pairs-all apart-test apart-true three refl;
+      other-names = pairs-all name-test name-true three refl;
+      other-exports = pairs-all exports-test exports-true three refl;
+      exports-once = each-all once-test once-true three refl;
+      well-laid = each-all (λ a. meets (laid-tests a)) laid three refl;
     }
 
-pub premises-b : Premises at B
-unfolding Each Pairs CrsFirst InOrder InWindow AutoLinked ImportsKept OtherName arrived
-premises-b =
+suits-other : Suits other
+unfolding opened shown tested Each AutoLinked ImportsKept
+suits-other =
     record {
-      harmless = (not-refused u₂ (done-by u₂ (computed .v₂)), (not-refused u₁ (done-by u₁ (computed .v₁)), tt));
-      crs-first = ((λ e. rw came-b₁ cons-not-none), ((λ e. refl), tt));
-      auto-linked = rw images-b (tt, ((λ e. absurd (omega arith)), tt));
-      imports-kept = rw images-b (tt, (((λ e. absurd (omega arith)), (λ e. absurd (omega arith))), tt));
-      base-not-0 = rw images-b ((λ e. absurd (omega arith)), ((λ e. absurd (omega arith)), tt));
-      in-window =
-          rw images-b
-          (inside C 0x100000 _ length-b area-c (omega arith) (omega arith), (inside M 0x100200 _ length-b area-m (omega arith) (omega arith), tt));
-      areas-apart = rw images-b ((apart C M 0x100000 0x100200 area-c area-m (omega arith), tt), (tt, tt));
-      other-names = rw images-b ((other-name (names .0) (names .1) (λ e. absurd (omega arith)), tt), (tt, tt));
-      other-exports = rw images-b ((other-exports C M is-c (exported .0) is-m (exported .1) (λ e. absurd (omega arith)), tt), (tt, tt));
-      exports-once = rw images-b (once 0x10 0x63 0x73 0x66 _, (once 0 0x6d 0x66 0x73 _, tt));
-      well-laid = rw images-b (laid-c, (laid-m, tt));
+      auto-linked = (tt, (refl, (refl, tt)));
+      imports-kept = (tt, (omega arith, (omega arith, tt)));
+      base-not-0 = (omega arith, (omega arith, (omega arith, tt)));
+      areas-apart = pairs-all apart-test apart-true other refl;
+      other-names = pairs-all name-test name-true other refl;
+      other-exports = pairs-all exports-test exports-true other refl;
+      exports-once = each-all once-test once-true other refl;
+      well-laid = each-all (λ a. meets (laid-tests a)) laid other refl;
     }
+
+pub windows-a : Each (λ a. (q : ℕ) → Area a q → In at 4096 q) three
+unfolding opened shown tested
+windows-a = each-all (λ a. in-test a at 4096) (λ a. in-true a at 4096) three refl
+
+windows-b : Each (λ a. (q : ℕ) → Area a q → In bt 8192 q) other
+unfolding opened shown tested
+windows-b = each-all (λ a. in-test a bt 8192) (λ a. in-true a bt 8192) other refl
+
+pub long
+    : (length (b₀ .window) ≡ 4096) × (length (b₁ cro .window) ≡ 4096) × (length (b₂ .window) ≡ 4096) × (length (b₃ .window) ≡ 4096)
+    × (length (ahead d₃ .window) ≡ 8192)
+unfolding opened shown behind
+long = (refl, refl, refl, refl, refl)
+
+some-come : {a : Arrival} {S : List Arrival} → a ∷ S ≢ []
+some-come {a} {S} e = let z : length (a ∷ S) ≡ 0 = ap length e in absurd (omega (arith, z))
+
+-- the CRS has another base than `n`
+abbrev NotCrs : Arrival → Type 0
+NotCrs a = isCrs (a .coming) ≡ true → baseOf (a .coming) ≢ 0x100420
+
+others-base : Each NotCrs (c ∷ m ∷ n ∷ []) × Each NotCrs (c′ ∷ n′ ∷ m′ ∷ [])
+unfolding Each
+others-base =
+    let it : _≡_ {A = ℕ} 0x100000 0x100420 → ⊥ = λ z. omega arith in (
+      ((λ h. it), ((λ h. two-faced false h refl), ((λ h. two-faced false h refl), tt))),
+      ((λ h. it), ((λ h. two-faced false h refl), ((λ h. two-faced false h refl), tt))),
+    )
+
+pub crs-first-a : Ordered A
+unfolding Ordered InOrder came brings comes
+crs-first-a = (
+  (λ e. others-base .0),
+  (
+    (λ e. others-base .0),
+    (
+      (λ e. two-faced false e refl),
+      (
+        (λ e. some-come),
+        (
+          (λ e. some-come),
+          (
+            (λ e. refl),
+            ((λ e. two-faced false e refl), ((λ e. two-faced false e refl), ((λ e. two-faced false e refl), tt))),
+          ),
+        ),
+      ),
+    ),
+  ),
+)
+
+crs-first-b : Ordered B
+unfolding Ordered InOrder came brings comes
+crs-first-b = ((λ e. others-base .1), ((λ e. some-come), ((λ e. some-come), ((λ e. refl), tt))))
+
+not-refused : {X : Type 0} → _≡_ {A = Bool} true false → X
+not-refused e = two-faced true refl e
+
+pub quiet-a : Each Quiet A
+unfolding Each
+quiet-a = (
+  not-refused,
+  (not-refused, ((λ e. refl), (not-refused, (not-refused, (not-refused, ((λ e. refl), ((λ e. refl), ((λ e. refl), tt)))))))),
+)
+
+pub premises-a : Premises A
+unfolding ours
+premises-a = premises-of A three exact-a images-a suits-three quiet-a crs-first-a (windows-of t₉ _ 4096 three (long .2) windows-a)
+
+pub premises-b : Premises B
+unfolding Each ours
+premises-b =
+    premises-of B other exact-b images-b suits-other (not-refused, (not-refused, (not-refused, (not-refused, tt)))) crs-first-b
+    (windows-of u₄ _ 8192 other (long .4) windows-b)

@@ -1,197 +1,229 @@
--- The two are sessions; what comes in them, and that they end alike: the CRS and `m` stand.
-use Prim.Native.Nat.{ℕ, zero, suc, _+_, _^_, _<_}
-use mathlib.Core.Path.{_≡_, refl, ap, _∙_}
-use mathlib.Core.Logic.{inl}
-use mathlib.Core.List.{List, [], _∷_, _++_}
-use mathlib.Core.Bool.{true, false}
+-- Two sessions: what comes in them, and that they end alike.
+use Prim.Native.Nat.{ℕ, _+_, _-_, _^_, _≤_, _<_}
+use mathlib.Core.Path.{_≡_, refl, sym, ap, _∙_, fun-ext}
+use mathlib.Core.Logic.{inl, inr}
+use mathlib.Core.List.{List, [], _∷_, map}
+use mathlib.Core.Bool.{true}
 use native.Mathlib.Omega.{arith}
-use lib.ListN.{getD, replicate}
-use lib.Dec.{eqb, ltb, lit<}
-use borrow.Author.Tests.{ltb-true}
-use Rattle.window.specs.Memory.{byteAt}
-use Rattle.register.specs.Buffers.{Below}
-use Rattle.linker.specs.Valid.{Valid, AreBytes}
-use Rattle.window.specs.Tests.{both}
-use Rattle.linker.specs.Outcome.{Bytes}
-use Rattle.history.specs.Arrival.{initialized, loaded, Arrival}
-use Rattle.history.specs.Sessions.{Call, load, Turn, after, expected, Follows, Words, Session, first, next, Between, done, comes, brought, arrived, others, stay, standing}
-use Rattle.history.specs.Windows.{given-valid}
-use Rattle.history.specs.Demand3.{SameStanding}
-use Rattle.history_witness.specs.Image.{bytes}
-use Rattle.history_witness.specs.Computed.{at, page, fresh, lent, turn, t₁, t₂, t₃, t₄, t₅, u₁, u₂, smallAll, computed}
+use native.Mathlib.Decide.{decLt}
+use lib.ListN.{length, getD, take, drop, List·getD-eq-default}
+use lib.Seq.{getD-take, getD-drop, getD-append-add}
+use borrow.Author.Tests.{lt-ltb, le-ltb}
+use Rattle.window.specs.Memory.{place, byteAt}
+use Rattle.window.specs.Within.{In}
+use Rattle.register.specs.Words.{flat}
+use Rattle.linker.specs.declared.call.Call.{Call}
+use Rattle.linker.specs.declared.call.Call.the-variants.{Initialize, Load, Unload}
+use Rattle.linker.specs.Outcome.{Bytes, Outcome}
+use Rattle.history.specs.Arrival.{Coming, initialized, loaded, Arrival, Image, cut, imageOf, baseOf, sizeOf, Area, Lent-area}
+use Rattle.history.specs.Sessions.{Turn, comes, arrived, others, stay, standing}
+use Rattle.history.specs.Demand3.{Each, SameStanding, images}
+use Rattle.history_witness.specs.Image.{zeros, cro, c-words, m-words, n-words}
+use Rattle.history_witness.specs.Open.{opened}
+use Rattle.history_witness.specs.Together.{in-true}
+use Rattle.history_witness.specs.Tested.{tested}
+use Rattle.history_witness.specs.Told.{Exact, came, stood, brings, came-are, stood-are}
+use Rattle.history_witness.specs.Behind.{at, bt, behind, ahead}
+use Rattle.history_witness.specs.Computed.{page₀, page₁, page₄, small, large, b₀, b₁, b₂, b₃, d₀, d₁, d₂, d₃, d₄, short, wrong, done, shown, o₁, o₂, o₃, o₄, o₅, o₆, o₇, o₈, o₉, q₁, q₂, q₃, q₄, refused}
+
+abbrev turn : Call → ℕ → Bytes → Outcome → Turn
+turn c at b o = record { call = c; at = at; before = b; gave = o }
+
+-- before the CRS: a load of `m` while it has no magic word, and two calls that are lent what breaks a rule
+abbrev pub t₁ : Turn
+t₁ = turn (Load large 1 1) at b₀ (refused 1 b₀)
+
+abbrev pub t₂ : Turn
+t₂ = turn (Unload 0x100420) at short (refused 3 short)
+
+abbrev pub t₃ : Turn
+t₃ = turn (Initialize 0x100000 0x178) at wrong (refused 4 wrong)
+
+-- the CRS comes; others write the magic word; `m` comes; `n` comes; a load finds no room; `n` leaves, and cannot leave again
+abbrev pub t₄ : Turn
+t₄ = turn (Initialize 0x100000 0x178) at b₀ (done 0 (b₁ 0))
+
+abbrev pub t₅ : Turn
+t₅ = turn (Load large 1 1) at (b₁ cro) (done 0x210 b₂)
+
+abbrev pub t₆ : Turn
+t₆ = turn (Load (small 0x100420 0x168) 1 0) at b₂ (done 0 b₃)
+
+abbrev pub t₇ : Turn
+t₇ = turn (Load (small 0x100560 0x138) 1 0) at b₃ (refused 5 b₃)
+
+abbrev pub t₈ : Turn
+t₈ = turn (Unload 0x100420) at b₃ (done 1 b₂)
+
+abbrev pub t₉ : Turn
+t₉ = turn (Unload 0x100420) at b₂ (done 0 b₂)
 
 abbrev pub A : List Turn
-A = t₅ ∷ t₄ ∷ t₃ ∷ t₂ ∷ t₁ ∷ []
+A = t₉ ∷ t₈ ∷ t₇ ∷ t₆ ∷ t₅ ∷ t₄ ∷ t₃ ∷ t₂ ∷ t₁ ∷ []
+
+-- on another window, in larger buffers: the CRS, `n` and `m` come, `m` with another auto-link parameter; `n` leaves
+abbrev pub u₁ : Turn
+u₁ = turn (Initialize 0x100000 0x178) bt (ahead d₀) (done 0 (ahead d₁))
+
+abbrev pub u₂ : Turn
+u₂ = turn (Load (small 0x100420 0x168) 1 0) bt (ahead d₁) (done 0 (ahead d₂))
+
+abbrev pub u₃ : Turn
+u₃ = turn (Load large 2 1) bt (ahead d₂) (done 0x210 (ahead d₃))
+
+abbrev pub u₄ : Turn
+u₄ = turn (Unload 0x100420) bt (ahead d₃) (done 1 (ahead d₄))
 
 abbrev pub B : List Turn
-B = u₂ ∷ u₁ ∷ []
+B = u₄ ∷ u₃ ∷ u₂ ∷ u₁ ∷ []
 
--- a turn as the definition gives it follows, from where the last one left it
-follows : (c : Call) (b : Bytes) → Follows at (turn c b)
-follows c b =
-    record { number = refl; value = refl; window = refl; register = inl (refl, refl, refl); kept = λ h. h }
+pub exact-a : Exact A
+unfolding Each
+exact-a = (o₉, (o₈, (o₇, (o₆, (o₅, (o₄, (o₃, (o₂, (o₁, tt)))))))))
 
-between : (ts : List Turn) (b : Bytes) → Between at ts b b
-between ts b = record { register = (refl, refl, refl); length-kept = refl; areas-kept = λ q h. refl }
+pub exact-b : Exact B
+unfolding Each
+exact-b = (q₄, (q₃, (q₂, (q₁, tt))))
 
--- bytes are bytes
-small-all : (l : List ℕ) → smallAll l ≡ true → Below 256 l
-unfolding smallAll
-small-all [] h i = lit< tt
-small-all (b ∷ l) h zero = ltb-true b 256 (both (ltb b 256) (smallAll l) h .0)
-small-all (b ∷ l) h (suc i) = small-all l (both (ltb b 256) (smallAll l) h .1) i
-
-zeros-small : (n i : ℕ) → getD (replicate n 0) i 0 < 256
-zeros-small zero i = lit< tt
-zeros-small (suc n) zero = lit< tt
-zeros-small (suc n) (suc i) = zeros-small n i
-
-started : (r n : ℕ) → AreBytes (fresh r n)
-unfolding fresh
-started r n = (small-all page (computed .small), zeros-small r)
-
--- and stay so, as the register stays valid
-abbrev Good : Bytes → Type 0
-Good b = Valid b × AreBytes b
-
-words : (base level : ℕ) → base < 2 ^ 32 → level < 2 ^ 32 → Words (load (lent base) 1 level)
-unfolding Words
-words base level h l = (h, omega arith, omega arith, omega arith, omega arith, omega arith, omega arith, l)
-
-first-words : Words (t₁ .call)
-unfolding Words
-first-words = (omega arith, omega arith)
-
-last-words : Words (t₅ .call)
-unfolding Words
-last-words = omega arith
-
-next-good : (t : Turn) → Words (t .call) → Good (t .before) → Good (expected at t .left)
-next-good t w g = given-valid (t .call) at (t .before) w (g .0) (g .1)
-
-g₁ : Good (after t₁)
-g₁ = next-good t₁ first-words (computed .valid-a, started 512 64)
-
-g₂ : Good (after t₂)
-g₂ = next-good t₂ (words 0x100800 0 (omega arith) (omega arith)) g₁
-
-g₃ : Good (after t₃)
-g₃ = next-good t₃ (words 0x100200 0 (omega arith) (omega arith)) g₂
-
-g₄ : Good (after t₄)
-g₄ = next-good t₄ (words 0x100400 1 (omega arith) (omega arith)) g₃
-
-pub session-a : Session at A
-session-a =
-    next t₅ t₄ _
-    (next t₄ t₃ _
-    (next t₃ t₂ _
-    (next t₂ t₁ _ (first t₁ (first-words, started 512 64) (computed .first-a) (follows _ _))
-    (words 0x100800 0 (omega arith) (omega arith), g₁ .1) (between _ _) (follows _ _))
-    (words 0x100200 0 (omega arith) (omega arith), g₂ .1) (between _ _) (follows _ _))
-    (words 0x100400 1 (omega arith) (omega arith), g₃ .1) (between _ _) (follows _ _))
-    (last-words, g₄ .1) (between _ _) (follows _ _)
-
-pub session-b : Session at B
-session-b =
-    next u₂ u₁ _ (first u₁ (first-words, started 1024 128) (computed .first-b) (follows _ _))
-    (words 0x100200 0 (omega arith) (omega arith), next-good u₁ first-words (computed .valid-b, started 1024 128) .1) (between _ _) (follows _ _)
-
--- which calls are done
-pub done-by : (t : Turn) {k : ℕ} → expected at t .number ≡ k → done at t ≡ eqb k 0
-unfolding done
-done-by t e = ap (λ k. eqb k 0) e
-
-brings : (t : Turn) → done at t ≡ true → brought at t ≡ comes at (t .call) (byteAt at (t .before .window))
-unfolding brought
-brings t e = rw e refl
-
-brings-none : (t : Turn) → done at t ≡ false → brought at t ≡ []
-unfolding brought
-brings-none t e = rw e refl
-
--- what came
+-- what comes
 abbrev pub c : Arrival
-c = record { coming = initialized 0x100000 0x200; bytes = byteAt at (t₁ .before .window) }
+c = record { coming = initialized 0x100000 0x178; bytes = byteAt at (page₀ 0) }
 
 abbrev pub m : Arrival
-m = record { coming = loaded (lent 0x100200) 1 0; bytes = byteAt at (t₃ .before .window) }
+m = record { coming = loaded large true 1; bytes = byteAt at (page₁ cro) }
 
 abbrev pub n : Arrival
-n = record { coming = loaded (lent 0x100400) 1 1; bytes = byteAt at (t₄ .before .window) }
+n = record { coming = loaded (small 0x100420 0x168) true 0; bytes = byteAt at (b₂ .window) }
 
-pub came₁ : arrived at (t₁ ∷ []) ≡ c ∷ []
-unfolding arrived comes
-came₁ = rw (brings t₁ (done-by t₁ (computed .n₁))) refl
+abbrev pub c′ : Arrival
+c′ = record { coming = initialized 0x100000 0x178; bytes = byteAt bt (behind (page₀ cro)) }
 
-pub came₂ : arrived at (t₂ ∷ t₁ ∷ []) ≡ c ∷ []
-unfolding arrived comes
-came₂ = ap (λ l. l ++ brought at t₂) came₁ ∙ rw (brings-none t₂ (done-by t₂ (computed .n₂))) refl
+abbrev pub n′ : Arrival
+n′ = record { coming = loaded (small 0x100420 0x168) true 0; bytes = byteAt bt (behind (page₁ cro)) }
 
-pub came₃ : arrived at (t₃ ∷ t₂ ∷ t₁ ∷ []) ≡ c ∷ m ∷ []
-unfolding arrived comes
-came₃ = ap (λ l. l ++ brought at t₃) came₂ ∙ rw (brings t₃ (done-by t₃ (computed .n₃))) refl
+abbrev pub m′ : Arrival
+m′ = record { coming = loaded large true 1; bytes = byteAt bt (behind page₄) }
 
-pub came₄ : arrived at (t₄ ∷ t₃ ∷ t₂ ∷ t₁ ∷ []) ≡ c ∷ m ∷ n ∷ []
-unfolding arrived comes
-came₄ = ap (λ l. l ++ brought at t₄) came₃ ∙ rw (brings t₄ (done-by t₄ (computed .n₄))) refl
+pub came-a : arrived A ≡ c ∷ m ∷ n ∷ []
+unfolding came brings comes
+came-a = came-are A exact-a
 
-pub came : arrived at A ≡ c ∷ m ∷ n ∷ []
-unfolding arrived comes
-came = ap (λ l. l ++ brought at t₅) came₄ ∙ rw (brings t₅ (done-by t₅ (computed .n₅))) refl
+pub came-b : arrived B ≡ c′ ∷ n′ ∷ m′ ∷ []
+unfolding came brings comes
+came-b = came-are B exact-b
 
--- what stands
-stands : (t : Turn) (ts : List Turn) → done at t ≡ true
-    → standing at (t ∷ ts) ≡ stay at (t .call) (standing at ts) ++ comes at (t .call) (byteAt at (t .before .window))
-unfolding standing
-stands t ts e = rw (brings t e, e) refl
+pub stood-a : standing A ≡ c ∷ m ∷ []
+unfolding stood stay others brings comes
+stood-a = stood-are A exact-a
 
-stands-as : (t : Turn) (ts : List Turn) → done at t ≡ false → standing at (t ∷ ts) ≡ standing at ts ++ []
-unfolding standing
-stands-as t ts e = rw (brings-none t e, e) refl
+pub stood-b : standing B ≡ c′ ∷ m′ ∷ []
+unfolding stood stay others brings comes
+stood-b = stood-are B exact-b
 
-stood₁ : standing at (t₁ ∷ []) ≡ c ∷ []
-unfolding standing stay comes
-stood₁ = stands t₁ [] (done-by t₁ (computed .n₁))
+-- the three images by themselves
+abbrev file : List ℕ → ℕ → ℕ
+file words o = getD (flat words) o 0
 
-stood₂ : standing at (t₂ ∷ t₁ ∷ []) ≡ c ∷ []
-stood₂ = stands-as t₂ (t₁ ∷ []) (done-by t₂ (computed .n₂)) ∙ ap (λ S. S ++ []) stood₁
+abbrev pub C : Image
+C = record { coming = initialized 0x100000 0x178; file = file c-words }
 
-stood₃ : standing at (t₃ ∷ t₂ ∷ t₁ ∷ []) ≡ c ∷ m ∷ []
-unfolding stay comes
-stood₃ = stands t₃ _ (done-by t₃ (computed .n₃)) ∙ ap (λ S. S ++ (m ∷ [])) stood₂
+abbrev pub M : Image
+M = record { coming = loaded large true 1; file = file (m-words cro) }
 
-stood₄ : standing at (t₄ ∷ t₃ ∷ t₂ ∷ t₁ ∷ []) ≡ c ∷ m ∷ n ∷ []
-unfolding stay comes
-stood₄ = stands t₄ _ (done-by t₄ (computed .n₄)) ∙ ap (λ S. S ++ (n ∷ [])) stood₃
+abbrev pub N : Image
+N = record { coming = loaded (small 0x100420 0x168) true 0; file = file n-words }
 
-pub stood : standing at A ≡ c ∷ m ∷ []
-unfolding stay comes others
-stood = stands t₅ _ (done-by t₅ (computed .n₅)) ∙ ap (λ S. others at 0x100400 S ++ []) stood₄
+-- an image at place i of a window, read from its base on
+image-is
+    : (f : Coming) (at i s : ℕ) (w l : List ℕ) → place at (baseOf f) ≡ i → sizeOf f ≡ s → i + s ≤ 2 ^ 31 → take s (drop i w) ≡ l → length l ≡ s
+    → imageOf (record { coming = f; bytes = byteAt at w }) ≡ record { coming = f; file = λ o. getD l o 0 }
+unfolding cut byteAt place
+image-is f at i s w l b z h e len = ap (λ F. record { coming = f; file = F }) (fun-ext (λ o. go o (decLt o s)))
+  where
+    go : (o : ℕ) → Dec (o < s) → cut f (byteAt at w) o ≡ getD l o 0
+    go o (yes q) =
+        let y : place at (baseOf f + o) ≡ i + o = omega (arith, b) in
+        rw (z, lt-ltb o s q, y, ← e, getD-take s (drop i w) o 0 q, getD-drop i w o 0) refl
+    go o (no q) = rw (z, le-ltb o s (omega arith)) (sym (List·getD-eq-default l 0 (omega (arith, len))))
 
--- in the second session
-abbrev pub d : Arrival
-d = record { coming = initialized 0x100000 0x200; bytes = byteAt at (u₁ .before .window) }
+pub c-is : imageOf c ≡ C
+unfolding opened shown
+c-is = image-is (c .coming) at 0 0x178 (page₀ 0) (flat c-words) refl refl (omega arith) refl refl
 
-abbrev pub k : Arrival
-k = record { coming = loaded (lent 0x100200) 1 0; bytes = byteAt at (u₂ .before .window) }
+pub m-is : imageOf m ≡ M
+unfolding opened shown
+m-is = image-is (m .coming) at 0x200 0x210 (page₁ cro) (flat (m-words cro)) refl refl (omega arith) refl refl
 
-pub came-b₁ : arrived at (u₁ ∷ []) ≡ d ∷ []
-unfolding arrived comes
-came-b₁ = rw (brings u₁ (done-by u₁ (computed .v₁))) refl
+pub n-is : imageOf n ≡ N
+unfolding opened shown
+n-is = image-is (n .coming) at 0x420 0x168 (b₂ .window) (flat n-words) refl refl (omega arith) refl refl
 
-pub came-b : arrived at B ≡ d ∷ k ∷ []
-unfolding arrived comes
-came-b = ap (λ l. l ++ brought at u₂) came-b₁ ∙ rw (brings u₂ (done-by u₂ (computed .v₂))) refl
+pub c′-is : imageOf c′ ≡ C
+unfolding opened shown behind
+c′-is = image-is (c′ .coming) bt 0x1000 0x178 (behind (page₀ cro)) (flat c-words) refl refl (omega arith) refl refl
 
-stood-b : standing at B ≡ d ∷ k ∷ []
-unfolding standing stay comes
-stood-b =
-    stands u₂ (u₁ ∷ []) (done-by u₂ (computed .v₂)) ∙ ap (λ S. S ++ (k ∷ [])) (stands u₁ [] (done-by u₁ (computed .v₁)))
+pub n′-is : imageOf n′ ≡ N
+unfolding opened shown behind
+n′-is = image-is (n′ .coming) bt 0x1420 0x168 (behind (page₁ cro)) (flat n-words) refl refl (omega arith) refl refl
 
--- they end alike
-pub end-alike : SameStanding (standing at A) (standing at B)
-unfolding SameStanding fresh
+pub m′-is : imageOf m′ ≡ M
+unfolding opened shown behind
+m′-is = image-is (m′ .coming) bt 0x1200 0x210 (behind page₄) (flat (m-words cro)) refl refl (omega arith) refl refl
+
+pub images-a : images A ≡ C ∷ M ∷ N ∷ []
+images-a = ap (map imageOf) came-a ∙ rw (c-is, m-is, n-is) refl
+
+pub images-b : images B ≡ C ∷ N ∷ M ∷ []
+images-b = ap (map imageOf) came-b ∙ rw (c′-is, n′-is, m′-is) refl
+
+-- one window holds the bytes of the other, a page further on
+shifted : (w : List ℕ) (q : ℕ) → In 0x100000 0x1000 q → byteAt bt (behind w) q ≡ byteAt at w q
+unfolding byteAt place behind
+shifted w q i =
+    let e : place bt q ≡ 4096 + place at q = omega (arith, i) in rw e (getD-append-add (zeros 4096) w (place at q) 0)
+
+-- what two pages have in one place
+pub same-part
+    : (u w : List ℕ) (i n q : ℕ) → take n (drop i u) ≡ take n (drop i w) → i + n ≤ 4096 → In (0x100000 + i) n q → byteAt at u q ≡ byteAt at w q
+unfolding byteAt place
+same-part u w i n q e l h = sym (go u) ∙ ap (λ l. getD l (place at q - i) 0) e ∙ go w
+  where
+    go : (v : List ℕ) → getD (take n (drop i v)) (place at q - i) 0 ≡ getD v (place at q) 0
+    go v =
+        let x : place at q - i < n = omega (arith, h) in
+        let y : i + (place at q - i) ≡ place at q = omega (arith, h) in
+        getD-take n (drop i v) (place at q - i) 0 x ∙ rw (getD-drop i v (place at q - i) 0, y) refl
+
+pub c-area : (q : ℕ) → Area C q → In 0x100000 0x178 q
+unfolding opened shown tested
+c-area = in-true C 0x100000 0x178 refl
+
+-- what others write, and what `n` changes, is outside the CRS and outside `m`
+pub same-pages
+    : (take 0x178 (drop 0 (page₀ 0)) ≡ take 0x178 (drop 0 (page₀ cro))) × (take 0x178 (drop 0 (page₁ 0)) ≡ take 0x178 (drop 0 (page₁ cro)))
+    × (take 0x210 (drop 0x200 (page₁ cro)) ≡ take 0x210 (drop 0x200 page₄)) × (take 0x10 (drop 0x5a0 (page₁ cro)) ≡ take 0x10 (drop 0x5a0 page₄))
+    × (take 0x10 (drop 0x5b0 (page₁ cro)) ≡ take 0x10 (drop 0x5b0 page₄))
+unfolding opened shown
+same-pages = (refl, refl, refl, refl, refl)
+
+-- the same bytes at the same addresses
+carried
+    : (u w : List ℕ) (i n q : ℕ) → take n (drop i u) ≡ take n (drop i w) → i + n ≤ 4096 → In (0x100000 + i) n q
+    → byteAt at u q ≡ byteAt bt (behind w) q
+carried u w i n q e l h = same-part u w i n q e l h ∙ sym (shifted w q (omega (arith, h), omega (arith, h)))
+
+same-m : (q : ℕ) → Area M q → byteAt at (page₁ cro) q ≡ byteAt bt (behind page₄) q
+unfolding Area Lent-area
+same-m q (inl h) = carried (page₁ cro) page₄ 0x200 0x210 q (same-pages .2) (omega arith) h
+same-m q (inr (inl h)) = carried (page₁ cro) page₄ 0x5a0 0x10 q (same-pages .3) (omega arith) h
+same-m q (inr (inr h)) = carried (page₁ cro) page₄ 0x5b0 0x10 q (same-pages .4) (omega arith) h
+
+-- item 10: the second session is on another window, has another auto-link parameter, and ends alike
+pub end-alike : SameStanding (standing A) (standing B)
+unfolding SameStanding
 end-alike =
-    let e : t₃ .before .window ≡ u₂ .before .window = ap (λ b. b .window) (computed .kept) ∙ computed .alike in
-    rw (stood, stood-b) ((refl, (λ q h. refl), (refl, (λ q h. ap (λ w. byteAt at w q) e), tt)))
+    rw (stood-a, stood-b) (
+      refl,
+      (λ q h. carried (page₀ 0) (page₀ cro) 0 0x178 q (same-pages .0) (omega arith) (c-area q (rw c-is at h))),
+      (refl, (λ q h. same-m q (rw m-is at h)), tt),
+    )

@@ -1,1 +1,2 @@
-// That the premises of demand 3 can be met: a well-laid image written out, and two sessions. Theorems in specs/; no code.
+// That the premises of demand 3 can be met, by three well-laid images and two sessions written out, and that six sham linkers fail it.
+// Theorems in specs/; no code.

@@ -1,0 +1,97 @@
+-- A load that patches the first entry of a named import's batch alone and marks the batch as resolved: the definition's steps, by
+-- their own names, but for the walk of one entry.
+use Prim.Native.Nat.{ℕ}
+use mathlib.Core.List.{List, [], _∷_}
+use mathlib.Core.Bool.{Bool, not}
+use lib.Dec.{eqb}
+use Rattle.window.specs.Memory.{if_then_else_, _⊕_}
+use Rattle.window.specs.Access.{Prog, ret, _>>=_, _>>_, get32, put8}
+use Rattle.window.specs.Loop.{loop}
+use Rattle.name.specs.Name.{nameAt}
+use Rattle.layout.specs.Header.{importNamedSymbolTableOffset, importNamedSymbolNum, importNamedSymbolEntrySize, importModuleTableOffset, importModuleNum, importModuleEntrySize}
+use Rattle.layout.specs.Segments.{field, entryAt}
+use Rattle.register.specs.Module.{Module, Register}
+use Rattle.register.specs.Change.{appended}
+use Rattle.register_read.specs.Read.{lookupIn, exportOf}
+use Rattle.register_read.specs.declared.Symbol.{Symbol}
+use Rattle.register_read.specs.declared.Symbol.the-variants.{At, Nothing}
+use Rattle.linker.specs.declared.rebase.Lent.{Lent}
+use Rattle.linker.specs.declared.call.Call.{Call}
+use Rattle.linker.specs.declared.call.Call.the-variants.{Initialize, Load, Unload}
+use Rattle.linker.specs.Relocation.{walk}
+use Rattle.linker.specs.Imports.{isUnresolved, noted, applyModuleImports, serveModule}
+use Rattle.linker.specs.Fix.{fix}
+use Rattle.linker.specs.Calls.{Answer, Done, rebase, enter, listed, missingNow}
+use Rattle.linker.specs.Outcome.{Bytes, Outcome, outcome}
+use Rattle.history.specs.Sessions.{given}
+
+-- one entry, and the mark
+unfoldable pub resolve : ℕ → ℕ → Symbol → Prog (Unit {0})
+resolve base batch (At a) = do
+  n ← walk 1 base a batch 0
+  put8 (batch ⊕ 6) 1
+resolve base batch Nothing = ret tt
+
+unfoldable pub importNamed : List Module → ℕ → ℕ → List (List ℕ) → Prog (List (List ℕ))
+importNamed ms base entry missing = do
+  batch ← get32 (entry ⊕ 4)
+  unresolved ← isUnresolved batch
+  if unresolved then (do
+    p ← get32 entry
+    name ← nameAt p
+    resolve base batch (lookupIn ms name)
+    ret (noted (lookupIn ms name) name missing)) else ret missing
+
+unfoldable pub applyImportNamedSymbols : List Module → ℕ → List (List ℕ) → Prog (List (List ℕ))
+applyImportNamedSymbols ms base missing = do
+  table ← field base importNamedSymbolTableOffset
+  count ← field base importNamedSymbolNum
+  loop (λ i xs. importNamed ms base (entryAt table i importNamedSymbolEntrySize) xs) 0 count missing
+
+unfoldable pub serveNamed : Module → ℕ → ℕ → Prog (Unit {0})
+serveNamed new base entry = do
+  batch ← get32 (entry ⊕ 4)
+  unresolved ← isUnresolved batch
+  if unresolved then (do
+    p ← get32 entry
+    name ← nameAt p
+    resolve base batch (exportOf new name)) else ret tt
+
+unfoldable pub serve : Module → ℕ → Prog (Unit {0})
+serve new base = do
+  table ← field base importNamedSymbolTableOffset
+  count ← field base importNamedSymbolNum
+  loop (λ i _. serveNamed new base (entryAt table i importNamedSymbolEntrySize)) 0 count tt
+  entries ← field base importModuleTableOffset
+  number ← field base importModuleNum
+  loop (λ i _. serveModule new base (entryAt entries i importModuleEntrySize)) 0 number tt
+
+unfoldable pub applyExportsToLoaded : Module → List Module → Prog (Unit {0})
+applyExportsToLoaded new [] = ret tt
+applyExportsToLoaded new (m ∷ ms) = do
+  serve new (m .base)
+  applyExportsToLoaded new ms
+
+unfoldable pub linked : Register → Lent → Bool → ℕ → Module → Prog Answer
+linked r l auto level m = do
+  listed (r .crs) (l .base) auto
+  missing ← applyImportNamedSymbols (appended r m .modules) (l .base) (r .missing)
+  applyModuleImports (appended r m .modules) (l .base)
+  applyExportsToLoaded m (r .modules)
+  fixed ← fix (l .base) (l .size) level
+  ret (Done fixed (missingNow (appended r m) missing))
+
+unfoldable pub load : Lent → Bool → ℕ → ℕ → ℕ → Register → Prog Answer
+load l auto level records names r = do
+  x ← rebase l
+  enter records names r (l .base) (l .size) auto (linked r l auto level) x
+
+unfoldable pub firstEntryOnly : Call → ℕ → Bytes → Outcome
+firstEntryOnly (Initialize base size) at b = given (Initialize base size) at b
+firstEntryOnly (Load l auto level) at b = outcome (load l (not (eqb auto 0)) level) at b
+firstEntryOnly (Unload base) at b = given (Unload base) at b
+
+-- all of it, to be unfolded as one
+unfoldable pub firstEntrySteps : Unit {0}
+unfolding resolve importNamed applyImportNamedSymbols serveNamed serve applyExportsToLoaded linked load firstEntryOnly
+firstEntrySteps = tt
