@@ -10,21 +10,13 @@ use Rattle.window.specs.Within.{In, Agree}
 use Rattle.layout.specs.declared.segments.Address.the-variants.{At}
 use Rattle.linker.specs.declared.call.Call.{Call}
 use Rattle.linker.specs.declared.call.Call.the-variants.{Initialize, Load, Unload}
+use Rattle.history.specs.Below.{Each, Pairs}
 use Rattle.history.specs.Image.{namedExports, count, moduleName}
 use Rattle.history.specs.Arrival.{Coming, initialized, loaded, Image, Arrival, imageOf, baseOf, isCrs, handler, Area, exportName, exportAddress, exportOf}
 use Rattle.history.specs.Imports.{Import, IsImport, Exports, Exporter, Holds}
 use Rattle.history.specs.WellLaid.{WellLaid}
 use Rattle.history.specs.Sessions.{Turn, after, expected, done, own, arrived, standing, Trace}
 use Rattle.history.specs.Outcomes.{Linker, Made, Follows}
-
--- it holds of each of a list; of each pair of a list
-unfoldable pub Each : {A : Type 0} → (A → Type 0) → List A → Type 0
-Each P [] = Unit {0}
-Each P (x ∷ xs) = P x × Each P xs
-
-unfoldable pub Pairs : {A : Type 0} → (A → A → Type 0) → List A → Type 0
-Pairs R [] = Unit {0}
-Pairs R (x ∷ xs) = Each (R x) xs × Pairs R xs
 
 -- "the CRS is initialised first" and once, "and stays"; S has come before the call
 unfoldable pub InOrder : Call → List Arrival → Type 0
@@ -110,13 +102,13 @@ SameStanding [] (b ∷ T) = ⊥
 SameStanding (a ∷ S) [] = ⊥
 
 -- the bytes that calls on the session's own window leave
-unfoldable pub lefts : List Turn → ℕ → ℕ
-lefts [] q = 0
-lefts (t ∷ ts) q = byteAt (t .at) (after t .window) q
+unfoldable pub bytesLeft : List Turn → ℕ → ℕ
+bytesLeft [] q = 0
+bytesLeft (t ∷ ts) q = byteAt (t .at) (after t .window) q
 
 -- the session's bytes after all its calls
-abbrev pub ends : List Turn → ℕ → ℕ
-ends ts = lefts (own ts)
+abbrev pub bytesAfter : List Turn → ℕ → ℕ
+bytesAfter ts = bytesLeft (own ts)
 
 -- every import of every module in S holds its address, where M are the bytes and S stands
 unfoldable pub AllHold : List Image → (ℕ → ℕ) → Type 0
@@ -125,11 +117,11 @@ AllHold S M = Each (λ m. ImportClause S M m × CrsClause M m) S
 -- after every call
 unfoldable pub Linked : List Turn → Type 0
 Linked [] = Unit {0}
-Linked (t ∷ ts) = AllHold (map imageOf (standing (t ∷ ts))) (ends (t ∷ ts)) × Linked ts
+Linked (t ∷ ts) = AllHold (map imageOf (standing (t ∷ ts))) (bytesAfter (t ∷ ts)) × Linked ts
 
 -- "no byte of the CRS's or a standing module's areas differs"
 unfoldable pub NoByteDiffers : List Turn → List Turn → Type 0
-NoByteDiffers ts us = Each (λ a. Agree (Area (imageOf a)) (ends ts) (ends us)) (standing ts)
+NoByteDiffers ts us = Each (λ a. Agree (Area (imageOf a)) (bytesAfter ts) (bytesAfter us)) (standing ts)
 
 -- of a linker and any two whole sessions that it was called in, under the premises: each call gives document 01's outcome, after
 -- each call every import holds its address, and where the sessions end alike no byte differs

@@ -11,6 +11,7 @@ use Rattle.linker.specs.declared.call.Call.the-variants.{Initialize, Load, Unlo
 use Rattle.linker.specs.Outcome.{Bytes, Outcome, initializeOutcome, loadOutcome, unloadOutcome}
 use Rattle.linker.specs.Refusals.{lentRegister}
 use Rattle.linker.specs.Valid.{Valid}
+use Rattle.history.specs.Below.{Each}
 use Rattle.history.specs.Sessions.{given, Turn, SameBytes}
 
 -- which outcomes a linker may give for a call, the window's address and the lent bytes; one that gives none makes no session
@@ -21,9 +22,8 @@ Linker = Call → ℕ → Bytes → Outcome → Type 0
 abbrev pub Gave : Linker → Turn → Type 0
 Gave L t = L (t .call) (t .at) (t .before) (t .gave)
 
-unfoldable pub Made : Linker → List Turn → Type 0
-Made L [] = Unit {0}
-Made L (t ∷ ts) = Gave L t × Made L ts
+abbrev pub Made : Linker → List Turn → Type 0
+Made L ts = Each (Gave L) ts
 
 -- what the exported calls promise: their contracts, word for word, a load's six places as one `Lent`
 unfoldable pub Promised : Linker

@@ -17,7 +17,8 @@ use Rattle.history.specs.Arrival.{Coming, initialized, loaded, Image, Arrival, 
 use Rattle.history.specs.Imports.{Import, Exports, Exporter, Holds}
 use Rattle.history.specs.WellLaid.{WellLaid}
 use Rattle.history.specs.Sessions.{Turn, standing}
-use Rattle.history.specs.Demand3.{Each, ImportClause, CrsClause, SameStanding, AllHold, NoByteDiffers, ends}
+use Rattle.history.specs.Below.{Each}
+use Rattle.history.specs.Demand3.{ImportClause, CrsClause, SameStanding, AllHold, NoByteDiffers, bytesAfter}
 use Rattle.history_steps.specs.Wp.{Memory, WithinM}
 use Rattle.history_steps.specs.Windowed.{same-on}
 use Rattle.history_steps.specs.Links.{Links, Stands}
@@ -135,9 +136,9 @@ module _ (S T : List Arrival) (same : SameStanding S T) (rest other : ℕ → Me
 pub no-byte-differs
     : (ts us : List Turn) (rest other : ℕ → Memory) → ((k : ℕ) → k < length (standing ts) → WellLaid (imageAt (standing ts) k))
     → ((k : ℕ) → k < length (standing ts) → Agree (Area (imageAt (standing ts) k)) (rest k) (other k))
-    → Resting (length (standing ts)) (imageAt (standing ts)) rest (ends ts)
-    → Resting (length (standing us)) (imageAt (standing us)) other (ends us)
+    → Resting (length (standing ts)) (imageAt (standing ts)) rest (bytesAfter ts)
+    → Resting (length (standing us)) (imageAt (standing us)) other (bytesAfter us)
     → SameStanding (standing ts) (standing us) → NoByteDiffers ts us
 unfolding NoByteDiffers
 no-byte-differs ts us rest other laid alike h i same =
-    no-byte (standing ts) (standing us) same rest other (ends ts) (ends us) laid alike h i
+    no-byte (standing ts) (standing us) same rest other (bytesAfter ts) (bytesAfter us) laid alike h i

@@ -14,7 +14,7 @@ use Rattle.history.specs.Arrival.{Arrival, baseOf, isCrs}
 use Rattle.linker.specs.declared.call.Call.{Call}
 use Rattle.linker.specs.declared.call.Call.the-variants.{Initialize, Load, Unload}
 use Rattle.history.specs.Sessions.{Turn, done, brought, arrived, others, stay, standing}
-use Rattle.history.specs.Demand3.{Each, Pairs}
+use Rattle.history.specs.Below.{Each, Pairs}
 use Rattle.history_steps.specs.Leaving.{skip, skip-low, skip-high, skip-suc}
 
 -- of each, by index and back

@@ -10,7 +10,7 @@ use Rattle.register.specs.Module.{Module, Register}
 use Rattle.linker.specs.Calls.{unknown, stands, firstWithBase}
 use Rattle.history.specs.Arrival.{Arrival, baseOf, isCrs}
 use Rattle.history.specs.Sessions.{others}
-use Rattle.history.specs.Demand3.{Pairs}
+use Rattle.history.specs.Below.{Pairs}
 use Rattle.history_steps.specs.Records.{Recorded}
 use Rattle.history_steps.specs.Own.{RecordedAll}
 use Rattle.history_steps.specs.ByBase.{finds, finds-none}

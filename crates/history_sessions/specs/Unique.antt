@@ -12,7 +12,8 @@ use Rattle.history.specs.Arrival.{initialized, Image, Arrival, imageOf, baseOf,
 use Rattle.history.specs.Imports.{Import, named, indexed, anonymous, importTable, IsImport, importEntry, runStart, runCount, InRun, From, Exports}
 use Rattle.history.specs.WellLaid.{WellLaid}
 use Rattle.history.specs.Sessions.{Turn, own, arrived}
-use Rattle.history.specs.Demand3.{Each, Pairs, AutoLinked, ImportsKept, BaseNot0, Apart, OtherName, OtherExports, InWindow, Premises}
+use Rattle.history.specs.Below.{Each, Pairs}
+use Rattle.history.specs.Demand3.{AutoLinked, ImportsKept, BaseNot0, Apart, OtherName, OtherExports, InWindow, Premises}
 use Rattle.history_steps.specs.Once.{once}
 use Rattle.history_steps.specs.Parts.{image-area}
 use Rattle.history_sessions.specs.Lists.{each-at, pairs-at, each-map, pairs-map, pairs-with, Among, among-each, among-pairs, OtherBase}

@@ -12,7 +12,8 @@ use Rattle.linker.specs.declared.call.Call.the-variants.{Initialize, Load, Unlo
 use Rattle.linker.specs.Outcome.{Bytes, Outcome}
 use Rattle.history.specs.Sessions.{given, Turn, after, own, arrived, standing, Trace}
 use Rattle.history.specs.Outcomes.{Linker, Gave, Made, Promised, Follows}
-use Rattle.history.specs.Demand3.{Demand3, Each, Premises, SameStanding, NoByteDiffers, Linked, lefts, ends}
+use Rattle.history.specs.Below.{Each}
+use Rattle.history.specs.Demand3.{Demand3, Premises, SameStanding, NoByteDiffers, Linked, bytesLeft, bytesAfter}
 use Rattle.history_steps.specs.Wp.{Memory}
 use Rattle.register.specs.Module.{Register}
 use Rattle.history_sessions.specs.Lists.{standing-among}
@@ -56,7 +57,7 @@ both-stand
     : (t u : Turn) (ts us : List Turn) → own (t ∷ ts) ≡ t ∷ ts → own (u ∷ us) ≡ u ∷ us → Premises (t ∷ ts)
     → RestingIn (t .at) (standing (t ∷ ts)) (after t) → RestingIn (u .at) (standing (u ∷ us)) (after u)
     → SameStanding (standing (t ∷ ts)) (standing (u ∷ us)) → NoByteDiffers (t ∷ ts) (u ∷ us)
-unfolding lefts
+unfolding bytesLeft
 both-stand t u ts us mine other h g i same =
     let S = standing (t ∷ ts) in
     let T = standing (u ∷ us) in
@@ -92,15 +93,15 @@ unfolding NoByteDiffers
 no-byte-own at bt ts us c d h k l same =
     let a = stands-own ts in
     let b = stands-own us in
-    subst (λ S. Each (λ x. Agree (Area (imageOf x)) (ends ts) (ends us)) S) (a .0)
-    (subst (λ M. Each (λ x. Agree (Area (imageOf x)) M (ends us)) (standing (own ts))) (a .1)
-    (subst (λ N. Each (λ x. Agree (Area (imageOf x)) (ends (own ts)) N) (standing (own ts))) (b .1)
+    subst (λ S. Each (λ x. Agree (Area (imageOf x)) (bytesAfter ts) (bytesAfter us)) S) (a .0)
+    (subst (λ M. Each (λ x. Agree (Area (imageOf x)) M (bytesAfter us)) (standing (own ts))) (a .1)
+    (subst (λ N. Each (λ x. Agree (Area (imageOf x)) (bytesAfter (own ts)) N) (standing (own ts))) (b .1)
     (no-byte (own ts) (own us) (own-all at (own ts) c) (own-all bt (own us) d) h k l
     (subst (λ S. SameStanding S (standing (own us))) (sym (a .0)) (subst (SameStanding (standing ts)) (sym (b .0)) same)))))
 
 -- a linker that gives document 01's outcomes
 follow : (L : Linker) → ((t : Turn) → Gave L t → Gave Follows t) → (ts : List Turn) → Made L ts → Made Follows ts
-unfolding Made
+unfolding Each
 follow L f [] h = tt
 follow L f (t ∷ ts) h = (f t (h .0), follow L f ts (h .1))
 

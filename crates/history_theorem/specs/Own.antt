@@ -10,7 +10,8 @@ use Rattle.window.specs.Memory.{if_then_else_}
 use Rattle.history.specs.Arrival.{Image, Arrival, imageOf}
 use Rattle.history.specs.Sessions.{Turn, expected, Typed, done, unfit, own, brought, arrived, stay, standing, Lends, Next, Trace}
 use Rattle.history.specs.Outcomes.{Gave, Made, Follows}
-use Rattle.history.specs.Demand3.{Each, Pairs, InOrder, Harmless, CrsFirst, InWindow, images, Premises, AllHold, Linked, lefts, ends}
+use Rattle.history.specs.Below.{Each, Pairs}
+use Rattle.history.specs.Demand3.{InOrder, Harmless, CrsFirst, InWindow, images, Premises, AllHold, Linked, bytesLeft, bytesAfter}
 use Rattle.history_theorem.specs.Step.{lists-refused}
 use Rattle.history_theorem.specs.Theorem.{OwnCalls, none, first, next}
 
@@ -65,7 +66,7 @@ one-more at t [] f e typed b g c = first t f e typed b g
 one-more at t (u ∷ us) f e typed b g c = next t u us c f e typed b g
 
 pub trace-own : (at : ℕ) (ts : List Turn) → Trace at ts → Made Follows ts → OwnCalls at (own ts)
-unfolding own Trace Next Made
+unfolding own Trace Next Each
 trace-own at [] h g = none
 trace-own at (t ∷ ts) h g = go (unfit t) refl (trace-own at ts (h .2) (g .1))
   where
@@ -118,23 +119,23 @@ premises-own ts h =
     pairs R g = subst (Pairs R) (sym same) g
 
 -- what stands and the bytes after all calls are those after its own
-pub stands-own : (ts : List Turn) → (standing (own ts) ≡ standing ts) × (ends (own ts) ≡ ends ts)
-stands-own ts = (standing-own ts, ap lefts (own-own ts))
+pub stands-own : (ts : List Turn) → (standing (own ts) ≡ standing ts) × (bytesAfter (own ts) ≡ bytesAfter ts)
+stands-own ts = (standing-own ts, ap bytesLeft (own-own ts))
 
 -- what holds after its own calls holds after every call
-last-holds : (ts : List Turn) → Linked ts → AllHold (map imageOf (standing ts)) (ends ts)
+last-holds : (ts : List Turn) → Linked ts → AllHold (map imageOf (standing ts)) (bytesAfter ts)
 unfolding Linked standing AllHold Each
 last-holds [] h = tt
 last-holds (t ∷ ts) h = h .0
 
 -- of one of its own, after all before it and after its own before it
-one-holds : (t : Turn) (ts : List Turn) → unfit t ≡ false → Linked (t ∷ own ts) → AllHold (map imageOf (standing (t ∷ ts))) (ends (t ∷ ts))
-unfolding own Linked standing lefts
+one-holds : (t : Turn) (ts : List Turn) → unfit t ≡ false → Linked (t ∷ own ts) → AllHold (map imageOf (standing (t ∷ ts))) (bytesAfter (t ∷ ts))
+unfolding own Linked standing bytesLeft
 one-holds t ts e h =
-    let g : AllHold (map imageOf ((if done t then stay (t .call) (standing (own ts)) else standing (own ts)) ++ brought t)) (lefts (t ∷ ts)) =
+    let g : AllHold (map imageOf ((if done t then stay (t .call) (standing (own ts)) else standing (own ts)) ++ brought t)) (bytesLeft (t ∷ ts)) =
     rw e at (h .0) in
     rw e
-    (subst (λ S. AllHold (map imageOf ((if done t then stay (t .call) S else S) ++ brought t)) (lefts (t ∷ ts))) (standing-own ts) g)
+    (subst (λ S. AllHold (map imageOf ((if done t then stay (t .call) S else S) ++ brought t)) (bytesLeft (t ∷ ts))) (standing-own ts) g)
 
 pub linked-own : (ts : List Turn) → Linked (own ts) → Linked ts
 unfolding own Linked

@@ -18,7 +18,8 @@ use Rattle.linker.specs.declared.call.Call.{Call}
 use Rattle.linker.specs.declared.call.Call.the-variants.{Initialize, Load, Unload}
 use Rattle.history.specs.Sessions.{given, Turn, after, expected, Fresh, Words, Typed, SameBytes, done, own, comes, brought, arrived, others, stay, standing, Between}
 use Rattle.history.specs.Outcomes.{Gave, Follows}
-use Rattle.history.specs.Demand3.{Each, Pairs, InOrder, AutoLinked, ImportsKept, Harmless, CrsFirst, Premises}
+use Rattle.history.specs.Below.{Each, Pairs}
+use Rattle.history.specs.Demand3.{InOrder, AutoLinked, ImportsKept, Harmless, CrsFirst, Premises}
 use Rattle.history_steps.specs.Leaving.{skip-low}
 use Rattle.history_sessions.specs.Lists.{lacking, lacking-at, OtherBase, Among, nothing, keeps, drops, among-each, standing-among, leaver}
 use Rattle.history_sessions.specs.Unique.{noArrival, imageAt, auto-at, kept-at, other-bases}

@@ -11,7 +11,8 @@ use Rattle.history.specs.Arrival.{Image, Arrival, imageOf}
 use Rattle.history.specs.Sessions.{Turn, after, Fresh, Typed, unfit, own, brought, arrived, standing, Between}
 use Rattle.history.specs.Outcomes.{Gave, Follows}
 use Rattle.history.specs.Windows.{given-length}
-use Rattle.history.specs.Demand3.{Each, Pairs, CrsFirst, InWindow, images, Premises, AllHold, Linked, lefts, ends}
+use Rattle.history.specs.Below.{Each, Pairs}
+use Rattle.history.specs.Demand3.{CrsFirst, InWindow, images, Premises, AllHold, Linked, bytesLeft, bytesAfter}
 use Rattle.history_sessions.specs.Lists.{each-mono, each-left, pairs-left, standing-among}
 use Rattle.history_sessions.specs.Unique.{imageAt, laid-at, once-at}
 use Rattle.history_sessions.specs.Conclude as conclude
@@ -88,8 +89,8 @@ concluded at b S h =
 
 all-hold
     : (t : Turn) (ts : List Turn) → own (t ∷ ts) ≡ t ∷ ts → Premises (t ∷ ts) → Holding (t .at) (t ∷ ts) (after t)
-    → AllHold (map imageOf (standing (t ∷ ts))) (ends (t ∷ ts))
-unfolding lefts AllHold Each
+    → AllHold (map imageOf (standing (t ∷ ts))) (bytesAfter (t ∷ ts))
+unfolding bytesLeft AllHold Each
 all-hold t ts mine h (none-came n f) =
     rw (among-none (standing (t ∷ ts)) (arrived (t ∷ ts)) (standing-among (t ∷ ts)) n) tt
 all-hold t ts mine h (some-came o c g) =

@@ -16,7 +16,8 @@ use Rattle.history.specs.Arrival.{address, handler, oldPlace, placedSegment, ex
 use Rattle.history.specs.Imports.{named, indexed, anonymous, InRun, From, BatchOf}
 use Rattle.history.specs.Sessions.{Turn, after, expected, unfit, arrived, standing, Trace, Between}
 use Rattle.history.specs.Outcomes.{Made, Promised}
-use Rattle.history.specs.Demand3.{Each, Premises, SameStanding}
+use Rattle.history.specs.Below.{Each}
+use Rattle.history.specs.Demand3.{Premises, SameStanding}
 use Rattle.history_witness.specs.Image.{cro}
 use Rattle.history_witness.specs.Open.{opened}
 use Rattle.history_witness.specs.Laid.{a-batch}

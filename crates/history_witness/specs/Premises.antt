@@ -12,7 +12,8 @@ use Rattle.linker.specs.Valid.{AreBytes}
 use Rattle.history.specs.Arrival.{Arrival, Image, baseOf, isCrs, Area}
 use Rattle.history.specs.Sessions.{Words, Between, Lends, Trace, comes, arrived, Areas, Fresh}
 use Rattle.history.specs.Outcomes.{Made, Promised}
-use Rattle.history.specs.Demand3.{Each, InOrder, AutoLinked, ImportsKept, Premises}
+use Rattle.history.specs.Below.{Each}
+use Rattle.history.specs.Demand3.{InOrder, AutoLinked, ImportsKept, Premises}
 use Rattle.history_witness.specs.Image.{cro}
 use Rattle.history_witness.specs.Open.{opened}
 use Rattle.history_witness.specs.Laid.{laid-tests, laid}

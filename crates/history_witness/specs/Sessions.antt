@@ -17,7 +17,8 @@ use Rattle.linker.specs.declared.call.Call.the-variants.{Initialize, Load, Unlo
 use Rattle.linker.specs.Outcome.{Bytes, Outcome}
 use Rattle.history.specs.Arrival.{Coming, initialized, loaded, Arrival, Image, cut, imageOf, baseOf, sizeOf, Area, Lent-area}
 use Rattle.history.specs.Sessions.{Turn, comes, arrived, others, stay, standing}
-use Rattle.history.specs.Demand3.{Each, SameStanding, images}
+use Rattle.history.specs.Below.{Each}
+use Rattle.history.specs.Demand3.{SameStanding, images}
 use Rattle.history_witness.specs.Image.{zeros, cro, c-words, m-words, n-words}
 use Rattle.history_witness.specs.Open.{opened}
 use Rattle.history_witness.specs.Together.{in-true}

@@ -27,7 +27,8 @@ use Rattle.history.specs.Arrival.{Image, imageOf, address, handler, exportOf}
 use Rattle.history.specs.Sessions as sessions
 use Rattle.history.specs.Sessions.{given, Turn, expected, unfit, own, comes, brought, arrived, others, stay, standing, Next, Trace}
 use Rattle.history.specs.Outcomes.{Linker, Made, Follows}
-use Rattle.history.specs.Demand3.{Each, Harmless, CrsFirst, InWindow, Premises, images, lefts, ends, ImportClause, AllHold, Linked, Demand3}
+use Rattle.history.specs.Below.{Each}
+use Rattle.history.specs.Demand3.{Harmless, CrsFirst, InWindow, Premises, images, bytesLeft, bytesAfter, ImportClause, AllHold, Linked, Demand3}
 use Rattle.history_witness.specs.Told.{Exact, came, brings, stood, ours, came-are, stood-are, front, two-faced, Ordered, premises-of, windows-of}
 use Rattle.history_witness.specs.Image.{cro, n-words, change, c-linked, m-linked, n-loaded, lent-words, page}
 use Rattle.history_witness.specs.Open.{opened}
@@ -85,11 +86,11 @@ module _ (t : Turn) (ts : List Turn) (o : Outcome) where
   unfolding standing brought sessions.done
   standing-told = refl
 
-  ends-told
+  bytes-told
       : expected t ≡ t .gave → (eqb (t .gave .number) 3 || eqb (t .gave .number) 4) ≡ false
-      → ends (told t o ∷ ts) ≡ byteAt (t .at) (o .left .window)
-  unfolding own unfit lefts
-  ends-told e h = rw (e, h) refl
+      → bytesAfter (told t o ∷ ts) ≡ byteAt (t .at) (o .left .window)
+  unfolding own unfit bytesLeft
+  bytes-told e h = rw (e, h) refl
 
 -- no call at all
 none : Premises []
@@ -97,7 +98,7 @@ unfolding Each arrived Ordered
 none = premises-of [] [] tt refl (front [] three suits-three) tt tt tt
 
 gives : (L : Linker) (at : ℕ) (ts : List Turn) → Trace at ts → Made L ts → Premises ts → Demand3 L → Made Follows ts × Linked ts
-unfolding Demand3 Trace Made
+unfolding Demand3 Trace Each
 gives L at ts x m p d = d at at ts [] x tt m tt p none .0
 
 -- the first calls of the session: before the CRS; the CRS; `m`; `n`; the refused load and the unload
@@ -186,7 +187,7 @@ changed g t = g (t .call) (t .before) (t .gave)
 
 module _ (g : Change) where
   made-same : (ts : List Turn) → Exact ts → Each (λ t. changed g t ≡ t .gave) ts → Made (Sham g) ts
-  unfolding Made Each
+  unfolding Each
   made-same [] e h = tt
   made-same (t ∷ ts) e h = (sym (h .0) ∙ rw (← (e .0)) refl, made-same ts (e .1) (h .1))
 
@@ -194,7 +195,7 @@ module _ (g : Change) where
   by-outcome
       : (t : Turn) (ts : List Turn) → Exact (t ∷ ts) → Trace at (t ∷ ts) → Premises (t ∷ ts) → Each (λ t. changed g t ≡ t .gave) ts
       → (changed g t .number ≡ t .gave .number → changed g t .value ≡ t .gave .value → ⊥) → Demand3 (Sham g) → ⊥
-  unfolding Made Each
+  unfolding Each
   by-outcome t ts e x p s n d =
       let f : Made Follows (told t (changed g t) ∷ ts) =
       gives (Sham g) at (told t (changed g t) ∷ ts) (trace-told t ts (changed g t) at x) (rw (e .0) refl, made-same ts (e .1) s)
@@ -259,7 +260,7 @@ held
     : (t : Turn) (ts : List Turn) (o : Outcome) (S : List Image) → Exact (t ∷ ts) → map imageOf (stood (t ∷ ts)) ≡ S
     → (eqb (t .gave .number) 3 || eqb (t .gave .number) 4) ≡ false → Linked (told t o ∷ ts) → AllHold S (byteAt (t .at) (o .left .window))
 unfolding Each Linked
-held t ts o S e i u l = rw (standing-told t ts o, stood-are (t ∷ ts) e, i, ends-told t ts o (e .0) u) at (l .0)
+held t ts o S e i u l = rw (standing-told t ts o, stood-are (t ∷ ts) e, i, bytes-told t ts o (e .0) u) at (l .0)
 
 -- a linker whose programs are its own
 module _ (f : Call → ℕ → Bytes → Outcome) where
@@ -267,7 +268,7 @@ module _ (f : Call → ℕ → Bytes → Outcome) where
   Own c at b o = o ≡ f c at b
 
   made-own : (ts : List Turn) → Each (λ t. f (t .call) (t .at) (t .before) ≡ t .gave) ts → Made Own ts
-  unfolding Made Each
+  unfolding Each
   made-own [] h = tt
   made-own (t ∷ ts) h = (sym (h .0), made-own ts (h .1))
 

@@ -14,7 +14,8 @@ use Rattle.register.specs.Words.{same}
 use Rattle.register.specs.Lists.{same-true, same-refl}
 use Rattle.history.specs.Image.{segments, namedExports, count, moduleName, fileSegment}
 use Rattle.history.specs.Arrival.{Coming, initialized, loaded, Image, baseOf, sizeOf, segmentPlace, Lent-area, Area, laterExport, exportName, exportAddress, exportAmong, exportOf}
-use Rattle.history.specs.Demand3.{Each, Pairs, Apart, OtherName, OtherExports, ExportsOnce}
+use Rattle.history.specs.Below.{Each, Pairs}
+use Rattle.history.specs.Demand3.{Apart, OtherName, OtherExports, ExportsOnce}
 use Rattle.history_witness.specs.Tests.{all, each, meets, nth, either, apart, never-both}
 
 -- a test of each of a list, and of each pair

@@ -19,7 +19,8 @@ use Rattle.history.specs.Arrival.{Arrival, Image, Area}
 use Rattle.history.specs.WellLaid.{WellLaid}
 use Rattle.history.specs.Sessions.{given, Turn, expected, done, unfit, own, comes, brought, arrived, stay, standing, Between, Lends, Next}
 use Rattle.history.specs.Outcomes.{Made, Promised}
-use Rattle.history.specs.Demand3.{Each, Pairs, Harmless, InOrder, CrsFirst, AutoLinked, ImportsKept, BaseNot0, InWindow, Apart, OtherName, OtherExports, ExportsOnce, Premises, images}
+use Rattle.history.specs.Below.{Each, Pairs}
+use Rattle.history.specs.Demand3.{Harmless, InOrder, CrsFirst, AutoLinked, ImportsKept, BaseNot0, InWindow, Apart, OtherName, OtherExports, ExportsOnce, Premises, images}
 
 -- "a turn as the definition gives it"
 abbrev pub Exact : List Turn → Type 0
@@ -73,7 +74,7 @@ made-one t h = go (t .call) h
     go (Unload base) e = sym e
 
 pub promised : (ts : List Turn) → Exact ts → Made Promised ts
-unfolding Made Each
+unfolding Each
 promised [] h = tt
 promised (t ∷ ts) h = (made-one t (h .0), promised ts (h .1))
 

@@ -3,6 +3,7 @@ use Prim.Native.Nat.{ℕ}
 use mathlib.Core.List.{List, [], _∷_}
 use Rattle.linker.specs.declared.call.Call.{Call}
 use Rattle.linker.specs.Outcome.{Bytes, Outcome}
+use Rattle.history.specs.Below.{Each}
 use Rattle.history.specs.Sessions.{Turn, Typed, standing, Next, Trace}
 use Rattle.history.specs.Outcomes.{Gave, Made, Promised, Follows}
 use Rattle.history.specs.Demand3.{Demand3, Premises, Linked, SameStanding, NoByteDiffers}
@@ -33,12 +34,12 @@ pub record Continues (t : Turn) : Type 0 where
 
 -- no call yet
 pub begins : (at : ℕ) → Session at []
-unfolding Session Trace Made
+unfolding Session Trace Each
 begins at = (tt, tt)
 
 -- one more
 added : (t : Turn) → Typed t → Gave Promised t → (at : ℕ) (ts : List Turn) → Session at ts → Next at ts t → Session at (t ∷ ts)
-unfolding Session Trace Made
+unfolding Session Trace Each
 added t typed p at ts s n = ((typed, n, s .0), (p, s .1))
 
 pub continues : (t : Turn) → Typed t → Gave Promised t → Continues t
