@@ -28,15 +28,14 @@ use denote.Laws.{Is, shows}
 use denote.Plain.{uint-makes}
 use denote.Builtin.{u8, u32, usize}
 use denote.Ref.{RefT, now}
-use denote.Slice.{sliceVal, MutSlice, Room, finally}
+use denote.Slice.{MutSlice, Room, finally}
 use denote.Steps.{only, facts, heard, nothing, owned}
 use denote.Triple.Statement.{Contract, Triple}
 use denote.Triple.Call.{calls-at}
-use denote.Triple.Clauses.{ensured, lasts, Lasts}
+use denote.Triple.Clauses.{ensured, lasts}
 use denote.Triple.Entry.{Args, Vals}
 use denote.Triple.Spec.{tripleOf}
 use denote.Triple.Walked.{says}
-use Rattle.linker.specs.Outcome.{Bytes}
 use Rattle.linker_calls.specs.Steps.{lent}
 use Rattle.session_step.specs.declared.Step.{Step}
 use Rattle.session_step.proofs.Step as S
@@ -138,12 +137,15 @@ module _ (κ : Five Lft) (q : Five Share) (x : Five (RefT (List ℕ))) where
         move ! (2 ∷ 0 ∷ []) $ fjoin ! $ move ! (3 ∷ 0 ∷ []) $ fjoin ! $ move ! (4 ∷ 0 ∷ []) $ fjoin ! $ move ! (5 ∷ 0 ∷ []) $ fjoin ! $ frame ! $
         move ! (1 ∷ 0 ∷ []) $ fjoin ! $ move ! (1 ∷ 0 ∷ []) $ fjoin ! $ move ! (1 ∷ 0 ∷ []) $ fjoin ! $ move ! (1 ∷ 0 ∷ []) $ fjoin ! $ done !)))))
 
+    abbrev DeadTwice : Item 𝓤
+    DeadTwice = ‵ (fdead (ν ∷ [])) ⊛ ‵ (fdead (ν ∷ []))
+
     come-back : (δ : Five GName) (zs : Five (List ℕ)) → Alike zs ys
         → ent 𝓤 (sep 𝓤 (A .dead (ν ∷ [])) (sep 𝓤 (sem 𝓤 H A (AllAway ν δ ys)) (sem 𝓤 H A (Left δ zs)))) (H .⇛ (sem 𝓤 H A (Mine zs)))
     come-back δ zs l =
         qed W (‵ (fdead (ν ∷ [])) ∷ ‵ (AllAway ν δ ys) ∷ ‵ (Left δ zs) ∷ []) ∵ updating ! $
-        use1 W (‵ (fdead (ν ∷ [])) ⊛ ‵ (fdead (ν ∷ []))) (W .lfts .dead-dup (ν ∷ [])) $ split ! $ use1 W (‵ (fdead (ν ∷ [])) ⊛ ‵ (fdead (ν ∷ []))) (W .lfts .dead-dup (ν ∷ [])) $ split ! $
-        use1 W (‵ (fdead (ν ∷ [])) ⊛ ‵ (fdead (ν ∷ []))) (W .lfts .dead-dup (ν ∷ [])) $ split ! $ use1 W (‵ (fdead (ν ∷ [])) ⊛ ‵ (fdead (ν ∷ []))) (W .lfts .dead-dup (ν ∷ [])) $ split ! $
+        use1 W DeadTwice (W .lfts .dead-dup (ν ∷ [])) $ split ! $ use1 W DeadTwice (W .lfts .dead-dup (ν ∷ [])) $ split ! $
+        use1 W DeadTwice (W .lfts .dead-dup (ν ∷ [])) $ split ! $ use1 W DeadTwice (W .lfts .dead-dup (ν ∷ [])) $ split ! $
         move ! (5 ∷ []) $ fsplit ! $ move ! (1 ∷ []) $ fsplit ! $ move ! (1 ∷ []) $ fsplit ! $ move ! (1 ∷ []) $ fsplit ! $
         move ! (10 ∷ []) $ fsplit ! $ move ! (1 ∷ []) $ fsplit ! $ move ! (1 ∷ []) $ fsplit ! $ move ! (1 ∷ []) $ fsplit ! $
         -- [what is said of the slices 4, 5, 3, 2, 1; what is kept of 4, 5, 3, 2, 1; that the lifetime is dead, five times]
@@ -179,14 +181,46 @@ bytes ws = record {
 -- what the call is passed: the step with its machine value u, its number k, the window's address, the slices and the buffer's place i
 module _ (κ : Five Lft) (q : Five Share) (x : Five (RefT (List ℕ))) (step : Step) (u : Val) (k address i : ℕ) (ys : Five (List ℕ)) where
   abbrev passed : (ν : ℕ) (δ : Five GName) → Args turn.signature (ν ∷ [], tt)
-  passed ν δ =
-      (step, (k, (address, (under (x .window) (δ .window) (ys .window), (under (x .records) (δ .records) (ys .records),
-      (under (x .names) (δ .names) (ys .names), (under (x .missing) (δ .missing) (ys .missing), (under (x .out) (δ .out) (ys .out), (i, tt)))))))))
+  passed ν δ = (
+    step,
+    (
+      k,
+      (
+        address,
+        (
+          under (x .window) (δ .window) (ys .window),
+          (
+            under (x .records) (δ .records) (ys .records),
+            (under (x .names) (δ .names) (ys .names), (under (x .missing) (δ .missing) (ys .missing), (under (x .out) (δ .out) (ys .out), (i, tt)))),
+          ),
+        ),
+      ),
+    ),
+  )
 
   abbrev values : (ν : ℕ) → Vals turn.signature (ν ∷ [], tt)
-  values ν =
-      (u ∷ [], (vint w32 k ∷ [], (vint w32 address ∷ [], (machine (x .window), (machine (x .records), (machine (x .names), (machine (x .missing),
-      (machine (x .out), (vint w64 i ∷ [], tt)))))))))
+  values ν = (
+    u ∷ [],
+    (
+      vint w32 k ∷ [],
+      (
+        vint w32 address ∷ [],
+        (
+          machine (x .window),
+          (
+            machine (x .records),
+            (
+              machine (x .names),
+              (
+                machine (x .missing),
+                (machine (x .out), (vint w64 i ∷ [], tt)),
+              ),
+            ),
+          ),
+        ),
+      ),
+    ),
+  )
 
   module _ {M : Type 1} (𝓤 : URA M) (H : Heap 𝓤) (A : Atoms 𝓤) (mem : Memory → SProp 𝓤) (run : Routine → Fun 𝓤) (ν : ℕ) (δ : Five GName) where
     abbrev pub to-turn : RunTurn 𝓤 H A mem run .Ghost

@@ -52,14 +52,13 @@ module _ (file : List ℕ) (n : ℕ) (first : Placed) where
   rest-starts v = let e : n - 0 ≡ n = omega arith in (omega arith, ap (λ m. ahead file m 0 first) e, v)
 
   pub rest-next
-      : {at : ℕ} (k : ℕ) (p q : Placed) → k < n → at ≡ windowAddress file → Rest file n k first p → Turned (stepAt file k) at k p q
-      → Rest file n (k + 1) first q
-  rest-next k p q h a r t =
-      let e : suc (n - (k + 1)) ≡ n - k = omega arith in
-      let f : q ≡ turn (stepAt file k) (windowAddress file) k p = t .0 ∙ ap (λ x. turn (stepAt file k) x k p) a in
-      (omega arith, ap (ahead file (n - (k + 1)) (k + 1)) f ∙ ahead-more file k (n - (k + 1)) p ∙ ap (λ m. ahead file m k p) e ∙ r .1, t .1 (r .2))
+      : (k : ℕ) (p q : Placed) → k < n → Rest file n k first p → Turned (stepAt file k) (windowAddress file) k p q → Rest file n (k + 1) first q
+  rest-next k p q h r t =
+      let m = n - (k + 1) in
+      let e : suc m ≡ n - k = omega arith in
+      (omega arith, ap (ahead file m (k + 1)) (t .0) ∙ ahead-more file k m p ∙ ap (λ i. ahead file i k p) e ∙ r .1, t .1 (r .2))
 
-  pub rest-over : {m : ℕ} (k : ℕ) (p : Placed) → n ≡ m → n ≤ k → Rest file n k first p → AllRan file m first p
-  rest-over k p c h r =
+  pub rest-over : (k : ℕ) (p : Placed) → n ≤ k → Rest file n k first p → AllRan file n first p
+  rest-over k p h r =
       let e : n - k ≡ 0 = omega arith in
-      (sym (ahead-none file k p) ∙ sym (ap (λ i. ahead file i k p) e) ∙ r .1 ∙ ap (λ i. ahead file i 0 first) c, r .2)
+      (sym (ahead-none file k p) ∙ sym (ap (λ i. ahead file i k p) e) ∙ r .1, r .2)

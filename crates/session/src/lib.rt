@@ -88,7 +88,17 @@ fn run_steps(
     let mut r = new(file);
     while r.next < count {
         let step = next_step(r);
-        i = run_turn(step, r.next, address, window, records, names, missing, out, i);
+        i = run_turn(
+            step,
+            r.next,
+            address,
+            window,
+            records,
+            names,
+            missing,
+            out,
+            i,
+        );
         r = advance(r);
     }
     i
