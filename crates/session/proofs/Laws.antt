@@ -10,13 +10,10 @@ use Rattle.session_call.specs.Continues.{turn, Continues}
 use Rattle.linker_calls.specs.Steps.{left}
 use Rattle.session_step.specs.declared.Step.{Step}
 use Rattle.session_step.specs.declared.Step.the-variants.{Bad}
-use Rattle.session_head.specs.Head.{windowAddress}
-use Rattle.session_step.specs.Steps.{stepAt}
 use Rattle.session_lines.specs.Lines.{stepLine}
 use Rattle.text.specs.Text.{put}
 use Rattle.session.specs.Run.{stepOutcome, Ran}
-use Rattle.session.specs.Session.{outcomeAt}
-use Rattle.session.specs.Ahead.{Turned, ahead-more}
+use Rattle.session.specs.Ahead.{Turned}
 
 -- a call: what its contract says, and that a register stays one
 pub is-call
@@ -34,11 +31,9 @@ is-bad at b e = (rw e refl, λ v. v)
 
 -- one turn
 pub turned
-    : (file : List ℕ) (k : ℕ) (p : ℕ × List ℕ) (b : Bytes) {step : Step} {at n v : ℕ} {c : Bytes} {q : ℕ × List ℕ} → step ≡ stepAt file k
-    → at ≡ windowAddress file → Ran step at b (left n v c) → q ≡ put (stepLine (k + 1) step n v) p → Turned file k (p, b) (q, c)
-unfolding outcomeAt
-turned file k p b {step} {at} {n} {v} es ea ran f = (
-  λ m. ahead-more file k m p b (ran .0 ∙ ap (λ s. stepOutcome s at b) es ∙ ap (λ a. stepOutcome (stepAt file k) a b) ea)
-      (f ∙ ap (λ s. put (stepLine (k + 1) s n v) p) es),
+    : (step : Step) (at k : ℕ) (p : ℕ × List ℕ) (b : Bytes) {n v : ℕ} {c : Bytes} {q : ℕ × List ℕ} → Ran step at b (left n v c)
+    → q ≡ put (stepLine (k + 1) step n v) p → Turned step at k (p, b) (q, c)
+turned step at k p b ran f = (
+  λ i. ((f ∙ ap (λ (o : Outcome). put (stepLine (k + 1) step (o .number) (o .value)) p) (ran .0)) i, ran .0 i .left),
   ran .1,
 )

@@ -3,12 +3,15 @@ use Prim.Native.Nat.{ℕ, suc, _+_, _-_, _≤_, _<_}
 use mathlib.Core.Path.{_≡_, refl, sym, ap, _∙_}
 use mathlib.Core.List.{List}
 use native.Mathlib.Omega.{arith}
-use Rattle.linker.specs.Outcome.{Bytes, Outcome}
+use Rattle.linker.specs.Outcome.{Bytes}
 use Rattle.linker.specs.Valid.{Valid}
 use Rattle.text.specs.Text.{put}
 use Rattle.text.specs.Laws.{put-append}
+use Rattle.session_head.specs.Head.{windowAddress}
+use Rattle.session_step.specs.declared.Step.{Step}
 use Rattle.session_step.specs.Steps.{stepAt}
 use Rattle.session_lines.specs.Lines.{stepLine}
+use Rattle.session.specs.Run.{stepOutcome}
 use Rattle.session.specs.Session.{outcomeAt, steps}
 
 abbrev pub Placed : Type 0
@@ -17,10 +20,15 @@ Placed = (ℕ × List ℕ) × Bytes
 unfoldable pub ahead : List ℕ → ℕ → ℕ → Placed → Placed
 ahead file n k (p, b) = (put (steps file n k b .0) p, steps file n k b .1)
 
--- a step has run: the line is put, its bytes are left, and a register stays one
-abbrev pub Turned : List ℕ → ℕ → Placed → Placed → Type 0
-Turned file k before after =
-    ((n : ℕ) → ahead file n (k + 1) after ≡ ahead file (suc n) k before) × (Valid (before .1) → Valid (after .1))
+-- what the step number k, at the window's address at, prints and leaves
+abbrev pub turn : Step → ℕ → ℕ → Placed → Placed
+turn step at k (p, b) =
+    let o = stepOutcome step at b in
+    (put (stepLine (k + 1) step (o .number) (o .value)) p, o .left)
+
+-- the step has run, and a register stays one
+abbrev pub Turned : Step → ℕ → ℕ → Placed → Placed → Type 0
+Turned step at k before after = (after ≡ turn step at k before) × (Valid (before .1) → Valid (after .1))
 
 -- all of them have run
 abbrev pub AllRan : List ℕ → ℕ → Placed → Placed → Type 0
@@ -31,15 +39,9 @@ module _ (file : List ℕ) (k : ℕ) where
   unfolding ahead steps put
   ahead-none p = refl
 
-  pub ahead-more
-      : (n : ℕ) (p : ℕ × List ℕ) (b : Bytes) {o : Outcome} {q : ℕ × List ℕ} → o ≡ outcomeAt file k b
-      → q ≡ put (stepLine (k + 1) (stepAt file k) (o .number) (o .value)) p
-      → ahead file n (k + 1) (q, o .left) ≡ ahead file (suc n) k (p, b)
-  unfolding ahead steps
-  ahead-more n p b {o} {q} e f =
-      let g : q ≡ put (stepLine (k + 1) (stepAt file k) (outcomeAt file k b .number) (outcomeAt file k b .value)) p =
-      f ∙ ap (λ (x : Outcome). put (stepLine (k + 1) (stepAt file k) (x .number) (x .value)) p) e in
-      rw (g, e, put-append)
+  pub ahead-more : (n : ℕ) (p : Placed) → ahead file n (k + 1) (turn (stepAt file k) (windowAddress file) k p) ≡ ahead file (suc n) k p
+  unfolding ahead steps outcomeAt
+  ahead-more n p = rw put-append
 
 -- step k is next of n, and what is left of them gives what all of them give
 abbrev pub Rest : List ℕ → ℕ → ℕ → Placed → Placed → Type 0
@@ -49,12 +51,14 @@ module _ (file : List ℕ) (n : ℕ) (first : Placed) where
   pub rest-starts : Valid (first .1) → Rest file n 0 first first
   rest-starts v = let e : n - 0 ≡ n = omega arith in (omega arith, ap (λ m. ahead file m 0 first) e, v)
 
-  pub rest-next : (k : ℕ) (p q : Placed) → k < n → Rest file n k first p → Turned file k p q → Rest file n (k + 1) first q
+  pub rest-next
+      : (k : ℕ) (p q : Placed) → k < n → Rest file n k first p → Turned (stepAt file k) (windowAddress file) k p q → Rest file n (k + 1) first q
   rest-next k p q h r t =
-      let e : suc (n - (k + 1)) ≡ n - k = omega arith in
-      (omega arith, t .0 (n - (k + 1)) ∙ ap (λ m. ahead file m k p) e ∙ r .1, t .1 (r .2))
+      let m = n - (k + 1) in
+      let e : suc m ≡ n - k = omega arith in
+      (omega arith, ap (ahead file m (k + 1)) (t .0) ∙ ahead-more file k m p ∙ ap (λ i. ahead file i k p) e ∙ r .1, t .1 (r .2))
 
-  pub rest-over : {m : ℕ} (k : ℕ) (p : Placed) → n ≡ m → n ≤ k → Rest file n k first p → AllRan file m first p
-  rest-over k p c h r =
+  pub rest-over : (k : ℕ) (p : Placed) → n ≤ k → Rest file n k first p → AllRan file n first p
+  rest-over k p h r =
       let e : n - k ≡ 0 = omega arith in
-      (sym (ahead-none file k p) ∙ sym (ap (λ i. ahead file i k p) e) ∙ r .1 ∙ ap (λ i. ahead file i 0 first) c, r .2)
+      (sym (ahead-none file k p) ∙ sym (ap (λ i. ahead file i k p) e) ∙ r .1, r .2)

@@ -19,7 +19,9 @@ use session_head::window_bytes;
 use session_lines::put_step;
 use session_register::put_register;
 use session_step::Step;
-use session_step::read_step;
+use session_step::advance;
+use session_step::new;
+use session_step::next_step;
 use text::put_decimal;
 use text::put_text;
 
@@ -44,28 +46,28 @@ fn run_step(
     }
 }
 
-// Runs step k and puts its line.
-fn run_turn(
-    file: &[u8],
+// Runs a step, number k, and puts its line.
+fn run_turn<'a>(
+    step: Step,
     k: u32,
-    window: &mut [u8],
-    records: &mut [u8],
-    names: &mut [u8],
-    missing: &mut [u8],
-    out: &mut [u8],
+    address: u32,
+    window: &'a mut [u8],
+    records: &'a mut [u8],
+    names: &'a mut [u8],
+    missing: &'a mut [u8],
+    out: &'a mut [u8],
     at: usize,
 ) -> usize
     requires { ⌜ k < 64 ⌝ }
-    ensures { λ r. ⌜ Turned (now (file .entry)) k
+    ensures { λ r. ⌜ Turned step address k
         ((at, now (out .entry)), lent (now (window .entry)) (now (records .entry)) (now (names .entry)) (now (missing .entry)))
         ((r, now (out .exit)), lent (now (window .exit)) (now (records .exit)) (now (names .exit)) (now (missing .exit))) ⌝ }
 {
-    let step = read_step(file, k);
-    let answered = run_step(step, window_address(file), window, records, names, missing);
+    let answered = run_step(step, address, window, records, names, missing);
     put_step(out, at, k + 1, step, answered.number, answered.value)
 }
 
-// Runs all steps and puts their lines.
+// Runs all steps, as the reader goes from one to the next, and puts their lines.
 fn run_steps(
     file: &[u8],
     window: &mut [u8],
@@ -81,11 +83,23 @@ fn run_steps(
         ((r, now (out .exit)), lent (now (window .exit)) (now (records .exit)) (now (names .exit)) (now (missing .exit))) ⌝ }
 {
     let count = step_count(file);
+    let address = window_address(file);
     let mut i = at;
-    let mut k: u32 = 0;
-    while k < count {
-        i = run_turn(file, k, window, records, names, missing, out, i);
-        k += 1;
+    let mut r = new(file);
+    while r.next < count {
+        let step = next_step(r);
+        i = run_turn(
+            step,
+            r.next,
+            address,
+            window,
+            records,
+            names,
+            missing,
+            out,
+            i,
+        );
+        r = advance(r);
     }
     i
 }

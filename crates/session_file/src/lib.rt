@@ -5,7 +5,9 @@ use session_head::are_parts_inside;
 use session_head::in_limits;
 use session_head::step_count;
 use session_step::Step;
-use session_step::read_step;
+use session_step::advance;
+use session_step::new;
+use session_step::next_step;
 
 fn is_step(step: Step) -> bool
     ensures { λ r. ⌜ r ≡ isStep step ⌝ }
@@ -16,16 +18,16 @@ fn is_step(step: Step) -> bool
     }
 }
 
-// Whether the first `count` steps are calls.
+// Whether the first `count` steps are calls: the reader goes through them.
 fn are_steps(file: &[u8], count: u32) -> bool
     ensures { λ r. ⌜ r ≡ areSteps (now (file .entry)) count ⌝ }
 {
-    let mut k: u32 = 0;
-    while k < count {
-        if !is_step(read_step(file, k)) {
+    let mut r = new(file);
+    while r.next < count {
+        if !is_step(next_step(r)) {
             return false;
         }
-        k += 1;
+        r = advance(r);
     }
     true
 }

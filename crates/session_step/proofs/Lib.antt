@@ -1,2 +1,3 @@
 -- What the proofs of `session_step` share.
 pub mod Laws
+pub mod Reading

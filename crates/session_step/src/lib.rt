@@ -1,6 +1,7 @@
 // The steps of a session file: one step, and the reader that goes from step to step.
 ghost use mathlib.Core.Path.{_≡_};
 ghost use mathlib.Core.List.{[], _∷_};
+ghost use Prim.Native.Nat.{_+_, _<_, _^_};
 ghost use Rattle.register.specs.Words.{allZero};
 ghost use Rattle.session_step.specs.Steps.{stepOf, stepAt};
 use linker::call::Call;
@@ -88,16 +89,6 @@ pub fn new<'a>(file: &'a [u8]) -> Reader<'a>
     Reader { file, next: 0 }
 }
 
-// The reader at step k.
-pub fn moved<'a>(r: Reader<'a>, k: u32) -> Reader<'a>
-    ensures { λ q. ⌜ (q .file ≡ r .entry .file) × (q .next ≡ k) ⌝ }
-{
-    Reader {
-        file: r.file,
-        next: k,
-    }
-}
-
 // The step that the reader stands at.
 pub fn next_step<'a>(r: Reader<'a>) -> Step
     ensures { λ s. ⌜ s ≡ stepAt (now (r .entry .file)) (r .entry .next) ⌝ }
@@ -105,9 +96,13 @@ pub fn next_step<'a>(r: Reader<'a>) -> Step
     step_at(r.file, r.next)
 }
 
-// Step number k, through the reader: for callers that hold the file and a number.
-pub fn read_step(file: &[u8], k: u32) -> Step
-    ensures { λ r. ⌜ r ≡ stepAt (now (file .entry)) k ⌝ }
+// The reader at the step after.
+pub fn advance<'a>(r: Reader<'a>) -> Reader<'a>
+    requires { ⌜ r .next + 1 < 2 ^ 32 ⌝ }
+    ensures { λ q. ⌜ (q .file ≡ r .entry .file) × (q .next ≡ r .entry .next + 1) ⌝ }
 {
-    next_step(moved(new(file), k))
+    Reader {
+        file: r.file,
+        next: r.next + 1,
+    }
 }

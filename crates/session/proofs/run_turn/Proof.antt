@@ -6,15 +6,7 @@ use Rattle.session.proofs.run_turn.Tie as tie
 use Rattle.session.proofs.run_turn.Reads as reads
 use Rattle.session.proofs.run_turn.Lts as lts
 use Rattle.session.proofs.run_step.Reads as run-step-reads
-use Rattle.session_step.proofs.read_step.Reads as read-step-reads
-use Rattle.session_head.proofs.window_address.Reads as window-address-reads
 use Rattle.session_lines.proofs.put_step.Reads as put-step-reads
-
-read-step-requires : tie.Need-read-step-requires
-read-step-requires c κs = search needs
-
-window-address-requires : tie.Need-window-address-requires
-window-address-requires c κs = search needs
 
 run-step-requires : tie.Need-run-step-requires
 run-step-requires c κs = search needs
@@ -44,18 +36,14 @@ returns : tie.Need-returns
 returns c =
     let p2 = c .before .before in
     let p12 = p2 .before .before .before .before .before .before .before .before .before .before in
-    let p17 = p12 .before .before .before .before .before in
-    let p18 = p17 .before in
-    let a = p18 .before .before .before .before .before .before .before .args in
-    turned (a .file .now) (a .k) (a .at, a .out .now) (lent (a .window .now) (a .records .now) (a .names .now) (a .missing .now))
-    (p18 .read-step .ensures) (p17 .window-address .ensures) (p12 .run-step .ensures) (p2 .put-step .ensures)
+    let a = p12 .before .before .before .before .before .before .before .before .before .before .args in
+    turned (a .step) (a .address) (a .k) (a .at, a .out .now) (lent (a .window .now) (a .records .now) (a .names .now) (a .missing .now))
+    (p12 .run-step .ensures) (p2 .put-step .ensures)
 
 pub run-turn-spec : {M : Type 1} → statement M
 run-turn-spec =
     tie.close
     (tie.spec
-    read-step-requires
-    window-address-requires
     run-step-requires
     add-put-step
     put-step-requires
