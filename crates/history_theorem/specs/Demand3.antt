@@ -143,6 +143,10 @@ promised-follows t h =
       kept = λ k. (k .0 ∙ sym records, k .1 ∙ sym names, k .2 ∙ sym missing);
     }
 
--- any two sessions of a linker that meets the exported contracts
+-- of every linker that gives document 01's outcomes, whatever order of named exports it has
+pub demand3-follows : Demand3 Follows
+demand3-follows = demand3-of Follows (λ t h. h)
+
+-- of a linker that meets the exported contracts
 pub demand3 : Demand3 Promised
 demand3 = demand3-of Promised promised-follows
