@@ -12,6 +12,7 @@ use Rattle.window.specs.Within.{Agree}
 use Rattle.register.specs.declared.words.Crs.the-variants.{Unknown}
 use Rattle.linker.specs.declared.call.Call.{Call}
 use Rattle.linker.specs.declared.call.Call.the-variants.{Initialize, Load, Unload}
+use Rattle.linker.specs.Calls.{BadWindow, NoRegister, number}
 use Rattle.linker.specs.Outcome.{Bytes, Outcome, initializeOutcome, loadOutcome, unloadOutcome}
 use Rattle.linker.specs.Refusals.{lentRegister}
 use Rattle.linker.specs.Valid.{AreBytes}
@@ -42,7 +43,7 @@ done t = eqb (expected t .number) 0
 
 -- lent a window or a register that breaks its rule: 3 or 4
 unfoldable pub unfit : Turn → Bool
-unfit t = eqb (expected t .number) 3 || eqb (expected t .number) 4
+unfit t = eqb (expected t .number) (number BadWindow) || eqb (expected t .number) (number NoRegister)
 
 -- the calls lent a window and a register that keep their rules: these are the session's own
 unfoldable pub own : List Turn → List Turn
@@ -111,7 +112,7 @@ module _ (at : ℕ) where
     pub length-kept : length (left .window) ≡ length (got .window)
     pub areas-kept : Agree (Areas (arrived ts)) (byteAt at (left .window)) (byteAt at (got .window))
 
-  -- what the next call may be lent, after its own calls ts
+  -- what the next call may be lent, after the session's own calls ts
   unfoldable pub Lends : List Turn → Bytes → Type 0
   Lends [] b = Fresh b
   Lends (t ∷ ts) b = Between (t ∷ ts) (after t) b

@@ -29,7 +29,7 @@ use Rattle.linker.specs.Fix.{fix}
 use Rattle.linker.specs.Unrebase.{unrebase}
 use Rattle.linker.specs.Calls as calls
 use Rattle.linker.specs.Calls.{Answer, NotACro, BadSegment, BadWindow, NoRegister, NoRoom, Kept, Done, number, rebase, rebaseStatic, fits, enter, initialized, listed, linked, unknown, stands, firstWithBase, unlisted, leave}
-use Rattle.linker.specs.Outcome.{Bytes, registerAfter, settle, outcome, initializeOutcome, loadOutcome, unloadOutcome}
+use Rattle.linker.specs.Outcome.{Bytes, registerAfter, settle, outcome}
 use Rattle.linker.specs.Refusals.{lentRegister}
 use Rattle.linker.specs.Gives.{Gives, gives-run, gives-then, gives-if}
 use Rattle.linker.specs.Valid.{Valid}

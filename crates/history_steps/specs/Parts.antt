@@ -1,22 +1,20 @@
 -- Where the bytes that are read stand: in a part of the image, and neither in a relocated word, nor a mark, nor the list words.
-use Prim.Native.Nat.{ℕ, zero, suc, _+_, _*_, _^_, _≤_, _<_}
+use Prim.Native.Nat.{ℕ, suc, _+_, _*_, _≤_, _<_}
 use mathlib.Core.Path.{_≡_, refl, sym, ap, _∙_}
 use mathlib.Core.Logic.{_≢_, _⊎_, inl, inr}
 use mathlib.Core.Bool.{Bool, true, false, not, _||_}
 use native.Mathlib.Omega.{arith}
 use native.Mathlib.Nat.{mul-le-mul-right, suc-mul, zero-mul}
 use native.Mathlib.Decide.{decLt}
-use lib.ListN.{length}
 use lib.Dec.{eqb, lit<}
 use Rattle.window.specs.Memory.{if_then_else_}
 use Rattle.window.specs.Within.{In}
-use Rattle.layout.specs.Header.{headerSize}
 use Rattle.history.specs.Below.{AllBelow, below}
-use Rattle.history.specs.Image.{Table, tables, segments, namedExports, indexedExports, exportTree, moduleEntries, externals, namedImports, indexedImports, anonymousImports, staticAnonymous, staticRelocations, start, count, entry}
+use Rattle.history.specs.Image.{Table, tables, exportTree, externals, staticAnonymous, staticRelocations, start, count, entry}
 use Rattle.history.specs.Arrival.{Image, baseOf, sizeOf, Area}
-use Rattle.history.specs.Imports.{Import, named, indexed, anonymous, importTable, importNumber, importEntry, IsImport}
-use Rattle.history.specs.WellLaid.{Part, header, table, string, tableNumber, Pointer, InString, InPart, Asked, Touched, LaidAlone, Relocated, WordAt, WellLaid}
-use Rattle.history_steps.specs.View.{Pointing, name-field, table-field, export-name, import-name, import-batch, entry-name, entry-indexed, entry-anonymous, Plain, handler-tag, table-count, export-tag, indexed-tag, import-index, import-tag, indexed-count, anonymous-count, relocation-tag, relocation-addend, PlainByte, relocation-kind, relocation-end, string-byte, Seen, pointing, plain, byte, segment}
+use Rattle.history.specs.Imports.{Import, named, indexed, anonymous, importTable, importEntry}
+use Rattle.history.specs.WellLaid.{Part, header, table, string, tableNumber, Pointer, InString, InPart, Asked, Touched, Relocated, WordAt, WellLaid}
+use Rattle.history_steps.specs.View.{Pointing, name-field, table-field, export-name, import-name, import-batch, entry-name, entry-indexed, entry-anonymous, Plain, handler-tag, table-count, export-tag, indexed-tag, import-index, import-tag, indexed-count, anonymous-count, relocation-tag, relocation-addend, relocation-kind, relocation-end, string-byte, Seen, pointing, plain, byte, segment}
 
 -- the nine tables' fields stand in the header past the list words
 pub field-bounds : (n : ℕ) → n < 9 → (0xc8 ≤ tableNumber n .field) × (tableNumber n .field + 8 ≤ 0x118)

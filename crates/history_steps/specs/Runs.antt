@@ -1,29 +1,27 @@
 -- The imports of one module entry: two runs of the header's tables, each import linked or unlinked in turn.
-use Prim.Native.Nat.{ℕ, zero, suc, _+_, _*_, _%_, _^_, _≤_, _<_}
+use Prim.Native.Nat.{ℕ, _+_, _*_, _≤_, _<_}
 use mathlib.Core.Path.{_≡_, refl, sym, ap, _∙_}
 use mathlib.Core.Logic.{_≢_, _⊎_, inl, inr}
-use mathlib.Core.Option.{Option, some, none}
-use mathlib.Core.Bool.{Bool, true, false}
+use mathlib.Core.Option.{Option, none}
+use mathlib.Core.Bool.{true, false}
 use native.Mathlib.Omega.{arith}
-use native.Mathlib.Decide.{ℕ-discrete}
 use lib.ListN.{length}
-use lib.Dec.{eqb, lit<}
+use lib.Dec.{lit<}
 use Rattle.window.specs.Memory.{if_then_else_, _⊕_}
-use Rattle.window.specs.Access.{Prog, ret, _>>=_, _>>_, get32}
+use Rattle.window.specs.Access.{get32}
 use Rattle.window.specs.Loop.{loop}
 use Rattle.window.specs.Within.{Low}
 use Rattle.window.specs.Mirror.{word}
 use Rattle.layout.specs.Segments.{entryAt}
 use Rattle.register_read.specs.declared.Symbol.{Symbol}
-use Rattle.linker.specs.Imports.{isUnresolved, resolve, importFrom}
+use Rattle.linker.specs.Imports.{isUnresolved, importFrom}
 use Rattle.linker.specs.Resets.{resetAt}
-use Rattle.history.specs.Image.{Table, tables, moduleEntries, indexedImports, anonymousImports, externals, start, count, entry}
-use Rattle.history.specs.Arrival.{Image, baseOf, sizeOf, movedOffset, handler, Area}
-use Rattle.history.specs.Imports.{Import, named, indexed, anonymous, importTable, importNumber, importEntry, IsImport, wanted, batch, runStart, runCount, InRun, BatchOf}
-use Rattle.history.specs.WellLaid.{Asked, table, tableNumber, WellLaid}
-use Rattle.history_steps.specs.Wp.{Memory, Does, Reads, does-mono, does-ret, does-then, does-read, reads-get32}
-use Rattle.history_steps.specs.View.{View, import-index, import-tag, entry-indexed, entry-anonymous, indexed-count, anonymous-count}
-use Rattle.history_steps.specs.Parts.{part-inside, entry-in-table}
+use Rattle.history.specs.Image.{tables, moduleEntries, indexedImports, anonymousImports, externals, start, count, entry}
+use Rattle.history.specs.Arrival.{Image, baseOf, movedOffset, handler, Area}
+use Rattle.history.specs.Imports.{Import, indexed, anonymous, importTable, importNumber, importEntry, IsImport, wanted, batch, runStart, runCount, InRun, BatchOf}
+use Rattle.history.specs.WellLaid.{Asked, tableNumber, WellLaid}
+use Rattle.history_steps.specs.Wp.{Memory, Does, does-mono, does-read, reads-get32}
+use Rattle.history_steps.specs.View.{View, import-index, import-tag}
 use Rattle.history_steps.specs.Shows.{shows-view}
 use Rattle.history_steps.specs.Reading.{plain-sum, four-at, moved-sum}
 use Rattle.history_steps.specs.Links.{Links, relink, relink-same, relink-other, isSome, Stands}

@@ -1,8 +1,7 @@
 -- A standing module's bytes: relocated words by their symbols, marks, the two list words, and all others as they were left at rest.
-use Prim.Native.Nat.{ℕ, zero, suc, _+_, _-_, _*_, _%_, _^_, _≤_, _<_}
+use Prim.Native.Nat.{ℕ, zero, suc, _+_, _-_, _%_, _≤_, _<_}
 use mathlib.Core.Path.{_≡_, refl, sym, ap, _∙_}
-use mathlib.Core.Logic.{_≢_, _⊎_, inl, inr}
-use mathlib.Core.Bool.{Bool, true, false}
+use mathlib.Core.Logic.{_≢_}
 use native.Mathlib.Omega.{arith}
 use native.Mathlib.Decide.{decLt, ℕ-discrete}
 use lib.Dec.{eqb, lit<}
@@ -19,8 +18,8 @@ use Rattle.layout.specs.declared.segments.Address.{Address}
 use Rattle.layout.specs.declared.segments.Address.the-variants.{At, Nowhere}
 use Rattle.linker.specs.Relocation.{addressOr0}
 use Rattle.history.specs.Image.{tables, externals, count, entry, tag, kind, addend}
-use Rattle.history.specs.Arrival.{Image, baseOf, sizeOf, address, Area}
-use Rattle.history.specs.WellLaid.{header, table, InPart, Touched, Relocated, external, internal, WordAt, Writes, WellLaid}
+use Rattle.history.specs.Arrival.{Image, baseOf, address, Area}
+use Rattle.history.specs.WellLaid.{header, table, InPart, Touched, Relocated, external, internal, WordAt, WellLaid}
 use Rattle.history_steps.specs.Wp.{Memory}
 use Rattle.history_steps.specs.View.{Seen, View, view-agree}
 use Rattle.history_steps.specs.Parts.{touched-other, Spot, spot, spot-inside, spot-no-mark, spot-no-list, spot-no-word, image-area, part-inside, external-part, past-header, sort}

@@ -1,24 +1,15 @@
 -- What a rebased module shows to the steps that only read it: the bytes that they read, and what they say.
-use Prim.Native.Nat.{ℕ, zero, suc, _+_, _*_, _%_, _^_, _≤_, _<_}
-use mathlib.Core.Path.{_≡_, refl, sym, ap, _∙_}
-use mathlib.Core.Logic.{_≢_, _⊎_, inl, inr}
-use mathlib.Core.List.{List, [], _∷_}
-use mathlib.Core.Bool.{Bool, true, false}
+use Prim.Native.Nat.{ℕ, _+_, _<_}
+use mathlib.Core.Path.{_≡_, sym, ap, _∙_}
+use mathlib.Core.Logic.{_≢_}
 use native.Mathlib.Omega.{arith}
-use native.Mathlib.Decide.{decLe, decLt, ℕ-discrete}
-use lib.ListN.{length, getD}
-use lib.Dec.{eqb, ltb, lit<}
-use borrow.Author.Tests.{eq-eqb, ne-eqb, lt-ltb, le-ltb}
-use Rattle.window.specs.Memory.{if_then_else_, _⊕_}
-use Rattle.window.specs.Within.{In, Four, Agree}
 use Rattle.window.specs.Mirror.{word, word-same}
-use Rattle.layout.specs.Header.{headerSize, moduleNameOffset, onUnresolvedSegmentTag}
+use Rattle.layout.specs.Header.{moduleNameOffset, onUnresolvedSegmentTag}
 use Rattle.layout.specs.Format.{segmentType}
-use Rattle.layout.specs.declared.format.Segment.{Segment}
-use Rattle.history.specs.Image.{Table, tables, segments, namedExports, indexedExports, moduleEntries, externals, namedImports, indexedImports, anonymousImports, start, count, entry, fileSegment}
-use Rattle.history.specs.Arrival.{Image, baseOf, sizeOf, movedOffset, segmentPlace, Area}
-use Rattle.history.specs.Imports.{Import, named, indexed, anonymous, importTable, importNumber, importEntry, IsImport}
-use Rattle.history.specs.WellLaid.{Part, header, table, string, tableNumber, Pointer, of-module, of-export, of-import, of-entry, InString, InPart, Asked, LaidAlone, WellLaid}
+use Rattle.history.specs.Image.{segments, namedExports, indexedExports, moduleEntries, externals, namedImports, indexedImports, anonymousImports, count, entry, fileSegment}
+use Rattle.history.specs.Arrival.{Image, baseOf, movedOffset, segmentPlace}
+use Rattle.history.specs.Imports.{Import, indexed, anonymous, importEntry, IsImport}
+use Rattle.history.specs.WellLaid.{tableNumber, Pointer, InString, Asked}
 use Rattle.history_steps.specs.Wp.{Memory}
 
 -- the words that a rebase moves and later steps read: in the header, the name's and those of the nine tables they use; the tables' pointers

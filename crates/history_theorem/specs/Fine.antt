@@ -1,5 +1,5 @@
 -- What the premises say of the modules that stand, after calls on the session's own window.
-use Prim.Native.Nat.{ℕ, _+_, _^_, _≤_}
+use Prim.Native.Nat.{_+_, _^_, _≤_}
 use mathlib.Core.Path.{_≡_, subst}
 use mathlib.Core.List.{List, _∷_}
 use lib.ListN.{length}

@@ -7,7 +7,8 @@ use native.Mathlib.Omega.{arith}
 use lib.Dec.{eqb}
 use borrow.Author.Tests.{eqb-true}
 use Rattle.window.specs.Memory.{if_then_else_}
-use Rattle.history.specs.Arrival.{Image, Arrival, imageOf}
+use Rattle.linker.specs.Calls.{number}
+use Rattle.history.specs.Arrival.{Image, imageOf}
 use Rattle.history.specs.Sessions.{Turn, expected, Typed, done, unfit, own, brought, arrived, stay, standing, Lends, Next, Trace}
 use Rattle.history.specs.Outcomes.{Gave, Made, Follows}
 use Rattle.history.specs.Below.{Each, Pairs}
@@ -17,7 +18,7 @@ use Rattle.history_theorem.specs.Theorem.{OwnCalls, none, first, next}
 
 -- 3 and 4 are refusals
 unfit-refused : (t : Turn) → unfit t ≡ true → done t ≡ false
-unfolding unfit done
+unfolding unfit done number
 unfit-refused t = go (expected t .number) (eqb (expected t .number) 3) refl (eqb (expected t .number) 4) refl
   where
     go : (n : ℕ) (a : Bool) → eqb n 3 ≡ a → (b : Bool) → eqb n 4 ≡ b → (a || b) ≡ true → eqb n 0 ≡ false

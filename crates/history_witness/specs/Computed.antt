@@ -12,7 +12,7 @@ use Rattle.history.specs.Sessions.{given}
 use Rattle.history.specs.Windows.{program}
 use Rattle.history_witness.specs.Image.{zeros, cro, join, c-words, m-words, n-words, change, c-rebased, c-linked, m-loaded, m-linked, n-loaded, lent-words, page}
 use Rattle.history_witness.specs.Open.{opened}
-use Rattle.history_witness.specs.Behind.{at, bt, ahead, lies, tried, Tried, stored, given-behind}
+use Rattle.history_witness.specs.PageBefore.{at, bt, lentPageBefore, lies, tried, Tried, stored, given-pageBefore}
 
 -- the pages: at first; after `initialize`; after the load of `m`; after the load of `n`
 abbrev pub page₀ : ℕ → List ℕ
@@ -68,7 +68,7 @@ n-module =
 abbrev pub register : List Module → List (List ℕ) → Register
 register ms missing = record { modules = ms; crs = Known 0x100000; missing = missing }
 
--- a window, and a register in so many bytes of records and names: none yet, or one that stands
+-- a window, and a zeroed register in so many bytes of records and names
 abbrev pub fresh : ℕ → ℕ → List ℕ → Bytes
 fresh records names w =
     record { window = w; records = zeros records; names = zeros names; missing = zeros 32896 }
@@ -132,7 +132,7 @@ done value b = record { number = 0; value = value; left = b }
 abbrev pub refused : ℕ → Bytes → Outcome
 refused number b = record { number = number; value = 0; left = b }
 
--- written out
+-- the images' words and pages, to be unfolded by one name
 unfoldable pub shown : Unit {0}
 unfolding join c-words m-words n-words change c-rebased c-linked m-loaded m-linked n-loaded lent-words page
 shown = tt
@@ -190,14 +190,14 @@ r₄ : Tried (Unload 0x100420) d₃ 512 64 1 (register (c-module ∷ m-module �
 unfolding opened shown tried lies program
 r₄ = record { whole = refl; records-are = refl; names-are = refl; valid = refl; leads = refl }
 
-pub q₁ : given (Initialize 0x100000 0x178) bt (ahead d₀) ≡ done 0 (ahead d₁)
-q₁ = given-behind (Initialize 0x100000 0x178) d₀ r₁
+pub q₁ : given (Initialize 0x100000 0x178) bt (lentPageBefore d₀) ≡ done 0 (lentPageBefore d₁)
+q₁ = given-pageBefore (Initialize 0x100000 0x178) d₀ r₁
 
-pub q₂ : given (Load (small 0x100420 0x168) 1 0) bt (ahead d₁) ≡ done 0 (ahead d₂)
-q₂ = given-behind (Load (small 0x100420 0x168) 1 0) d₁ r₂
+pub q₂ : given (Load (small 0x100420 0x168) 1 0) bt (lentPageBefore d₁) ≡ done 0 (lentPageBefore d₂)
+q₂ = given-pageBefore (Load (small 0x100420 0x168) 1 0) d₁ r₂
 
-pub q₃ : given (Load large 2 1) bt (ahead d₂) ≡ done 0x210 (ahead d₃)
-q₃ = given-behind (Load large 2 1) d₂ r₃
+pub q₃ : given (Load large 2 1) bt (lentPageBefore d₂) ≡ done 0x210 (lentPageBefore d₃)
+q₃ = given-pageBefore (Load large 2 1) d₂ r₃
 
-pub q₄ : given (Unload 0x100420) bt (ahead d₃) ≡ done 1 (ahead d₄)
-q₄ = given-behind (Unload 0x100420) d₃ r₄
+pub q₄ : given (Unload 0x100420) bt (lentPageBefore d₃) ≡ done 1 (lentPageBefore d₄)
+q₄ = given-pageBefore (Unload 0x100420) d₃ r₄

@@ -1,25 +1,27 @@
--- A load that patches the first entry of a named import's batch alone and marks the batch as resolved: the definition's steps, by
--- their own names, but for the walk of one entry.
+-- A load that patches the first entry of each batch alone and marks the batch as resolved: the definition's steps, by their own names,
+-- but for the walk of one entry in `resolve`.
 use Prim.Native.Nat.{ℕ}
 use mathlib.Core.List.{List, [], _∷_}
+use mathlib.Core.Option.{Option, some, none}
 use mathlib.Core.Bool.{Bool, not}
 use lib.Dec.{eqb}
 use Rattle.window.specs.Memory.{if_then_else_, _⊕_}
-use Rattle.window.specs.Access.{Prog, ret, _>>=_, _>>_, get32, put8}
+use Rattle.window.specs.Access.{Prog, ret, get32, put8, _>>=_, _>>_}
 use Rattle.window.specs.Loop.{loop}
 use Rattle.name.specs.Name.{nameAt}
-use Rattle.layout.specs.Header.{importNamedSymbolTableOffset, importNamedSymbolNum, importNamedSymbolEntrySize, importModuleTableOffset, importModuleNum, importModuleEntrySize}
+use Rattle.layout.specs.Header.{importNamedSymbolTableOffset, importNamedSymbolNum, importNamedSymbolEntrySize, importModuleTableOffset, importModuleNum, importModuleEntrySize, importIndexedSymbolEntrySize, importAnonymousSymbolEntrySize}
 use Rattle.layout.specs.Segments.{field, entryAt}
 use Rattle.register.specs.Module.{Module, Register}
 use Rattle.register.specs.Change.{appended}
-use Rattle.register_read.specs.Read.{lookupIn, exportOf}
+use Rattle.register.specs.Words.{same}
+use Rattle.register_read.specs.Read.{lookupIn, exportOf, entryOf}
 use Rattle.register_read.specs.declared.Symbol.{Symbol}
 use Rattle.register_read.specs.declared.Symbol.the-variants.{At, Nothing}
 use Rattle.linker.specs.declared.rebase.Lent.{Lent}
 use Rattle.linker.specs.declared.call.Call.{Call}
 use Rattle.linker.specs.declared.call.Call.the-variants.{Initialize, Load, Unload}
 use Rattle.linker.specs.Relocation.{walk}
-use Rattle.linker.specs.Imports.{isUnresolved, noted, applyModuleImports, serveModule}
+use Rattle.linker.specs.Imports.{anonymousOf, isUnresolved, noted, moduleByName}
 use Rattle.linker.specs.Fix.{fix}
 use Rattle.linker.specs.Calls.{Answer, Done, rebase, enter, listed, missingNow}
 use Rattle.linker.specs.Outcome.{Bytes, Outcome, outcome}
@@ -48,6 +50,39 @@ applyImportNamedSymbols ms base missing = do
   count ← field base importNamedSymbolNum
   loop (λ i xs. importNamed ms base (entryAt table i importNamedSymbolEntrySize) xs) 0 count missing
 
+unfoldable pub importFrom : (ℕ → Symbol) → ℕ → ℕ → Prog (Unit {0})
+importFrom symbol base entry = do
+  x ← get32 entry
+  batch ← get32 (entry ⊕ 4)
+  unresolved ← isUnresolved batch
+  if unresolved then resolve base batch (symbol x) else ret tt
+
+unfoldable pub linkFrom : Option Module → ℕ → ℕ → ℕ → ℕ → ℕ → Prog (Unit {0})
+linkFrom none base indexed n anonymous m = ret tt
+linkFrom (some source) base indexed n anonymous m = do
+  loop (λ i _. importFrom (entryOf (source .indexed)) base (entryAt indexed i importIndexedSymbolEntrySize)) 0 n tt
+  loop (λ i _. importFrom (anonymousOf source) base (entryAt anonymous i importAnonymousSymbolEntrySize)) 0 m tt
+
+unfoldable pub importsOf : Option Module → ℕ → ℕ → Prog (Unit {0})
+importsOf source base entry = do
+  indexed ← get32 (entry ⊕ 4)
+  n ← get32 (entry ⊕ 8)
+  anonymous ← get32 (entry ⊕ 12)
+  m ← get32 (entry ⊕ 16)
+  linkFrom source base indexed n anonymous m
+
+unfoldable pub importModule : List Module → ℕ → ℕ → Prog (Unit {0})
+importModule ms base entry = do
+  p ← get32 entry
+  name ← nameAt p
+  importsOf (moduleByName ms name) base entry
+
+unfoldable pub applyModuleImports : List Module → ℕ → Prog (Unit {0})
+applyModuleImports ms base = do
+  table ← field base importModuleTableOffset
+  count ← field base importModuleNum
+  loop (λ i _. importModule ms base (entryAt table i importModuleEntrySize)) 0 count tt
+
 unfoldable pub serveNamed : Module → ℕ → ℕ → Prog (Unit {0})
 serveNamed new base entry = do
   batch ← get32 (entry ⊕ 4)
@@ -56,6 +91,12 @@ serveNamed new base entry = do
     p ← get32 entry
     name ← nameAt p
     resolve base batch (exportOf new name)) else ret tt
+
+unfoldable pub serveModule : Module → ℕ → ℕ → Prog (Unit {0})
+serveModule new base entry = do
+  p ← get32 entry
+  name ← nameAt p
+  if same name (new .name) then importsOf (some new) base entry else ret tt
 
 unfoldable pub serve : Module → ℕ → Prog (Unit {0})
 serve new base = do
@@ -91,7 +132,9 @@ firstEntryOnly (Initialize base size) at b = given (Initialize base size) at b
 firstEntryOnly (Load l auto level) at b = outcome (load l (not (eqb auto 0)) level) at b
 firstEntryOnly (Unload base) at b = given (Unload base) at b
 
--- all of it, to be unfolded as one
+-- all of it, to be unfolded by one name
 unfoldable pub firstEntrySteps : Unit {0}
-unfolding resolve importNamed applyImportNamedSymbols serveNamed serve applyExportsToLoaded linked load firstEntryOnly
+unfolding
+    resolve importNamed applyImportNamedSymbols importFrom linkFrom importsOf importModule applyModuleImports serveNamed serveModule serve
+    applyExportsToLoaded linked load firstEntryOnly
 firstEntrySteps = tt

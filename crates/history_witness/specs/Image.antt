@@ -182,7 +182,7 @@ n-loaded =
 unfoldable pub lent-words : ℕ → ℕ → List ℕ
 lent-words indexed anonymous = indexed ∷ 0 ∷ 0 ∷ 0 ∷ 0 ∷ anonymous ∷ 0 ∷ 0 ∷ []
 
--- one page: the three images, what is lent to `m`, and a magic word with only zeros behind it
+-- one page: the three images, what is lent to `m`, and a magic word with only zeros pageBefore it
 unfoldable pub page : List ℕ → List ℕ → List ℕ → List ℕ → List ℕ
 page c m n lent =
     flat (join (c ∷ zeros 0x22 ∷ m ∷ zeros 4 ∷ n ∷ zeros 6 ∷ lent ∷ zeros 8 ∷ (cro ∷ []) ∷ zeros 0x287 ∷ []))

@@ -1,4 +1,4 @@
--- What the sessions reach, item by item: the words are those that antt computes.
+-- What the two sessions reach, as ten numbered items; every word named is one that antt computes.
 use Prim.Native.Nat.{ℕ, _+_}
 use mathlib.Core.Path.{_≡_, refl, ap}
 use mathlib.Core.Logic.{_≢_}
@@ -7,11 +7,13 @@ use mathlib.Core.Bool.{true, _||_}
 use native.Mathlib.Omega.{arith}
 use lib.Dec.{eqb}
 use Rattle.window.specs.Memory.{_⊕_, _⊖_, wordAt}
+use Rattle.window.specs.Mirror.{word}
 use Rattle.layout.specs.declared.format.SegmentType.the-variants.{Data, Bss}
 use Rattle.layout.specs.declared.segments.FoundSegment.the-variants.{Found}
 use Rattle.layout.specs.declared.segments.Address.the-variants.{At, Nowhere}
+use Rattle.linker.specs.Calls.{number}
 use Rattle.linker.specs.declared.call.Call.the-variants.{Load}
-use Rattle.history.specs.Image.{externals, moduleName, tag, kind}
+use Rattle.history.specs.Image.{indexedExports, externals, entry, moduleName, tag, kind}
 use Rattle.history.specs.Arrival.{address, handler, oldPlace, placedSegment, exportOf, indexedOf, anonymousOf}
 use Rattle.history.specs.Imports.{named, indexed, anonymous, InRun, From, BatchOf}
 use Rattle.history.specs.Sessions.{Turn, after, expected, unfit, arrived, standing, Trace, Between}
@@ -22,10 +24,10 @@ use Rattle.history_witness.specs.Image.{cro}
 use Rattle.history_witness.specs.Open.{opened}
 use Rattle.history_witness.specs.Laid.{a-batch}
 use Rattle.history_witness.specs.Tested.{tested}
-use Rattle.history_witness.specs.Told.{came, brings, came-are}
-use Rattle.history_witness.specs.Behind.{at, bt, behind}
+use Rattle.history_witness.specs.Exact.{came, brings, came-are}
+use Rattle.history_witness.specs.PageBefore.{at, bt, pageBefore}
 use Rattle.history_witness.specs.Computed.{large, shown, o₁, o₂, o₃, o₇}
-use Rattle.history_witness.specs.Sessions.{t₁, t₂, t₃, t₄, t₅, t₆, t₇, t₈, t₉, A, u₃, u₄, B, M, N, end-alike}
+use Rattle.history_witness.specs.Sessions.{t₁, t₂, t₃, t₄, t₅, t₆, t₇, t₈, t₉, A, u₁, u₃, u₄, B, M, N, end-alike}
 use Rattle.history_witness.specs.Premises.{trace-a, trace-b, made-a, made-b, premises-a, premises-b, others-write}
 
 -- the premises of `Demand3 Promised` are met
@@ -78,7 +80,7 @@ pub record Items : Type 0 where
   pub kinds : (kind (M .file) externals 1 ≡ 3) × (kind (M .file) externals 2 ≡ 10)
   pub both-words : Turns 0x100404 (0x100400 ⊖ 0x100404) (0x10057c ⊖ 0x100404) × Turns 0x100408 (0x100400 ⊕ 8) (0x10057c ⊕ 8)
   -- item 4: an external entry and an indexed export whose tags give no address; where the first points nothing is written
-  pub unusable : (address M (tag (M .file) externals 4) ≡ Nowhere) × (address N 0x109 ≡ Nowhere) × (indexedOf N 0 ≡ At 0)
+  pub unusable : (address M (tag (M .file) externals 4) ≡ Nowhere) × (address N (word (N .file) (entry (N .file) indexedExports 0)) ≡ Nowhere) × (indexedOf N 0 ≡ At 0)
   pub not-written : Turns 0x1005a8 0 0
   -- item 5: Data in a lent area; the internal word is written at the old place in the image, and not in the lent area
   pub data-placed : placedSegment M 1 ≡ Found (record { offset = 0x1005a0; size = 8; kind = Data })
@@ -97,25 +99,25 @@ pub record Items : Type 0 where
   pub written : Leaves t₄ 0x100280 0 × (wordAt at (t₅ .before .window) 0x100280 ≡ cro)
   pub between : Between at (t₄ ∷ t₁ ∷ []) (after t₄) (t₅ .before)
   -- item 10: the second session is on another window, with another auto-link parameter, and ends alike
-  pub windows : at ≢ bt
+  pub windows : t₄ .at ≢ u₁ .at
   pub auto : (t₅ .call ≡ Load large 1 1) × (u₃ .call ≡ Load large 2 1)
   pub alike : SameStanding (standing A) (standing B)
   -- there `m` comes after `n`: its own load links the batch of `g` and the module entry; then `n`, the head of the list, leaves
   pub own-load : (wordAt bt (after u₃ .window) 0x100408 ≡ 0x10057c ⊕ 8) × (wordAt bt (after u₃ .window) 0x1005a0 ≡ 0x100584)
   pub own-reset : (wordAt bt (after u₄ .window) 0x100408 ≡ 0x100400 ⊕ 8) × (wordAt bt (after u₄ .window) 0x1005a0 ≡ 0x100400)
-  pub same-end : after u₄ .window ≡ behind (after t₉ .window)
+  pub same-end : after u₄ .window ≡ pageBefore (after t₉ .window)
   pub heads : (wordAt bt (after u₃ .window) 0x100088 ≡ 0x100420) × (wordAt bt (after u₄ .window) 0x100088 ≡ 0x100200)
 
 none-came : arrived (t₃ ∷ t₂ ∷ t₁ ∷ []) ≡ []
 unfolding Each came brings
 none-came = came-are (t₃ ∷ t₂ ∷ t₁ ∷ []) (o₃, (o₂, (o₁, tt)))
 
-misfit : (t : Turn) (n : ℕ) → expected t .number ≡ n → (eqb n 3 || eqb n 4) ≡ true → unfit t ≡ true
-unfolding unfit
-misfit t n e h = rw e h
+unfit-by : (t : Turn) (n : ℕ) → expected t .number ≡ n → (eqb n 3 || eqb n 4) ≡ true → unfit t ≡ true
+unfolding unfit number
+unfit-by t n e h = rw e h
 
 pub items : Items
-unfolding opened shown tested behind From InRun
+unfolding opened shown tested pageBefore From InRun
 items =
     record {
       handled = refl;
@@ -139,8 +141,8 @@ items =
       bss-placed = refl;
       none-yet = none-came;
       refused-1 = ap (λ o. o .number) o₁;
-      refused-3 = (ap (λ o. o .number) o₂, misfit t₂ 3 (ap (λ o. o .number) o₂) refl);
-      refused-4 = (ap (λ o. o .number) o₃, misfit t₃ 4 (ap (λ o. o .number) o₃) refl);
+      refused-3 = (ap (λ o. o .number) o₂, unfit-by t₂ 3 (ap (λ o. o .number) o₂) refl);
+      refused-4 = (ap (λ o. o .number) o₃, unfit-by t₃ 4 (ap (λ o. o .number) o₃) refl);
       refused-5 = (ap (λ o. o .number) o₇, ap (λ o. o .left) o₇);
       written = (refl, refl);
       between = others-write;

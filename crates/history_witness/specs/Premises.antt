@@ -1,4 +1,4 @@
--- The two are sessions, and meet every premise of `Demand3`.
+-- The two sessions are traces of calls that the exported functions make, and meet every premise of `Demand3`.
 use Prim.Native.Nat.{ℕ}
 use mathlib.Core.Path.{_≡_, refl, ap}
 use mathlib.Core.Logic.{_≢_, inl, inr}
@@ -20,8 +20,8 @@ use Rattle.history_witness.specs.Laid.{laid-tests, laid}
 use Rattle.history_witness.specs.Tests.{meets}
 use Rattle.history_witness.specs.Together.{each-all, pairs-all, in-true, in-test, once-test, once-true, apart-test, apart-true, name-test, name-true, exports-test, exports-true}
 use Rattle.history_witness.specs.Tested.{tested}
-use Rattle.history_witness.specs.Told.{came, brings, ours, came-are, small-all, are-bytes, same-between, next-own, next-unfit, promised, Quiet, two-faced, Ordered, Suits, premises-of, windows-of}
-use Rattle.history_witness.specs.Behind.{at, bt, behind, ahead}
+use Rattle.history_witness.specs.Exact.{came, brings, ours, came-are, small-all, are-bytes, same-between, next-own, next-unfit, promised, Quiet, not-both, Ordered, Suits, premises-of, windows-of}
+use Rattle.history_witness.specs.PageBefore.{at, bt, pageBefore, lentPageBefore}
 use Rattle.history_witness.specs.Computed.{page₁, b₀, b₁, b₂, b₃, d₀, d₁, d₂, d₃, short, wrong, shown, o₁, o₂, o₃, o₄}
 use Rattle.history_witness.specs.Sessions.{t₁, t₂, t₃, t₄, t₅, t₆, t₇, t₈, t₉, A, u₁, u₂, u₃, u₄, B, exact-a, exact-b, c, m, n, c′, m′, n′, C, M, N, c-is, images-a, images-b, c-area, same-pages, same-part}
 
@@ -30,20 +30,20 @@ bytes-a : AreBytes b₀ × AreBytes (b₁ cro) × AreBytes b₂ × AreBytes b₃
 unfolding opened shown small-all
 bytes-a = (are-bytes b₀ refl refl, are-bytes (b₁ cro) refl refl, are-bytes b₂ refl refl, are-bytes b₃ refl refl)
 
-bytes-b : AreBytes (ahead d₀) × AreBytes (ahead d₁) × AreBytes (ahead d₂) × AreBytes (ahead d₃)
-unfolding opened shown behind small-all
+bytes-b : AreBytes (lentPageBefore d₀) × AreBytes (lentPageBefore d₁) × AreBytes (lentPageBefore d₂) × AreBytes (lentPageBefore d₃)
+unfolding opened shown pageBefore small-all
 bytes-b =
-    (are-bytes (ahead d₀) refl refl, are-bytes (ahead d₁) refl refl, are-bytes (ahead d₂) refl refl, are-bytes (ahead d₃) refl refl)
+    (are-bytes (lentPageBefore d₀) refl refl, are-bytes (lentPageBefore d₁) refl refl, are-bytes (lentPageBefore d₂) refl refl, are-bytes (lentPageBefore d₃) refl refl)
 
-bytes-misfit : AreBytes short × AreBytes wrong
+bytes-unfit : AreBytes short × AreBytes wrong
 unfolding opened small-all
-bytes-misfit = (are-bytes short refl refl, are-bytes wrong refl refl)
+bytes-unfit = (are-bytes short refl refl, are-bytes wrong refl refl)
 
 fresh-a : Fresh b₀
 unfolding opened shown
 fresh-a = (refl, refl)
 
-fresh-b : Fresh (ahead d₀)
+fresh-b : Fresh (lentPageBefore d₀)
 unfolding opened shown
 fresh-b = (refl, refl)
 
@@ -91,10 +91,10 @@ trace-a = (
             (words-are .2, bytes-a .0),
             next-own at t₄ _ (exact-a .1 .1 .1 .1 .1 .1) refl (same-between at _ b₀),
             (
-              (words-are .2, bytes-misfit .1),
+              (words-are .2, bytes-unfit .1),
               next-unfit at t₃ _ o₃ refl,
               (
-                (words-are .1, bytes-misfit .0),
+                (words-are .1, bytes-unfit .0),
                 next-unfit at t₂ _ o₂ refl,
                 ((words-are .0, bytes-a .0), next-own at t₁ [] tt refl fresh-a, tt),
               ),
@@ -110,13 +110,13 @@ pub trace-b : Trace bt B
 unfolding Trace Each Lends ours
 trace-b = (
   (words-are .1, bytes-b .3),
-  next-own bt u₄ _ (exact-b .1) refl (same-between bt _ (ahead d₃)),
+  next-own bt u₄ _ (exact-b .1) refl (same-between bt _ (lentPageBefore d₃)),
   (
     (words-are .5, bytes-b .2),
-    next-own bt u₃ _ (exact-b .1 .1) refl (same-between bt _ (ahead d₂)),
+    next-own bt u₃ _ (exact-b .1 .1) refl (same-between bt _ (lentPageBefore d₂)),
     (
       (words-are .3, bytes-b .1),
-      next-own bt u₂ _ (exact-b .1 .1 .1) refl (same-between bt _ (ahead d₁)),
+      next-own bt u₂ _ (exact-b .1 .1 .1) refl (same-between bt _ (lentPageBefore d₁)),
       ((words-are .2, bytes-b .0), next-own bt u₁ [] tt refl fresh-b, tt),
     ),
   ),
@@ -173,8 +173,8 @@ windows-b = each-all (λ a. in-test a bt 8192) (λ a. in-true a bt 8192) other r
 
 pub long
     : (length (b₀ .window) ≡ 4096) × (length (b₁ cro .window) ≡ 4096) × (length (b₂ .window) ≡ 4096) × (length (b₃ .window) ≡ 4096)
-    × (length (ahead d₃ .window) ≡ 8192)
-unfolding opened shown behind
+    × (length (lentPageBefore d₃ .window) ≡ 8192)
+unfolding opened shown pageBefore
 long = (refl, refl, refl, refl, refl)
 
 some-come : {a : Arrival} {S : List Arrival} → a ∷ S ≢ []
@@ -188,8 +188,8 @@ others-base : Each NotCrs (c ∷ m ∷ n ∷ []) × Each NotCrs (c′ ∷ n′ �
 unfolding Each
 others-base =
     let it : _≡_ {A = ℕ} 0x100000 0x100420 → ⊥ = λ z. omega arith in (
-      ((λ h. it), ((λ h. two-faced false h refl), ((λ h. two-faced false h refl), tt))),
-      ((λ h. it), ((λ h. two-faced false h refl), ((λ h. two-faced false h refl), tt))),
+      ((λ h. it), ((λ h. not-both false h refl), ((λ h. not-both false h refl), tt))),
+      ((λ h. it), ((λ h. not-both false h refl), ((λ h. not-both false h refl), tt))),
     )
 
 pub crs-first-a : Ordered A
@@ -199,14 +199,14 @@ crs-first-a = (
   (
     (λ e. others-base .0),
     (
-      (λ e. two-faced false e refl),
+      (λ e. not-both false e refl),
       (
         (λ e. some-come),
         (
           (λ e. some-come),
           (
             (λ e. refl),
-            ((λ e. two-faced false e refl), ((λ e. two-faced false e refl), ((λ e. two-faced false e refl), tt))),
+            ((λ e. not-both false e refl), ((λ e. not-both false e refl), ((λ e. not-both false e refl), tt))),
           ),
         ),
       ),
@@ -219,7 +219,7 @@ unfolding Ordered InOrder came brings comes
 crs-first-b = ((λ e. others-base .1), ((λ e. some-come), ((λ e. some-come), ((λ e. refl), tt))))
 
 not-refused : {X : Type 0} → _≡_ {A = Bool} true false → X
-not-refused e = two-faced true refl e
+not-refused e = not-both true refl e
 
 pub quiet-a : Each Quiet A
 unfolding Each

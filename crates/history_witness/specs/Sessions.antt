@@ -23,8 +23,8 @@ use Rattle.history_witness.specs.Image.{zeros, cro, c-words, m-words, n-
 use Rattle.history_witness.specs.Open.{opened}
 use Rattle.history_witness.specs.Together.{in-true}
 use Rattle.history_witness.specs.Tested.{tested}
-use Rattle.history_witness.specs.Told.{Exact, came, stood, brings, came-are, stood-are}
-use Rattle.history_witness.specs.Behind.{at, bt, behind, ahead}
+use Rattle.history_witness.specs.Exact.{Exact, came, stood, brings, came-are, stood-are}
+use Rattle.history_witness.specs.PageBefore.{at, bt, pageBefore, lentPageBefore}
 use Rattle.history_witness.specs.Computed.{page₀, page₁, page₄, small, large, b₀, b₁, b₂, b₃, d₀, d₁, d₂, d₃, d₄, short, wrong, done, shown, o₁, o₂, o₃, o₄, o₅, o₆, o₇, o₈, o₉, q₁, q₂, q₃, q₄, refused}
 
 abbrev turn : Call → ℕ → Bytes → Outcome → Turn
@@ -40,7 +40,7 @@ t₂ = turn (Unload 0x100420) at short (refused 3 short)
 abbrev pub t₃ : Turn
 t₃ = turn (Initialize 0x100000 0x178) at wrong (refused 4 wrong)
 
--- the CRS comes; others write the magic word; `m` comes; `n` comes; a load finds no room; `n` leaves, and cannot leave again
+-- the CRS comes; others write the magic word; `m` comes; `n` comes; a load finds no room; `n` leaves, and an unload of its base then removes nothing
 abbrev pub t₄ : Turn
 t₄ = turn (Initialize 0x100000 0x178) at b₀ (done 0 (b₁ 0))
 
@@ -64,16 +64,16 @@ A = t₉ ∷ t₈ ∷ t₇ ∷ t₆ ∷ t₅ ∷ t₄ ∷ t₃ ∷ t₂ ∷ t₁
 
 -- on another window, in larger buffers: the CRS, `n` and `m` come, `m` with another auto-link parameter; `n` leaves
 abbrev pub u₁ : Turn
-u₁ = turn (Initialize 0x100000 0x178) bt (ahead d₀) (done 0 (ahead d₁))
+u₁ = turn (Initialize 0x100000 0x178) bt (lentPageBefore d₀) (done 0 (lentPageBefore d₁))
 
 abbrev pub u₂ : Turn
-u₂ = turn (Load (small 0x100420 0x168) 1 0) bt (ahead d₁) (done 0 (ahead d₂))
+u₂ = turn (Load (small 0x100420 0x168) 1 0) bt (lentPageBefore d₁) (done 0 (lentPageBefore d₂))
 
 abbrev pub u₃ : Turn
-u₃ = turn (Load large 2 1) bt (ahead d₂) (done 0x210 (ahead d₃))
+u₃ = turn (Load large 2 1) bt (lentPageBefore d₂) (done 0x210 (lentPageBefore d₃))
 
 abbrev pub u₄ : Turn
-u₄ = turn (Unload 0x100420) bt (ahead d₃) (done 1 (ahead d₄))
+u₄ = turn (Unload 0x100420) bt (lentPageBefore d₃) (done 1 (lentPageBefore d₄))
 
 abbrev pub B : List Turn
 B = u₄ ∷ u₃ ∷ u₂ ∷ u₁ ∷ []
@@ -97,13 +97,13 @@ abbrev pub n : Arrival
 n = record { coming = loaded (small 0x100420 0x168) true 0; bytes = byteAt at (b₂ .window) }
 
 abbrev pub c′ : Arrival
-c′ = record { coming = initialized 0x100000 0x178; bytes = byteAt bt (behind (page₀ cro)) }
+c′ = record { coming = initialized 0x100000 0x178; bytes = byteAt bt (pageBefore (page₀ cro)) }
 
 abbrev pub n′ : Arrival
-n′ = record { coming = loaded (small 0x100420 0x168) true 0; bytes = byteAt bt (behind (page₁ cro)) }
+n′ = record { coming = loaded (small 0x100420 0x168) true 0; bytes = byteAt bt (pageBefore (page₁ cro)) }
 
 abbrev pub m′ : Arrival
-m′ = record { coming = loaded large true 1; bytes = byteAt bt (behind page₄) }
+m′ = record { coming = loaded large true 1; bytes = byteAt bt (pageBefore page₄) }
 
 pub came-a : arrived A ≡ c ∷ m ∷ n ∷ []
 unfolding came brings comes
@@ -160,16 +160,16 @@ unfolding opened shown
 n-is = image-is (n .coming) at 0x420 0x168 (b₂ .window) (flat n-words) refl refl (omega arith) refl refl
 
 pub c′-is : imageOf c′ ≡ C
-unfolding opened shown behind
-c′-is = image-is (c′ .coming) bt 0x1000 0x178 (behind (page₀ cro)) (flat c-words) refl refl (omega arith) refl refl
+unfolding opened shown pageBefore
+c′-is = image-is (c′ .coming) bt 0x1000 0x178 (pageBefore (page₀ cro)) (flat c-words) refl refl (omega arith) refl refl
 
 pub n′-is : imageOf n′ ≡ N
-unfolding opened shown behind
-n′-is = image-is (n′ .coming) bt 0x1420 0x168 (behind (page₁ cro)) (flat n-words) refl refl (omega arith) refl refl
+unfolding opened shown pageBefore
+n′-is = image-is (n′ .coming) bt 0x1420 0x168 (pageBefore (page₁ cro)) (flat n-words) refl refl (omega arith) refl refl
 
 pub m′-is : imageOf m′ ≡ M
-unfolding opened shown behind
-m′-is = image-is (m′ .coming) bt 0x1200 0x210 (behind page₄) (flat (m-words cro)) refl refl (omega arith) refl refl
+unfolding opened shown pageBefore
+m′-is = image-is (m′ .coming) bt 0x1200 0x210 (pageBefore page₄) (flat (m-words cro)) refl refl (omega arith) refl refl
 
 pub images-a : images A ≡ C ∷ M ∷ N ∷ []
 images-a = ap (map imageOf) came-a ∙ rw (c-is, m-is, n-is) refl
@@ -178,8 +178,8 @@ pub images-b : images B ≡ C ∷ N ∷ M ∷ []
 images-b = ap (map imageOf) came-b ∙ rw (c′-is, n′-is, m′-is) refl
 
 -- one window holds the bytes of the other, a page further on
-shifted : (w : List ℕ) (q : ℕ) → In 0x100000 0x1000 q → byteAt bt (behind w) q ≡ byteAt at w q
-unfolding byteAt place behind
+shifted : (w : List ℕ) (q : ℕ) → In 0x100000 0x1000 q → byteAt bt (pageBefore w) q ≡ byteAt at w q
+unfolding byteAt place pageBefore
 shifted w q i =
     let e : place bt q ≡ 4096 + place at q = omega (arith, i) in rw e (getD-append-add (zeros 4096) w (place at q) 0)
 
@@ -210,16 +210,16 @@ same-pages = (refl, refl, refl, refl, refl)
 -- the same bytes at the same addresses
 carried
     : (u w : List ℕ) (i n q : ℕ) → take n (drop i u) ≡ take n (drop i w) → i + n ≤ 4096 → In (0x100000 + i) n q
-    → byteAt at u q ≡ byteAt bt (behind w) q
+    → byteAt at u q ≡ byteAt bt (pageBefore w) q
 carried u w i n q e l h = same-part u w i n q e l h ∙ sym (shifted w q (omega (arith, h), omega (arith, h)))
 
-same-m : (q : ℕ) → Area M q → byteAt at (page₁ cro) q ≡ byteAt bt (behind page₄) q
+same-m : (q : ℕ) → Area M q → byteAt at (page₁ cro) q ≡ byteAt bt (pageBefore page₄) q
 unfolding Area Lent-area
 same-m q (inl h) = carried (page₁ cro) page₄ 0x200 0x210 q (same-pages .2) (omega arith) h
 same-m q (inr (inl h)) = carried (page₁ cro) page₄ 0x5a0 0x10 q (same-pages .3) (omega arith) h
 same-m q (inr (inr h)) = carried (page₁ cro) page₄ 0x5b0 0x10 q (same-pages .4) (omega arith) h
 
--- item 10: the second session is on another window, has another auto-link parameter, and ends alike
+-- the two sessions end alike (item 10)
 pub end-alike : SameStanding (standing A) (standing B)
 unfolding SameStanding
 end-alike =

@@ -10,7 +10,7 @@ use Rattle.window.specs.Memory.{if_then_else_, byteAt}
 use Rattle.linker.specs.declared.call.Call.{Call}
 use Rattle.linker.specs.declared.call.Call.the-variants.{Initialize, Load, Unload}
 use Rattle.linker.specs.Outcome.{Bytes, Outcome, outcome}
-use Rattle.linker.specs.Calls.{Answer, Kept, Done, Standing, unknown, stands, firstWithBase, unlisted}
+use Rattle.linker.specs.Calls.{Answer, Kept, Done, Standing, unknown, stands, firstWithBase, unlisted, number}
 use Rattle.linker.specs.Unrebase.{unrebase}
 use Rattle.window.specs.Access.{Prog, ret, _>>=_, _>>_}
 use Rattle.register.specs.Module.{Register}
@@ -29,13 +29,13 @@ use Rattle.history.specs.Sessions.{given, Turn, expected, unfit, own, comes, br
 use Rattle.history.specs.Outcomes.{Linker, Made, Follows}
 use Rattle.history.specs.Below.{Each}
 use Rattle.history.specs.Demand3.{Harmless, CrsFirst, InWindow, Premises, images, bytesLeft, bytesAfter, ImportClause, AllHold, Linked, Demand3}
-use Rattle.history_witness.specs.Told.{Exact, came, brings, stood, ours, came-are, stood-are, front, two-faced, Ordered, premises-of, windows-of}
+use Rattle.history_witness.specs.Exact.{Exact, came, brings, stood, ours, came-are, stood-are, front, not-both, Ordered, premises-of, windows-of}
 use Rattle.history_witness.specs.Image.{cro, n-words, change, c-linked, m-linked, n-loaded, lent-words, page}
 use Rattle.history_witness.specs.Open.{opened}
 use Rattle.history_witness.specs.Tested.{tested}
 use Rattle.history_witness.specs.Items.{items}
 use Rattle.history_witness.specs.FirstEntry.{firstEntryOnly, firstEntrySteps}
-use Rattle.history_witness.specs.Behind.{at, stored}
+use Rattle.history_witness.specs.PageBefore.{at, stored}
 use Rattle.history_witness.specs.Computed.{c-module, m-module, n-module, register, small, large, short, b₀, b₁, b₂, b₃, done, shown, o₁, o₂, o₃, o₄, o₅, o₆, o₇, refused}
 use Rattle.history_witness.specs.Sessions.{t₁, t₂, t₃, t₄, t₅, t₆, t₇, t₈, A, exact-a, c, m, n, C, M, N, c-is, m-is, n-is}
 use Rattle.history_witness.specs.Premises.{trace-a, suits-three, windows-a, long, three, quiet-a, crs-first-a}
@@ -89,7 +89,7 @@ module _ (t : Turn) (ts : List Turn) (o : Outcome) where
   bytes-told
       : expected t ≡ t .gave → (eqb (t .gave .number) 3 || eqb (t .gave .number) 4) ≡ false
       → bytesAfter (told t o ∷ ts) ≡ byteAt (t .at) (o .left .window)
-  unfolding own unfit bytesLeft
+  unfolding own unfit bytesLeft number
   bytes-told e h = rw (e, h) refl
 
 -- no call at all
@@ -202,7 +202,7 @@ module _ (g : Change) where
       (premises-told t ts (changed g t) p) d .0 in
       n (f .0 .number ∙ ap (λ o. o .number) (e .0)) (f .0 .value ∙ ap (λ o. o .value) (e .0))
 
--- the sessions' first calls are sessions
+-- the session's first calls are sessions
 trace₈ : Trace at s₈
 unfolding Trace
 trace₈ = trace-a .2
@@ -233,7 +233,7 @@ pub full-while-free-fails : Demand3 (Sham fullWhileFree) → ⊥
 unfolding fullWhileFree Each
 full-while-free-fails = by-outcome fullWhileFree t₄ s₃ exact₄ trace₄ premises₄ (refl, (refl, (refl, tt))) (λ e h. omega arith)
 
--- "one inventedSize the fixed size"
+-- "one inventing the fixed size"
 unfoldable pub inventedSize : Change
 inventedSize (Initialize base size) b o = o
 inventedSize (Load l auto level) b o = record { number = o .number; value = if eqb (o .number) 0 then 4096 else 0; left = o .left }
@@ -262,21 +262,21 @@ held
 unfolding Each Linked
 held t ts o S e i u l = rw (standing-told t ts o, stood-are (t ∷ ts) e, i, bytes-told t ts o (e .0) u) at (l .0)
 
--- a linker whose programs are its own
+-- a linker that gives what f computes
 module _ (f : Call → ℕ → Bytes → Outcome) where
-  abbrev pub Own : Linker
-  Own c at b o = o ≡ f c at b
+  abbrev pub Computes : Linker
+  Computes c at b o = o ≡ f c at b
 
-  made-own : (ts : List Turn) → Each (λ t. f (t .call) (t .at) (t .before) ≡ t .gave) ts → Made Own ts
+  made-computed : (ts : List Turn) → Each (λ t. f (t .call) (t .at) (t .before) ≡ t .gave) ts → Made Computes ts
   unfolding Each
-  made-own [] h = tt
-  made-own (t ∷ ts) h = (sym (h .0), made-own ts (h .1))
+  made-computed [] h = tt
+  made-computed (t ∷ ts) h = (sym (h .0), made-computed ts (h .1))
 
   by-imports
       : (t : Turn) (ts : List Turn) (o : Outcome) → Trace at (t ∷ ts) → Premises (t ∷ ts)
-      → Each (λ t. f (t .call) (t .at) (t .before) ≡ t .gave) (told t o ∷ ts) → (Linked (told t o ∷ ts) → ⊥) → Demand3 Own → ⊥
+      → Each (λ t. f (t .call) (t .at) (t .before) ≡ t .gave) (told t o ∷ ts) → (Linked (told t o ∷ ts) → ⊥) → Demand3 Computes → ⊥
   by-imports t ts o x p h u d =
-      u (gives Own at (told t o ∷ ts) (trace-told t ts o at x) (made-own (told t o ∷ ts) h) (premises-told t ts o p) d .1)
+      u (gives Computes at (told t o ∷ ts) (trace-told t ts o at x) (made-computed (told t o ∷ ts) h) (premises-told t ts o p) d .1)
 
 -- the import `g` of `m`, and the second entry of its batch, of kind 10
 g-import : IsImport (M .file) (named 1)
@@ -351,7 +351,7 @@ without-resets-unlinked l =
     let w = g-holds _ (handler M) k in
     omega (arith, w, left-word, items .handled)
 
-pub without-resets-fails : Demand3 (Own withoutResets) → ⊥
+pub without-resets-fails : Demand3 (Computes withoutResets) → ⊥
 unfolding withoutResets Each
 without-resets-fails =
     by-imports withoutResets t₈ (t₇ ∷ s₆) (done 1 left₅) trace₈ premises₈
@@ -381,7 +381,7 @@ second-word = refl
 
 n-exports : Exporter N M (named 1) 0x10057c
 unfolding Exporter Exports
-n-exports = (rw g-name (items .by-name), (λ e. two-faced false e refl))
+n-exports = (rw g-name (items .by-name), (λ e. not-both false e refl))
 
 pub first-entry-unlinked : Linked (told t₆ (done 0 left₆) ∷ s₅) → ⊥
 unfolding Each stood stay brings comes AllHold ImportClause
@@ -391,7 +391,7 @@ first-entry-unlinked l =
     let w = g-holds _ 0x10057c k in
     omega (arith, w, second-word)
 
-pub first-entry-fails : Demand3 (Own firstEntryOnly) → ⊥
+pub first-entry-fails : Demand3 (Computes firstEntryOnly) → ⊥
 unfolding firstEntryOnly Each
 first-entry-fails =
     by-imports firstEntryOnly t₆ s₅ (done 0 left₆) trace₆ premises₆

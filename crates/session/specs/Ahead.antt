@@ -21,14 +21,14 @@ unfoldable pub ahead : List ℕ → ℕ → ℕ → Placed → Placed
 ahead file n k (p, b) = (put (steps file n k b .0) p, steps file n k b .1)
 
 -- what the step number k, at the window's address at, prints and leaves
-abbrev pub turn : Step → ℕ → ℕ → Placed → Placed
-turn step at k (p, b) =
+abbrev pub ranStep : Step → ℕ → ℕ → Placed → Placed
+ranStep step at k (p, b) =
     let o = stepOutcome step at b in
     (put (stepLine (k + 1) step (o .number) (o .value)) p, o .left)
 
 -- the step has run, and a register stays one
 abbrev pub Turned : Step → ℕ → ℕ → Placed → Placed → Type 0
-Turned step at k before after = (after ≡ turn step at k before) × (Valid (before .1) → Valid (after .1))
+Turned step at k before after = (after ≡ ranStep step at k before) × (Valid (before .1) → Valid (after .1))
 
 -- all of them have run
 abbrev pub AllRan : List ℕ → ℕ → Placed → Placed → Type 0
@@ -39,7 +39,7 @@ module _ (file : List ℕ) (k : ℕ) where
   unfolding ahead steps put
   ahead-none p = refl
 
-  pub ahead-more : (n : ℕ) (p : Placed) → ahead file n (k + 1) (turn (stepAt file k) (windowAddress file) k p) ≡ ahead file (suc n) k p
+  pub ahead-more : (n : ℕ) (p : Placed) → ahead file n (k + 1) (ranStep (stepAt file k) (windowAddress file) k p) ≡ ahead file (suc n) k p
   unfolding ahead steps outcomeAt
   ahead-more n p = rw put-append
 

@@ -46,7 +46,7 @@ fn run_step(
     }
 }
 
-// Runs a step, number k, and puts its line.
+// Runs a step, number k from 0 on, and puts its line. The slices have one lifetime, so that run_steps lends them again for one.
 fn run_turn<'a>(
     step: Step,
     k: u32,

@@ -5,7 +5,6 @@ use lib.ListN.{getD}
 use lib.Dec.{eqb}
 use Rattle.window.specs.Memory.{if_then_else_}
 use Rattle.register.specs.Words.{part, wordsIn, allZero}
-use Rattle.linker.specs.declared.rebase.Lent.{Lent}
 use Rattle.session_step.specs.declared.Step.{Step}
 use Rattle.linker.specs.declared.call.Call.the-variants.{Initialize, Load, Unload}
 use Rattle.session_step.specs.declared.Step.the-variants.{Bad}

@@ -1,6 +1,6 @@
 //! Demand 3 by running: two sessions that end with the same modules standing, one of them with a history, leave the same
 //! bytes in those modules' areas; and after every call every import holds its exporter's address or its handler's. Refused
-//! calls come in between in both, also before the static module's.
+//! calls come in between in both, also before the static module's `initialize`.
 
 use crate::faults;
 use crate::under_test::Buffers;

@@ -89,7 +89,7 @@ fn compare_pairs(asked: &Asked) -> Result<(), String> {
     );
     println!("  {} imports hold their address, {} of them an exporter's", seen.imports, seen.linked);
     println!(
-        "  {} calls besides with a bad window, {} with a bad register, {} of them before the static module's",
+        "  {} calls besides with a bad window, {} with a bad register, {} of them before the static module's initialize",
         seen.bad_windows, seen.bad_registers, seen.before_crs
     );
     Ok(())

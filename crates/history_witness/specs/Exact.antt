@@ -1,4 +1,5 @@
--- Turns that tell what the definition gives: what came, what stands and which calls are the session's own, as they tell it.
+-- Sessions whose turns gave what the definition gives (`Exact`): there the session's own calls, what came and what stands are read from
+-- what the turns gave.
 use Prim.Native.Nat.{ℕ, zero, suc}
 use mathlib.Core.Path.{_≡_, refl, sym, ap, _∙_, subst}
 use mathlib.Core.List.{List, [], _∷_, _++_}
@@ -11,6 +12,7 @@ use Rattle.window.specs.Memory.{if_then_else_, byteAt}
 use Rattle.window.specs.Within.{In}
 use Rattle.window.specs.Tests.{both}
 use Rattle.register.specs.Buffers.{Below}
+use Rattle.linker.specs.Calls.{number}
 use Rattle.linker.specs.declared.call.Call.{Call}
 use Rattle.linker.specs.declared.call.Call.the-variants.{Initialize, Load, Unload}
 use Rattle.linker.specs.Outcome.{Bytes}
@@ -22,7 +24,7 @@ use Rattle.history.specs.Outcomes.{Made, Promised}
 use Rattle.history.specs.Below.{Each, Pairs}
 use Rattle.history.specs.Demand3.{Harmless, InOrder, CrsFirst, AutoLinked, ImportsKept, BaseNot0, InWindow, Apart, OtherName, OtherExports, ExportsOnce, Premises, images}
 
--- "a turn as the definition gives it"
+-- each turn gave what the definition gives
 abbrev pub Exact : List Turn → Type 0
 Exact ts = Each (λ t. expected t ≡ t .gave) ts
 
@@ -45,7 +47,7 @@ stood [] = []
 stood (t ∷ ts) = (if succeeds t then stay (t .call) (stood ts) else stood ts) ++ brings t
 
 pub ours-are : (ts : List Turn) → Exact ts → own ts ≡ ours ts
-unfolding own ours unfit Each
+unfolding own ours unfit Each number
 ours-are [] h = refl
 ours-are (t ∷ ts) h = rw (h .0, ours-are ts (h .1)) refl
 
@@ -87,8 +89,8 @@ unfolding Each Harmless done
 quiet [] h g = tt
 quiet (t ∷ ts) h g = ((λ e. ap (λ o. o .left) (h .0) ∙ g .0 (rw (h .0) at e)), quiet ts (h .1) (g .1))
 
-pub two-faced : {X : Type 0} (b : Bool) → b ≡ true → b ≡ false → X
-two-faced b h e = let z : _≡_ {A = ℕ} 0 1 = cc in absurd (omega arith)
+pub not-both : {X : Type 0} (b : Bool) → b ≡ true → b ≡ false → X
+not-both b h e = let z : _≡_ {A = ℕ} 0 1 = cc in absurd (omega arith)
 
 -- each call that is done comes in order
 unfoldable pub Ordered : List Turn → Type 0
@@ -126,8 +128,8 @@ next-own at t ts h e l = λ u. (e, rw (ours-are ts h) l)
 
 pub next-unfit
     : (at : ℕ) (t : Turn) (ts : List Turn) → expected t ≡ t .gave → (eqb (t .gave .number) 3 || eqb (t .gave .number) 4) ≡ true → Next at ts t
-unfolding Next unfit
-next-unfit at t ts h e = λ u. two-faced _ e (rw h at u)
+unfolding Next unfit number
+next-unfit at t ts h e = λ u. not-both _ e (rw h at u)
 
 -- the premises on the images that came
 pub record Suits (S : List Image) : Type 0 where

@@ -3,13 +3,13 @@ use Prim.Native.Nat.{ℕ, zero, suc, _+_, _-_, _/_, _%_, _^_, _<_}
 use mathlib.Core.Path.{_≡_, refl, sym, ap, _∙_}
 use mathlib.Core.List.{List, [], _∷_, _++_}
 use mathlib.Core.Option.{Option, some, none}
-use mathlib.Core.Bool.{Bool, true, false, not, _&&_}
+use mathlib.Core.Bool.{Bool, true, false, _&&_}
 use native.Mathlib.Omega.{arith}
 use native.Mathlib.Decide.{decLt}
 use native.Mathlib.Nat.{suc-add, zero-add}
 use lib.ListN.{length, set, length-append, getD-replicate, List·getD-append, List·getD-eq-default}
 use lib.Seq.{getD-append-add}
-use lib.Dec.{eqb, ltb}
+use lib.Dec.{ltb}
 use borrow.Author.Tests.{ltb-true, lt-ltb}
 use Rattle.window.specs.Memory.{if_then_else_, goodWindow, place, inside, byteAt, wordAt, putByte, putBytes, putWord, putUpward, putPrivileged}
 use Rattle.window.specs.Access.{Prog, ret, read8, read32, write8, write32, writePrivileged, run}
@@ -19,10 +19,9 @@ use Rattle.register.specs.Module.{Register}
 use Rattle.register.specs.Decode.{isRegister}
 use Rattle.register.specs.Buffers.{encodeRecords, encodeNames, encodeMissing}
 use Rattle.linker.specs.declared.call.Call.{Call}
-use Rattle.linker.specs.declared.call.Call.the-variants.{Initialize, Load, Unload}
 use Rattle.linker.specs.Calls as calls
-use Rattle.linker.specs.Calls.{Answer, Done}
-use Rattle.linker.specs.Outcome.{Bytes, registerAfter, settle, outcome, initializeOutcome, loadOutcome, unloadOutcome}
+use Rattle.linker.specs.Calls.{Done}
+use Rattle.linker.specs.Outcome.{Bytes, registerAfter, settle, outcome}
 use Rattle.linker.specs.Refusals.{lentRegister}
 use Rattle.history.specs.Sessions.{given}
 use Rattle.history.specs.Windows.{program, given-program}
@@ -34,19 +33,19 @@ at = 0x100000
 abbrev pub bt : ℕ
 bt = 0x0ff000
 
-unfoldable pub behind : List ℕ → List ℕ
-behind w = zeros 4096 ++ w
+unfoldable pub pageBefore : List ℕ → List ℕ
+pageBefore w = zeros 4096 ++ w
 
 set-add : (l m : List ℕ) (i v : ℕ) → set (l ++ m) (length l + i) v ≡ l ++ set m i v
 set-add [] m i v = rw (zero-add i) refl
 set-add (x ∷ l) m i v = rw (suc-add (length l) i) (ap (λ r. x ∷ r) (set-add l m i v))
 
 -- a byte is the same, whatever its address
-byte-behind : (w : List ℕ) (x : ℕ) → length w ≡ 4096 → byteAt bt (behind w) x ≡ byteAt at w x
-unfolding byteAt place behind
-byte-behind w x e = go (decLt (place at x) (2 ^ 32 - 4096))
+byte-pageBefore : (w : List ℕ) (x : ℕ) → length w ≡ 4096 → byteAt bt (pageBefore w) x ≡ byteAt at w x
+unfolding byteAt place pageBefore
+byte-pageBefore w x e = go (decLt (place at x) (2 ^ 32 - 4096))
   where
-    go : Dec (place at x < 2 ^ 32 - 4096) → byteAt bt (behind w) x ≡ byteAt at w x
+    go : Dec (place at x < 2 ^ 32 - 4096) → byteAt bt (pageBefore w) x ≡ byteAt at w x
     go (yes l) =
         let p : place bt x ≡ 4096 + place at x = omega arith in
         rw p (getD-append-add (zeros 4096) w (place at x) 0)
@@ -56,48 +55,48 @@ byte-behind w x e = go (decLt (place at x) (2 ^ 32 - 4096))
         ∙ getD-replicate 4096 (place bt x) 0 0 p
         ∙ sym (List·getD-eq-default w 0 (omega arith))
 
-word-behind : (w : List ℕ) (x : ℕ) → length w ≡ 4096 → wordAt bt (behind w) x ≡ wordAt at w x
+word-pageBefore : (w : List ℕ) (x : ℕ) → length w ≡ 4096 → wordAt bt (pageBefore w) x ≡ wordAt at w x
 unfolding wordAt
-word-behind w x e = rw (byte-behind w x e, byte-behind w (x + 1) e, byte-behind w (x + 2) e, byte-behind w (x + 3) e) refl
+word-pageBefore w x e = rw (byte-pageBefore w x e, byte-pageBefore w (x + 1) e, byte-pageBefore w (x + 2) e, byte-pageBefore w (x + 3) e) refl
 
 -- the n bytes from x on lie in the page
 unfoldable pub lies : ℕ → ℕ → Bool
 lies zero x = true
 lies (suc n) x = ltb (place at x) 4096 && lies n (x + 1)
 
-put-behind : (w : List ℕ) (x v : ℕ) → ltb (place at x) 4096 ≡ true → putByte bt (behind w) x v ≡ behind (putByte at w x v)
-unfolding putByte place behind
-put-behind w x v h =
+put-pageBefore : (w : List ℕ) (x v : ℕ) → ltb (place at x) 4096 ≡ true → putByte bt (pageBefore w) x v ≡ pageBefore (putByte at w x v)
+unfolding putByte place pageBefore
+put-pageBefore w x v h =
     let l = ltb-true (place at x) 4096 h in
     let p : place bt x ≡ 4096 + place at x = omega arith in
     rw p (set-add (zeros 4096) w (place at x) (v % 256))
 
-bytes-behind : (n : ℕ) (w : List ℕ) (x v : ℕ) → lies n x ≡ true → putBytes n bt (behind w) x v ≡ behind (putBytes n at w x v)
+bytes-pageBefore : (n : ℕ) (w : List ℕ) (x v : ℕ) → lies n x ≡ true → putBytes n bt (pageBefore w) x v ≡ pageBefore (putBytes n at w x v)
 unfolding putBytes lies
-bytes-behind zero w x v h = refl
-bytes-behind (suc n) w x v h =
+bytes-pageBefore zero w x v h = refl
+bytes-pageBefore (suc n) w x v h =
     let b = both (ltb (place at x) 4096) (lies n (x + 1)) h in
-    rw (put-behind w x v (b .0)) (bytes-behind n (putByte at w x v) (x + 1) (v / 256) (b .1))
+    rw (put-pageBefore w x v (b .0)) (bytes-pageBefore n (putByte at w x v) (x + 1) (v / 256) (b .1))
 
 inside-at : (w : List ℕ) (x : ℕ) → length w ≡ 4096 → ltb (place at x) 4096 ≡ true → inside at w x ≡ true
 unfolding inside
 inside-at w x e h = rw e h
 
-inside-bt : (w : List ℕ) (x : ℕ) → length w ≡ 4096 → ltb (place at x) 4096 ≡ true → inside bt (behind w) x ≡ true
-unfolding inside place behind
+inside-bt : (w : List ℕ) (x : ℕ) → length w ≡ 4096 → ltb (place at x) 4096 ≡ true → inside bt (pageBefore w) x ≡ true
+unfolding inside place pageBefore
 inside-bt w x e h =
     let l = ltb-true (place at x) 4096 h in
-    let n : length (behind w) ≡ 8192 = length-append (zeros 4096) w ∙ rw e refl in
+    let n : length (pageBefore w) ≡ 8192 = length-append (zeros 4096) w ∙ rw e refl in
     rw n (lt-ltb (place bt x) 8192 (omega arith))
 
-upward-behind
-    : (n : ℕ) (w : List ℕ) (x v : ℕ) → length w ≡ 4096 → lies n x ≡ true → putUpward n bt (behind w) x v ≡ behind (putUpward n at w x v)
+upward-pageBefore
+    : (n : ℕ) (w : List ℕ) (x v : ℕ) → length w ≡ 4096 → lies n x ≡ true → putUpward n bt (pageBefore w) x v ≡ pageBefore (putUpward n at w x v)
 unfolding putUpward lies
-upward-behind zero w x v e h = refl
-upward-behind (suc n) w x v e h =
+upward-pageBefore zero w x v e h = refl
+upward-pageBefore (suc n) w x v e h =
     let b = both (ltb (place at x) 4096) (lies n (x + 1)) h in
-    rw (inside-bt w x e (b .0), inside-at w x e (b .0), put-behind w x v (b .0))
-    (upward-behind n (putByte at w x v) (x + 1) (v / 256) (length-putByte at w x v ∙ e) (b .1))
+    rw (inside-bt w x e (b .0), inside-at w x e (b .0), put-pageBefore w x v (b .0))
+    (upward-pageBefore n (putByte at w x v) (x + 1) (v / 256) (length-putByte at w x v ∙ e) (b .1))
 
 -- a run in the page, if every write lies in it
 unfoldable pub tried : {A : Type 0} → Prog A → List ℕ → Option (A × List ℕ)
@@ -112,28 +111,28 @@ chosen : {B : Type 0} {r : B} (b : Bool) (o : Option B) → (if b then o else no
 chosen true o h = (refl, h)
 chosen false o h = let z : _≡_ {A = ℕ} 0 1 = cc in absurd (omega arith)
 
-run-behind
-    : {A : Type 0} (m : Prog A) (w : List ℕ) {r : A × List ℕ} → length w ≡ 4096 → tried m w ≡ some r → run bt m (behind w) ≡ (r .0, behind (r .1))
+run-pageBefore
+    : {A : Type 0} (m : Prog A) (w : List ℕ) {r : A × List ℕ} → length w ≡ 4096 → tried m w ≡ some r → run bt m (pageBefore w) ≡ (r .0, pageBefore (r .1))
 unfolding run tried putWord putPrivileged
-run-behind (ret a) w {r} e h = let y : (a, w) ≡ r = cc in rw (← y) refl
-run-behind (read8 p k) w e h = rw (byte-behind w p e) (run-behind (k (byteAt at w p)) w e h)
-run-behind (read32 p k) w e h = rw (word-behind w p e) (run-behind (k (wordAt at w p)) w e h)
-run-behind (write8 p v k) w e h =
+run-pageBefore (ret a) w {r} e h = let y : (a, w) ≡ r = cc in rw (← y) refl
+run-pageBefore (read8 p k) w e h = rw (byte-pageBefore w p e) (run-pageBefore (k (byteAt at w p)) w e h)
+run-pageBefore (read32 p k) w e h = rw (word-pageBefore w p e) (run-pageBefore (k (wordAt at w p)) w e h)
+run-pageBefore (write8 p v k) w e h =
     let b = chosen (ltb (place at p) 4096) (tried k (putByte at w p v)) h in
-    rw (put-behind w p v (b .0)) (run-behind k (putByte at w p v) (length-putByte at w p v ∙ e) (b .1))
-run-behind (write32 p v k) w e h =
+    rw (put-pageBefore w p v (b .0)) (run-pageBefore k (putByte at w p v) (length-putByte at w p v ∙ e) (b .1))
+run-pageBefore (write32 p v k) w e h =
     let b = chosen (lies 4 p) (tried k (putWord at w p v)) h in
-    rw (bytes-behind 4 w p v (b .0)) (run-behind k (putWord at w p v) (length-putWord at w p v ∙ e) (b .1))
-run-behind (writePrivileged p v k) w e h =
+    rw (bytes-pageBefore 4 w p v (b .0)) (run-pageBefore k (putWord at w p v) (length-putWord at w p v ∙ e) (b .1))
+run-pageBefore (writePrivileged p v k) w e h =
     let b = chosen (lies 4 p) (tried k (putPrivileged at w p v)) h in
-    rw (upward-behind 4 w p v e (b .0)) (run-behind k (putPrivileged at w p v) (length-putPrivileged at w p v ∙ e) (b .1))
+    rw (upward-pageBefore 4 w p v e (b .0)) (run-pageBefore k (putPrivileged at w p v) (length-putPrivileged at w p v ∙ e) (b .1))
 
-abbrev pub ahead : Bytes → Bytes
-ahead b = record { window = behind (b .window); records = b .records; names = b .names; missing = b .missing }
+abbrev pub lentPageBefore : Bytes → Bytes
+lentPageBefore b = record { window = pageBefore (b .window); records = b .records; names = b .names; missing = b .missing }
 
-good-bt : (w : List ℕ) → length w ≡ 4096 → goodWindow bt (behind w) ≡ true
-unfolding goodWindow behind
-good-bt w e = let n : length (behind w) ≡ 8192 = length-append (zeros 4096) w ∙ rw e refl in rw n refl
+good-bt : (w : List ℕ) → length w ≡ 4096 → goodWindow bt (pageBefore w) ≡ true
+unfolding goodWindow pageBefore
+good-bt w e = let n : length (pageBefore w) ≡ 8192 = length-append (zeros 4096) w ∙ rw e refl in rw n refl
 
 -- a call in the page alone: so many bytes of records and names, and what it comes to
 pub record Tried (c : Call) (b : Bytes) (records names v : ℕ) (r : Register) (w : List ℕ) : Type 0 where
@@ -143,22 +142,23 @@ pub record Tried (c : Call) (b : Bytes) (records names v : ℕ) (r : Register) (
   pub valid : isRegister (b .records) (b .names) (b .missing) ≡ true
   pub leads : tried (program c records names (lentRegister b)) (b .window) ≡ some (Done v r, w)
 
+-- a window, and the encoding of a register in so many bytes of records and names
 abbrev pub stored : ℕ → ℕ → Register → List ℕ → Bytes
 stored records names r w =
     record { window = w; records = encodeRecords records r; names = encodeNames names r; missing = encodeMissing r }
 
-pub given-behind
+pub given-pageBefore
     : (c : Call) (b : Bytes) {records names v : ℕ} {r : Register} {w : List ℕ} → Tried c b records names v r w
-    → given c bt (ahead b) ≡ record { number = 0; value = v; left = stored records names r (behind w) }
+    → given c bt (lentPageBefore b) ≡ record { number = 0; value = v; left = stored records names r (pageBefore w) }
 unfolding outcome settle registerAfter calls.number calls.value
-given-behind c b {records} {names} h =
-    given-program c bt (ahead b)
+given-pageBefore c b {records} {names} h =
+    given-program c bt (lentPageBefore b)
     ∙ rw (
       good-bt (b .window) (h .whole),
       h .valid,
       h .records-are,
       h .names-are,
-      run-behind (program c records names (lentRegister b)) (b .window) (h .whole) (h .leads),
+      run-pageBefore (program c records names (lentRegister b)) (b .window) (h .whole) (h .leads),
       registerAfter,
       h .records-are,
       h .names-are,
