@@ -1,2 +1,3 @@
 -- What the proofs of `layout` share.
 pub mod Laws
+pub mod Accesses

@@ -3,5 +3,6 @@
 pub mod fields;
 pub mod format;
 pub mod header;
+pub mod peek;
 pub mod segments;
 pub mod tables;

@@ -1,6 +1,6 @@
 // Segments of a module, and the addresses that tags give.
 ghost use mathlib.Core.Path.{_≡_};
-ghost use Rattle.window.specs.Access.{run};
+ghost use Rattle.window.specs.Trace.{runT};
 ghost use Rattle.layout.specs.Segments.{segment, setSegment, tagToAddress};
 use super::fields::entry_address;
 use super::fields::field;
@@ -22,17 +22,17 @@ pub enum Address {
 }
 
 // Looks a segment up: count, table offset and entry are read anew.
-pub fn segment(at: u32, w: &[u8], base: u32, index: u32) -> FoundSegment
-    ensures { λ r. ⌜ r ≡ run at (segment base index) (now (w .entry)) .0 ⌝ }
+pub fn segment(at: u32, w: &[u8], trace: &mut [u8], base: u32, index: u32) -> FoundSegment
+    ensures { λ r. ⌜ (r, (now (w .entry), now (trace .exit))) ≡ runT at (segment base index) (now (w .entry), now (trace .entry)) ⌝ }
 {
-    if index >= field(at, w, base, SEGMENT_NUM) {
+    if index >= field(at, w, trace, base, SEGMENT_NUM) {
         return FoundSegment::Missing;
     }
-    let table = field(at, w, base, SEGMENT_TABLE_OFFSET);
+    let table = field(at, w, trace, base, SEGMENT_TABLE_OFFSET);
     let entry = entry_address(table, index, SEGMENT_ENTRY_SIZE);
-    let offset = window::read32(at, w, entry);
-    let size = window::read32(at, w, std::num::wrapping_add_u32(entry, 4));
-    let kind = window::read32(at, w, std::num::wrapping_add_u32(entry, 8));
+    let offset = window::read32(at, w, trace, entry);
+    let size = window::read32(at, w, trace, std::num::wrapping_add_u32(entry, 4));
+    let kind = window::read32(at, w, trace, std::num::wrapping_add_u32(entry, 8));
     FoundSegment::Found(Segment {
         offset,
         size,
@@ -41,22 +41,34 @@ pub fn segment(at: u32, w: &[u8], base: u32, index: u32) -> FoundSegment
 }
 
 // Writes a segment back: the table offset is read anew.
-pub fn set_segment(at: u32, w: &mut [u8], base: u32, index: u32, value: Segment)
-    ensures { λ _. ⌜ now (w .exit) ≡ run at (setSegment base index value) (now (w .entry)) .1 ⌝ }
+pub fn set_segment(at: u32, w: &mut [u8], trace: &mut [u8], base: u32, index: u32, value: Segment)
+    ensures { λ _. ⌜ (now (w .exit), now (trace .exit)) ≡ runT at (setSegment base index value) (now (w .entry), now (trace .entry)) .1 ⌝ }
 {
-    let table = field(at, w, base, SEGMENT_TABLE_OFFSET);
+    let table = field(at, w, trace, base, SEGMENT_TABLE_OFFSET);
     let entry = entry_address(table, index, SEGMENT_ENTRY_SIZE);
-    window::write32(at, w, entry, value.offset);
-    window::write32(at, w, std::num::wrapping_add_u32(entry, 4), value.size);
+    window::write32(at, w, trace, entry, value.offset);
+    window::write32(
+        at,
+        w,
+        trace,
+        std::num::wrapping_add_u32(entry, 4),
+        value.size,
+    );
     let kind = value.kind;
-    window::write32(at, w, std::num::wrapping_add_u32(entry, 8), kind.raw());
+    window::write32(
+        at,
+        w,
+        trace,
+        std::num::wrapping_add_u32(entry, 8),
+        kind.raw(),
+    );
 }
 
 // Resolves a segment tag to an address inside the module.
-pub fn tag_to_address(at: u32, w: &[u8], base: u32, tag: SegmentTag) -> Address
-    ensures { λ r. ⌜ r ≡ run at (tagToAddress base (tag .0)) (now (w .entry)) .0 ⌝ }
+pub fn tag_to_address(at: u32, w: &[u8], trace: &mut [u8], base: u32, tag: SegmentTag) -> Address
+    ensures { λ r. ⌜ (r, (now (w .entry), now (trace .exit))) ≡ runT at (tagToAddress base (tag .0)) (now (w .entry), now (trace .entry)) ⌝ }
 {
-    let FoundSegment::Found(entry) = segment(at, w, base, tag.segment()) else {
+    let FoundSegment::Found(entry) = segment(at, w, trace, base, tag.segment()) else {
         return Address::Nowhere;
     };
     let offset = tag.offset();

@@ -1,17 +1,21 @@
 -- From the code's writes to the definitions.
 use Prim.Native.Nat.{ℕ}
 use mathlib.Core.Path.{_≡_, sym, _∙_}
-use mathlib.Core.List.{List}
-use Rattle.window.specs.Memory.{putPrivileged}
-use Rattle.window.specs.Access.{run}
-use Rattle.layout_relocation.specs.Relocation.{relocatedWord, applyRelocation, relocation-word}
+use Rattle.window.specs.Access.{put32Privileged}
+use Rattle.window.specs.Trace.{S, runT}
+use Rattle.layout_relocation.specs.Relocation.{patch, relocatedWord, applyRelocation}
 use Rattle.layout.specs.declared.format.RelocationType.{RelocationType}
 use Rattle.layout_relocation.specs.declared.Patch.{Patch}
 use Rattle.layout_relocation.specs.declared.Patch.the-variants.{Word}
 
--- a relocated word, as the code finds it
-pub word-written
-    : (at target : ℕ) (kind : RelocationType) (addend symbol final : ℕ) (w : List ℕ) (v : ℕ) {p : Patch} {after : List ℕ}
-    → p ≡ relocatedWord kind addend symbol final → p ≡ Word v → after ≡ putPrivileged at w target v
-    → after ≡ run at (applyRelocation target kind addend symbol final) w .1
-word-written at target kind addend symbol final w v e f g = g ∙ sym (relocation-word at target kind addend symbol final w (sym e ∙ f))
+module _ (at target : ℕ) (kind : RelocationType) (addend symbol final : ℕ) (s : S) {p : Patch} (e : p ≡ relocatedWord kind addend symbol final) where
+  -- a relocated word, as the code finds it
+  pub word-written
+      : (v : ℕ) {after : S} → p ≡ Word v → after ≡ runT at (put32Privileged target v) s .1
+      → after ≡ runT at (applyRelocation target kind addend symbol final) s .1
+  unfolding applyRelocation patch
+  word-written v f g = rw (← e, f, patch) g
+
+  pub nothing-written : p ≡ Patch.Nothing → s ≡ runT at (applyRelocation target kind addend symbol final) s .1
+  unfolding applyRelocation patch runT
+  nothing-written f = rw (← e, f, patch, runT)

@@ -1,6 +1,6 @@
 // What a relocation writes, and the write.
 ghost use mathlib.Core.Path.{_≡_};
-ghost use Rattle.window.specs.Access.{run};
+ghost use Rattle.window.specs.Trace.{runT};
 ghost use Rattle.layout_relocation.specs.Relocation.{relocatedWord, applyRelocation};
 use layout::format::RelocationType;
 
@@ -34,16 +34,17 @@ pub fn relocated_word(kind: RelocationType, addend: u32, symbol: u32, target_fin
 pub fn apply_relocation(
     at: u32,
     w: &mut [u8],
+    trace: &mut [u8],
     target: u32,
     kind: RelocationType,
     addend: u32,
     symbol: u32,
     target_final: u32,
 )
-    ensures { λ _. ⌜ now (w .exit) ≡ run at (applyRelocation target kind addend symbol «target_final») (now (w .entry)) .1 ⌝ }
+    ensures { λ _. ⌜ (now (w .exit), now (trace .exit)) ≡ runT at (applyRelocation target kind addend symbol «target_final») (now (w .entry), now (trace .entry)) .1 ⌝ }
 {
     let Patch::Word(word) = relocated_word(kind, addend, symbol, target_final) else {
         return;
     };
-    window::write32_privileged(at, w, target, word);
+    window::write32_privileged(at, w, trace, target, word);
 }

@@ -1,7 +1,7 @@
 // The lists that the title walks from the static module, whose next field heads one and whose previous field heads the other.
 // A list's head keeps its tail in its previous field, and the tail has no next.
 ghost use mathlib.Core.Path.{_≡_};
-ghost use Rattle.window.specs.Access.{run};
+ghost use Rattle.window.specs.Trace.{runT};
 ghost use Rattle.linker.specs.Lists.{headField, becomesHead, becomesTail, register, headLeaves, middleLeaves, newTail, tailLeaves, otherLeaves, leaves, unregister};
 use layout::fields::field;
 use layout::fields::set_field;
@@ -18,110 +18,118 @@ fn head_field(auto_link: bool) -> u32
     PREVIOUS_CRO
 }
 
-fn become_head(at: u32, w: &mut [u8], crs: u32, x: u32, base: u32)
-    ensures { λ _. ⌜ now (w .exit) ≡ run at (becomesHead crs x base) (now (w .entry)) .1 ⌝ }
+fn become_head(at: u32, w: &mut [u8], trace: &mut [u8], crs: u32, x: u32, base: u32)
+    ensures { λ _. ⌜ (now (w .exit), now (trace .exit)) ≡ runT at (becomesHead crs x base) (now (w .entry), now (trace .entry)) .1 ⌝ }
 {
-    set_field(at, w, crs, x, base);
-    set_field(at, w, base, PREVIOUS_CRO, base);
+    set_field(at, w, trace, crs, x, base);
+    set_field(at, w, trace, base, PREVIOUS_CRO, base);
 }
 
-fn become_tail(at: u32, w: &mut [u8], head: u32, base: u32)
-    ensures { λ _. ⌜ now (w .exit) ≡ run at (becomesTail head base) (now (w .entry)) .1 ⌝ }
+fn become_tail(at: u32, w: &mut [u8], trace: &mut [u8], head: u32, base: u32)
+    ensures { λ _. ⌜ (now (w .exit), now (trace .exit)) ≡ runT at (becomesTail head base) (now (w .entry), now (trace .entry)) .1 ⌝ }
 {
-    let tail = field(at, w, head, PREVIOUS_CRO);
-    set_field(at, w, tail, NEXT_CRO, base);
-    set_field(at, w, base, PREVIOUS_CRO, tail);
-    set_field(at, w, head, PREVIOUS_CRO, base);
+    let tail = field(at, w, trace, head, PREVIOUS_CRO);
+    set_field(at, w, trace, tail, NEXT_CRO, base);
+    set_field(at, w, trace, base, PREVIOUS_CRO, tail);
+    set_field(at, w, trace, head, PREVIOUS_CRO, base);
 }
 
 // Puts a module at the end of its list.
-pub fn register(at: u32, w: &mut [u8], crs: u32, base: u32, auto_link: bool)
-    ensures { λ _. ⌜ now (w .exit) ≡ run at (register crs base «auto_link») (now (w .entry)) .1 ⌝ }
+pub fn register(at: u32, w: &mut [u8], trace: &mut [u8], crs: u32, base: u32, auto_link: bool)
+    ensures { λ _. ⌜ (now (w .exit), now (trace .exit)) ≡ runT at (register crs base «auto_link») (now (w .entry), now (trace .entry)) .1 ⌝ }
 {
     let x = head_field(auto_link);
-    let head = field(at, w, crs, x);
+    let head = field(at, w, trace, crs, x);
     if head == 0 {
-        become_head(at, w, crs, x, base);
+        become_head(at, w, trace, crs, x, base);
     } else {
-        become_tail(at, w, head, base);
+        become_tail(at, w, trace, head, base);
     }
-    set_field(at, w, base, NEXT_CRO, 0);
+    set_field(at, w, trace, base, NEXT_CRO, 0);
 }
 
 // The head leaves: the one after it heads the list now and keeps the tail.
-fn head_leaves(at: u32, w: &mut [u8], crs: u32, x: u32, next: u32, previous: u32)
-    ensures { λ _. ⌜ now (w .exit) ≡ run at (headLeaves crs x next previous) (now (w .entry)) .1 ⌝ }
+fn head_leaves(at: u32, w: &mut [u8], trace: &mut [u8], crs: u32, x: u32, next: u32, previous: u32)
+    ensures { λ _. ⌜ (now (w .exit), now (trace .exit)) ≡ runT at (headLeaves crs x next previous) (now (w .entry), now (trace .entry)) .1 ⌝ }
 {
     if next != 0 {
-        set_field(at, w, next, PREVIOUS_CRO, previous);
+        set_field(at, w, trace, next, PREVIOUS_CRO, previous);
     }
-    set_field(at, w, crs, x, next);
+    set_field(at, w, trace, crs, x, next);
 }
 
-fn middle_leaves(at: u32, w: &mut [u8], next: u32, previous: u32)
-    ensures { λ _. ⌜ now (w .exit) ≡ run at (middleLeaves next previous) (now (w .entry)) .1 ⌝ }
+fn middle_leaves(at: u32, w: &mut [u8], trace: &mut [u8], next: u32, previous: u32)
+    ensures { λ _. ⌜ (now (w .exit), now (trace .exit)) ≡ runT at (middleLeaves next previous) (now (w .entry), now (trace .entry)) .1 ⌝ }
 {
-    set_field(at, w, previous, NEXT_CRO, next);
-    set_field(at, w, next, PREVIOUS_CRO, previous);
+    set_field(at, w, trace, previous, NEXT_CRO, next);
+    set_field(at, w, trace, next, PREVIOUS_CRO, previous);
 }
 
 // A head whose tail leaves gets the one before it.
-fn new_tail(at: u32, w: &mut [u8], crs: u32, x: u32, base: u32, previous: u32)
-    ensures { λ _. ⌜ now (w .exit) ≡ run at (newTail crs x base previous) (now (w .entry)) .1 ⌝ }
+fn new_tail(at: u32, w: &mut [u8], trace: &mut [u8], crs: u32, x: u32, base: u32, previous: u32)
+    ensures { λ _. ⌜ (now (w .exit), now (trace .exit)) ≡ runT at (newTail crs x base previous) (now (w .entry), now (trace .entry)) .1 ⌝ }
 {
-    let head = field(at, w, crs, x);
+    let head = field(at, w, trace, crs, x);
     if head == 0 {
         return;
     }
-    if field(at, w, head, PREVIOUS_CRO) != base {
+    if field(at, w, trace, head, PREVIOUS_CRO) != base {
         return;
     }
-    set_field(at, w, head, PREVIOUS_CRO, previous);
+    set_field(at, w, trace, head, PREVIOUS_CRO, previous);
 }
 
-fn tail_leaves(at: u32, w: &mut [u8], crs: u32, base: u32, previous: u32)
-    ensures { λ _. ⌜ now (w .exit) ≡ run at (tailLeaves crs base previous) (now (w .entry)) .1 ⌝ }
+fn tail_leaves(at: u32, w: &mut [u8], trace: &mut [u8], crs: u32, base: u32, previous: u32)
+    ensures { λ _. ⌜ (now (w .exit), now (trace .exit)) ≡ runT at (tailLeaves crs base previous) (now (w .entry), now (trace .entry)) .1 ⌝ }
 {
-    set_field(at, w, previous, NEXT_CRO, 0);
-    new_tail(at, w, crs, NEXT_CRO, base, previous);
-    new_tail(at, w, crs, PREVIOUS_CRO, base, previous);
+    set_field(at, w, trace, previous, NEXT_CRO, 0);
+    new_tail(at, w, trace, crs, NEXT_CRO, base, previous);
+    new_tail(at, w, trace, crs, PREVIOUS_CRO, base, previous);
 }
 
 // One that heads no list leaves.
-fn other_leaves(at: u32, w: &mut [u8], crs: u32, base: u32, next: u32, previous: u32)
-    ensures { λ _. ⌜ now (w .exit) ≡ run at (otherLeaves crs base next previous) (now (w .entry)) .1 ⌝ }
+fn other_leaves(
+    at: u32,
+    w: &mut [u8],
+    trace: &mut [u8],
+    crs: u32,
+    base: u32,
+    next: u32,
+    previous: u32,
+)
+    ensures { λ _. ⌜ (now (w .exit), now (trace .exit)) ≡ runT at (otherLeaves crs base next previous) (now (w .entry), now (trace .entry)) .1 ⌝ }
 {
     if next == 0 {
-        tail_leaves(at, w, crs, base, previous);
+        tail_leaves(at, w, trace, crs, base, previous);
         return;
     }
-    middle_leaves(at, w, next, previous);
+    middle_leaves(at, w, trace, next, previous);
 }
 
-fn leaves(at: u32, w: &mut [u8], crs: u32, base: u32, next: u32, previous: u32)
-    ensures { λ _. ⌜ now (w .exit) ≡ run at (leaves crs base next previous) (now (w .entry)) .1 ⌝ }
+fn leaves(at: u32, w: &mut [u8], trace: &mut [u8], crs: u32, base: u32, next: u32, previous: u32)
+    ensures { λ _. ⌜ (now (w .exit), now (trace .exit)) ≡ runT at (leaves crs base next previous) (now (w .entry), now (trace .entry)) .1 ⌝ }
 {
-    if field(at, w, crs, NEXT_CRO) == base {
-        head_leaves(at, w, crs, NEXT_CRO, next, previous);
+    if field(at, w, trace, crs, NEXT_CRO) == base {
+        head_leaves(at, w, trace, crs, NEXT_CRO, next, previous);
         return;
     }
-    if field(at, w, crs, PREVIOUS_CRO) == base {
-        head_leaves(at, w, crs, PREVIOUS_CRO, next, previous);
+    if field(at, w, trace, crs, PREVIOUS_CRO) == base {
+        head_leaves(at, w, trace, crs, PREVIOUS_CRO, next, previous);
         return;
     }
-    other_leaves(at, w, crs, base, next, previous);
+    other_leaves(at, w, trace, crs, base, next, previous);
 }
 
 // Takes a module out of the list it is in; one whose previous is 0 is in none.
-pub fn unregister(at: u32, w: &mut [u8], crs: u32, base: u32)
-    ensures { λ _. ⌜ now (w .exit) ≡ run at (unregister crs base) (now (w .entry)) .1 ⌝ }
+pub fn unregister(at: u32, w: &mut [u8], trace: &mut [u8], crs: u32, base: u32)
+    ensures { λ _. ⌜ (now (w .exit), now (trace .exit)) ≡ runT at (unregister crs base) (now (w .entry), now (trace .entry)) .1 ⌝ }
 {
-    let next = field(at, w, base, NEXT_CRO);
-    let previous = field(at, w, base, PREVIOUS_CRO);
+    let next = field(at, w, trace, base, NEXT_CRO);
+    let previous = field(at, w, trace, base, PREVIOUS_CRO);
     if previous == 0 {
         return;
     }
-    leaves(at, w, crs, base, next, previous);
-    set_field(at, w, base, NEXT_CRO, 0);
-    set_field(at, w, base, PREVIOUS_CRO, 0);
+    leaves(at, w, trace, crs, base, next, previous);
+    set_field(at, w, trace, base, NEXT_CRO, 0);
+    set_field(at, w, trace, base, PREVIOUS_CRO, 0);
 }

@@ -1,6 +1,6 @@
 // Internal relocations: those that point within the module itself.
 ghost use mathlib.Core.Path.{_≡_};
-ghost use Rattle.window.specs.Access.{run};
+ghost use Rattle.window.specs.Trace.{runT};
 ghost use Rattle.linker.specs.Relocation.{writePlace, applyInternalRelocation, applyInternalRelocations};
 use layout::fields::entry_address;
 use layout::fields::field;
@@ -27,14 +27,21 @@ fn write_place(kind: SegmentType, old: u32, offset: u32, target_final: u32) -> u
 }
 
 // Applies one internal relocation; the Data segment's bytes still stand at `old`.
-fn apply_internal_relocation(at: u32, w: &mut [u8], base: u32, old: u32, entry: u32)
-    ensures { λ _. ⌜ now (w .exit) ≡ run at (applyInternalRelocation base old entry) (now (w .entry)) .1 ⌝ }
+fn apply_internal_relocation(
+    at: u32,
+    w: &mut [u8],
+    trace: &mut [u8],
+    base: u32,
+    old: u32,
+    entry: u32,
+)
+    ensures { λ _. ⌜ (now (w .exit), now (trace .exit)) ≡ runT at (applyInternalRelocation base old entry) (now (w .entry), now (trace .entry)) .1 ⌝ }
 {
-    let tag = SegmentTag(window::read32(at, w, entry));
-    let kind = window::read8(at, w, std::num::wrapping_add_u32(entry, 4));
-    let symbol = window::read8(at, w, std::num::wrapping_add_u32(entry, 5)) as u32;
-    let addend = window::read32(at, w, std::num::wrapping_add_u32(entry, 8));
-    let FoundSegment::Found(into) = segment(at, w, base, tag.segment()) else {
+    let tag = SegmentTag(window::read32(at, w, trace, entry));
+    let kind = window::read8(at, w, trace, std::num::wrapping_add_u32(entry, 4));
+    let symbol = window::read8(at, w, trace, std::num::wrapping_add_u32(entry, 5)) as u32;
+    let addend = window::read32(at, w, trace, std::num::wrapping_add_u32(entry, 8));
+    let FoundSegment::Found(into) = segment(at, w, trace, base, tag.segment()) else {
         return;
     };
     let offset = tag.offset();
@@ -44,12 +51,13 @@ fn apply_internal_relocation(at: u32, w: &mut [u8], base: u32, old: u32, entry: 
     let target_final = std::num::wrapping_add_u32(into.offset, offset);
     let part = into.kind;
     let target = write_place(part, old, offset, target_final);
-    let FoundSegment::Found(from) = segment(at, w, base, symbol) else {
+    let FoundSegment::Found(from) = segment(at, w, trace, base, symbol) else {
         return;
     };
     apply_relocation(
         at,
         w,
+        trace,
         target,
         RelocationType::from_raw(kind),
         addend,
@@ -59,13 +67,13 @@ fn apply_internal_relocation(at: u32, w: &mut [u8], base: u32, old: u32, entry: 
 }
 
 // Applies the relocations that point within the module; the Data segment's bytes still stand at `old`.
-pub fn apply_internal_relocations(at: u32, w: &mut [u8], base: u32, old: u32)
-    ensures { λ _. ⌜ now (w .exit) ≡ run at (applyInternalRelocations base old) (now (w .entry)) .1 ⌝ }
+pub fn apply_internal_relocations(at: u32, w: &mut [u8], trace: &mut [u8], base: u32, old: u32)
+    ensures { λ _. ⌜ (now (w .exit), now (trace .exit)) ≡ runT at (applyInternalRelocations base old) (now (w .entry), now (trace .entry)) .1 ⌝ }
 {
-    let table = field(at, w, base, INTERNAL_RELOCATION_TABLE_OFFSET);
-    let count = field(at, w, base, INTERNAL_RELOCATION_NUM);
+    let table = field(at, w, trace, base, INTERNAL_RELOCATION_TABLE_OFFSET);
+    let count = field(at, w, trace, base, INTERNAL_RELOCATION_NUM);
     for index in 0..count {
         let entry = entry_address(table, index, RELOCATION_ENTRY_SIZE);
-        apply_internal_relocation(at, w, base, old, entry);
+        apply_internal_relocation(at, w, trace, base, old, entry);
     }
 }

@@ -1,2 +1,3 @@
 -- What the proofs of `window` share.
 pub mod Laws
+pub mod TraceLaws

@@ -7,5 +7,8 @@ pub mod Word
 pub mod Access
 pub mod Small
 pub mod Loop
+pub mod Trace
+pub mod TraceRuns
 pub mod Within
+pub mod Silent
 pub mod Mirror

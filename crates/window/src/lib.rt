@@ -1,13 +1,18 @@
 // A window on a 32-bit address space: its first address `at` and its bytes `w`. Every sum of addresses wraps at 2^32.
 // The test of a window and the five accesses stand here, names in `name`; no other crate indexes a window.
+// Each access says whether any of its bytes lay outside: the lent trace keeps where the first such access started.
+// Only this crate looks into a trace, and it is total in the trace's length.
+mod plain;
 
 ghost use mathlib.Core.Path.{_≡_};
 ghost use mathlib.Core.Bool.{_&&_};
 ghost use Prim.Native.Nat.{_+_, _≤_, _<_};
 ghost use lib.ListN.{length};
 ghost use lib.Dec.{leb};
-ghost use Rattle.window.specs.Memory.{place, byteAt, wordAt, putByte, putWord, putPrivileged, goodWindow};
+ghost use Rattle.window.specs.Memory.{place, goodWindow};
 ghost use Rattle.window.specs.Word.{wordIn, setWordIn};
+ghost use Rattle.window.specs.Access.{get8, get32, put8, put32, put32Privileged};
+ghost use Rattle.window.specs.Trace.{outside, said, noted, saw, touchOf, runT};
 
 // Whether a host may lend such a window: pages of 4,096 bytes, at least one, none past 2^32 (number 3's rule).
 pub fn good_window(at: u32, w: &[u8]) -> bool
@@ -34,56 +39,125 @@ fn place_of(at: u32, x: u32) -> usize
 }
 
 // The byte at x, 0 outside.
-pub fn read8(at: u32, w: &[u8], x: u32) -> u8
-    ensures { λ r. ⌜ r ≡ byteAt at (now (w .entry)) x ⌝ }
+pub fn read8(at: u32, w: &[u8], trace: &mut [u8], x: u32) -> u8
+    ensures { λ r. ⌜ (r, (now (w .entry), now (trace .exit))) ≡ runT at (get8 x) (now (w .entry), now (trace .entry)) ⌝ }
 {
     let i = place_of(at, x);
-    if i < w.len() { w[i] } else { 0 }
+    if i < w.len() {
+        return w[i];
+    }
+    note(trace, x);
+    0
 }
 
 // Stores b at x, unless x is outside.
-pub fn write8(at: u32, w: &mut [u8], x: u32, b: u8)
-    ensures { λ _. ⌜ now (w .exit) ≡ putByte at (now (w .entry)) x b ⌝ }
+pub fn write8(at: u32, w: &mut [u8], trace: &mut [u8], x: u32, b: u8)
+    ensures { λ _. ⌜ (now (w .exit), now (trace .exit)) ≡ runT at (put8 x b) (now (w .entry), now (trace .entry)) .1 ⌝ }
 {
     let i = place_of(at, x);
     if i < w.len() {
         w[i] = b;
+        return;
     }
+    note(trace, x);
 }
 
 // The word at x, lowest byte first.
-pub fn read32(at: u32, w: &[u8], x: u32) -> u32
-    ensures { λ r. ⌜ r ≡ wordAt at (now (w .entry)) x ⌝ }
+pub fn read32(at: u32, w: &[u8], trace: &mut [u8], x: u32) -> u32
+    ensures { λ r. ⌜ (r, (now (w .entry), now (trace .exit))) ≡ runT at (get32 x) (now (w .entry), now (trace .entry)) ⌝ }
 {
     let i = place_of(at, x);
     if whole(i, w.len()) {
         return load32(w, i);
     }
-    read32_split(at, w, x)
+    note_word(at, w.len(), trace, x);
+    plain::read32_split(at, w, x)
 }
 
 // Stores the word v at x, lowest byte first; bytes outside are dropped.
-pub fn write32(at: u32, w: &mut [u8], x: u32, v: u32)
-    ensures { λ _. ⌜ now (w .exit) ≡ putWord at (now (w .entry)) x v ⌝ }
+pub fn write32(at: u32, w: &mut [u8], trace: &mut [u8], x: u32, v: u32)
+    ensures { λ _. ⌜ (now (w .exit), now (trace .exit)) ≡ runT at (put32 x v) (now (w .entry), now (trace .entry)) .1 ⌝ }
 {
     let i = place_of(at, x);
     if whole(i, w.len()) {
         store32(w, i, v);
         return;
     }
-    write32_split(at, w, x, v);
+    note_word(at, w.len(), trace, x);
+    plain::write32_split(at, w, x, v);
 }
 
 // Stores the word v upward from x, lowest byte first, and stops at the first byte outside.
-pub fn write32_privileged(at: u32, w: &mut [u8], x: u32, v: u32)
-    ensures { λ _. ⌜ now (w .exit) ≡ putPrivileged at (now (w .entry)) x v ⌝ }
+pub fn write32_privileged(at: u32, w: &mut [u8], trace: &mut [u8], x: u32, v: u32)
+    ensures { λ _. ⌜ (now (w .exit), now (trace .exit)) ≡ runT at (put32Privileged x v) (now (w .entry), now (trace .entry)) .1 ⌝ }
 {
     let i = place_of(at, x);
     if whole(i, w.len()) {
         store32(w, i, v);
         return;
     }
-    write32_upward(at, w, x, v);
+    note_word(at, w.len(), trace, x);
+    plain::write32_upward(at, w, x, v);
+}
+
+// Whether an access with a byte outside is kept.
+pub fn said(trace: &[u8]) -> bool
+    ensures { λ r. ⌜ r ≡ said (now (trace .entry)) ⌝ }
+{
+    plain::read32(0, trace, 4) != 0
+}
+
+// 1 where an access with a byte outside is kept, else 0.
+pub fn touched(trace: &[u8]) -> u32
+    ensures { λ r. ⌜ r ≡ touchOf (now (trace .entry)) .0 ⌝ }
+{
+    plain::read32(0, trace, 4)
+}
+
+// Where that access started.
+pub fn first(trace: &[u8]) -> u32
+    ensures { λ r. ⌜ r ≡ touchOf (now (trace .entry)) .1 ⌝ }
+{
+    plain::read32(0, trace, 8)
+}
+
+// Keeps x, unless an earlier access is kept.
+fn note(trace: &mut [u8], x: u32)
+    ensures { λ _. ⌜ now (trace .exit) ≡ noted x (now (trace .entry)) ⌝ }
+{
+    if said(trace) {
+        return;
+    }
+    plain::write32(0, trace, 4, 1);
+    plain::write32(0, trace, 8, x);
+}
+
+// Keeps a word's access from x on, if one of its bytes is outside.
+fn note_word(at: u32, n: usize, trace: &mut [u8], x: u32)
+    ensures { λ _. ⌜ now (trace .exit) ≡ saw at n x 4 (now (trace .entry)) ⌝ }
+{
+    if word_outside(at, n, x) {
+        note(trace, x);
+    }
+}
+
+// Whether one of the four bytes from x on is none of the n from `at` on.
+fn word_outside(at: u32, n: usize, x: u32) -> bool
+    ensures { λ r. ⌜ r ≡ outside at n x 4 ⌝ }
+{
+    if n <= place_of(at, x) {
+        return true;
+    }
+    if n <= place_of(at, std::num::wrapping_add_u32(x, 1)) {
+        return true;
+    }
+    if n <= place_of(at, std::num::wrapping_add_u32(x, 2)) {
+        return true;
+    }
+    if n <= place_of(at, std::num::wrapping_add_u32(x, 3)) {
+        return true;
+    }
+    false
 }
 
 // Whether the four bytes from place i on are all among n: the one range test of a word.
@@ -119,45 +193,4 @@ pub fn store32(w: &mut [u8], i: usize, v: u32)
     w[i + 1] = (v / 256 % 256) as u8;
     w[i + 2] = (v / 256 / 256 % 256) as u8;
     w[i + 3] = (v / 256 / 256 / 256 % 256) as u8;
-}
-
-// The word at x, byte by byte: any of them may be outside.
-fn read32_split(at: u32, w: &[u8], x: u32) -> u32
-    ensures { λ r. ⌜ r ≡ wordAt at (now (w .entry)) x ⌝ }
-{
-    let b0 = wide(read8(at, w, x));
-    let b1 = wide(read8(at, w, std::num::wrapping_add_u32(x, 1)));
-    let b2 = wide(read8(at, w, std::num::wrapping_add_u32(x, 2)));
-    let b3 = wide(read8(at, w, std::num::wrapping_add_u32(x, 3)));
-    b0 + 256 * (b1 + 256 * (b2 + 256 * b3))
-}
-
-// Stores the word v at x, byte by byte: any of them may be outside.
-fn write32_split(at: u32, w: &mut [u8], x: u32, v: u32)
-    ensures { λ _. ⌜ now (w .exit) ≡ putWord at (now (w .entry)) x v ⌝ }
-{
-    let x1 = std::num::wrapping_add_u32(x, 1);
-    let x2 = std::num::wrapping_add_u32(x, 2);
-    let x3 = std::num::wrapping_add_u32(x, 3);
-    write8(at, w, x, (v % 256) as u8);
-    write8(at, w, x1, (v / 256 % 256) as u8);
-    write8(at, w, x2, (v / 256 / 256 % 256) as u8);
-    write8(at, w, x3, (v / 256 / 256 / 256 % 256) as u8);
-}
-
-// Stores the word v upward from x, byte by byte, up to the first one outside.
-fn write32_upward(at: u32, w: &mut [u8], x: u32, v: u32)
-    ensures { λ _. ⌜ now (w .exit) ≡ putPrivileged at (now (w .entry)) x v ⌝ }
-{
-    let mut y = x;
-    let mut rest = v;
-    for k in 0u32..4 {
-        let i = place_of(at, y);
-        if w.len() <= i {
-            return;
-        }
-        w[i] = (rest % 256) as u8;
-        y = std::num::wrapping_add_u32(y, 1);
-        rest = rest / 256;
-    }
 }

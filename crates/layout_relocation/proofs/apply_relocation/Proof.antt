@@ -1,8 +1,6 @@
--- By what the relocation writes: `relocation-nothing` and `word-written`.
-use mathlib.Core.Path.{sym, _∙_}
+-- By what the relocation writes: `nothing-written` and `word-written`.
 use borrow.Author.Needs.{needs}
-use Rattle.layout_relocation.specs.Relocation.{relocation-nothing}
-use Rattle.layout_relocation.proofs.Laws.{word-written}
+use Rattle.layout_relocation.proofs.Laws.{nothing-written, word-written}
 use Rattle.layout_relocation.proofs.apply_relocation.Statement.{statement}
 use Rattle.layout_relocation.proofs.apply_relocation.Tie as tie
 
@@ -17,9 +15,11 @@ enum-told c = search needs
 
 returns : tie.Need-returns
 returns c =
-    let a = c .before .before .before .before .args in
-    sym (relocation-nothing (a .at) (a .target) (a .kind) (a .addend) (a .symbol) (a .target-final) (a .w .now)
-    (sym (c .before .before .relocated-word .ensures) ∙ c .enum-told .given .1))
+    let p2 = c .before .before in
+    let p5 = p2 .before .before .before in
+    let a = p5 .args in
+    nothing-written (a .at) (a .target) (a .kind) (a .addend) (a .symbol) (a .target-final) (a .w .now, a .trace .now)
+    (p2 .relocated-word .ensures) (c .enum-told .given .1)
 
 write32-privileged-requires : tie.Need-write32-privileged-requires
 write32-privileged-requires c κs = search needs
@@ -27,13 +27,18 @@ write32-privileged-requires c κs = search needs
 same-length : tie.Need-same-length
 same-length c = search needs
 
+same-length-2 : tie.Need-same-length-2
+same-length-2 c = search needs
+
 returns-2 : tie.Need-returns-2
 returns-2 c =
-    let b₄ = c .before .before .before .before in
-    let b₈ = b₄ .before .before .before .before in
-    let a = b₈ .before .args in
-    word-written (a .at) (a .target) (a .kind) (a .addend) (a .symbol) (a .target-final) (a .w .now) (b₄ .before .word .given .0 .0)
-    (b₄ .before .before .before .relocated-word .ensures) (b₄ .before .word .given .1) (c .before .before .write32-privileged .ensures)
+    let p4 = c .before .before .before .before in
+    let p8 = p4 .before .before .before .before in
+    let p10 = p8 .before .before in
+    let p13 = p10 .before .before .before in
+    let a = p13 .args in
+    word-written (a .at) (a .target) (a .kind) (a .addend) (a .symbol) (a .target-final) (a .w .now, a .trace .now)
+    (p10 .relocated-word .ensures) (p8 .word .given .0 .0) (p8 .word .given .1) (p4 .write32-privileged .ensures)
 
 pub apply-relocation-spec : {M : Type 1} → statement M
 apply-relocation-spec =
@@ -45,4 +50,5 @@ apply-relocation-spec =
     returns
     write32-privileged-requires
     same-length
+    same-length-2
     returns-2)

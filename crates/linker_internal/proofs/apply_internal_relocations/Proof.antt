@@ -1,28 +1,30 @@
 -- A counted loop over the table: `internal-starts`, `step-made`, `steps-over`.
 use Prim.Native.Nat.{_-_, _≤_}
-use mathlib.Core.Path.{_≡_, refl, _∙_}
+use mathlib.Core.Path.{_≡_, refl, ap, _∙_}
 use native.Mathlib.Omega.{arith}
 use lib.ListN.{length}
 use borrow.Author.Needs.{needs}
-use Rattle.window.specs.Access.{run}
+use Rattle.window.specs.Silent.{trace-kept}
+use Rattle.window.specs.Trace.{runT}
 use Rattle.window.specs.Loop.{loop}
 use Rattle.layout.specs.Header.{relocationEntrySize}
 use Rattle.layout.specs.Segments.{entryAt}
 use Rattle.linker.specs.Relocation.{applyInternalRelocation, applyInternalRelocations}
-use Rattle.linker_relocation.specs.Runs.{step-made, steps-over}
+use Rattle.window.specs.TraceRuns.{left, step-made, steps-over}
 use Rattle.linker_internal.proofs.Laws.{internal-starts}
 use Rattle.linker_internal.proofs.apply_internal_relocations.Statement.{statement}
 use Rattle.linker_internal.proofs.apply_internal_relocations.Tie as tie
 
 abbrev Inv-loop : tie.InvT-loop
-Inv-loop at w₀ base old table count index₀ w index =
+Inv-loop at w₀ base old trace₀ table count index₀ w trace index =
     (index ≤ count)
     × (length w ≡ length w₀)
-    × (run at (loop (λ i _. applyInternalRelocation base old (entryAt table i relocationEntrySize)) index (count - index) tt) w
-    ≡ run at (applyInternalRelocations base old) w₀)
+    × (runT at (loop (λ i _. applyInternalRelocation base old (entryAt table i relocationEntrySize)) index (count - index) tt) (w, trace)
+    ≡ runT at (loop (λ i _. applyInternalRelocation base old (entryAt table i relocationEntrySize)) 0 (count - 0) tt) (w₀, trace₀))
+    × (length trace ≡ length trace₀)
 
 abbrev μ-loop : tie.MeasureT-loop
-μ-loop at w₀ base old table count index₀ w index = count - index
+μ-loop at w₀ base old trace₀ table count index₀ w trace index = count - index
 
 field-requires : tie.Need-field-requires Inv-loop μ-loop
 field-requires c κs = search needs
@@ -31,11 +33,7 @@ field-requires-2 : tie.Need-field-requires-2 Inv-loop μ-loop
 field-requires-2 c κs = search needs
 
 loop-holds : tie.Need-loop-holds Inv-loop μ-loop
-loop-holds c =
-    let p2 = c .before .before in
-    let p5 = p2 .before .before .before in
-    let a = p5 .args in
-    (omega arith, refl, internal-starts (a .at) (a .base) (a .old) (a .w .now) (p2 .field .ensures) (c .field2 .ensures))
+loop-holds c = (omega arith, refl, refl, refl)
 
 entry-address-requires : tie.Need-entry-address-requires Inv-loop μ-loop
 entry-address-requires c κs = search needs
@@ -51,35 +49,40 @@ loop-less c = omega arith
 
 loop-again : tie.Need-loop-again Inv-loop μ-loop
 loop-again c =
-    let p2 = c .before .before in
-    let p4 = p2 .before .before in
-    let p5 = p4 .before in
-    let p6 = p5 .before in
-    let p7 = p6 .before in
-    let p9 = p7 .before .before in
+    let p4 = c .before .before .before .before in
+    let p7 = p4 .before .before .before in
+    let p8 = p7 .before in
+    let p9 = p8 .before in
     let p12 = p9 .before .before .before in
-    let a = p12 .args in (
+    let p17 = p12 .before .before .before .before .before in
+    let p22 = p17 .before .before .before .before .before in
+    let a = p22 .args in (
       omega arith,
-      p2 .apply-internal-relocation .kept .1 .0 ∙ p6 .loop .inv .1,
-      step-made (a .at) (applyInternalRelocation (a .base) (a .old)) (λ i. entryAt (p9 .field .result) i relocationEntrySize)
-          (p6 .loop .index) (p7 .field2 .result) (p6 .loop .w) (p6 .loop .inv .2) (p5 .loop-test .taken) (p4 .entry-address .ensures)
-          (p2 .apply-internal-relocation .ensures),
+      p4 .apply-internal-relocation .kept .1 .0 ∙ p9 .loop .inv .1,
+      step-made (a .at) (applyInternalRelocation (a .base) (a .old)) (λ i. entryAt (p17 .field .result) i relocationEntrySize)
+          (p9 .loop .index) (p12 .field2 .result) (p9 .loop .w, p9 .loop .trace) (p9 .loop .inv .2) (p8 .loop-test .taken) (p7 .entry-address .ensures)
+          (p4 .apply-internal-relocation .ensures),
+      p4 .apply-internal-relocation .kept .1 .1 .1 .1 .1 .0 ∙ p9 .loop .inv .3,
     )
 
 same-length : tie.Need-same-length Inv-loop μ-loop
-same-length c =
-    let p1 = c .before in
-    p1 .loop .inv .1
+same-length c = c .before .loop .inv .1
 
 returns : tie.Need-returns Inv-loop μ-loop
 returns c =
     let p1 = c .before in
-    let p2 = p1 .before in
-    let p4 = p2 .before .before in
-    let p7 = p4 .before .before .before in
-    let a = p7 .args in
-    steps-over (a .at) (applyInternalRelocation (a .base) (a .old)) (λ i. entryAt (p4 .field .result) i relocationEntrySize)
-    (p1 .loop .index) (p2 .field2 .result) (p1 .loop .w) (p1 .loop .inv .2) (c .loop-test .left)
+    let p4 = p1 .before .before .before in
+    let p9 = p4 .before .before .before .before .before in
+    let p14 = p9 .before .before .before .before .before in
+    let a = p14 .args in
+    steps-over (a .at) (applyInternalRelocation (a .base) (a .old)) (λ i. entryAt (p9 .field .result) i relocationEntrySize)
+    (p1 .loop .index) (p4 .field2 .result) (p1 .loop .w, p1 .loop .trace) (p1 .loop .inv .2) (c .loop-test .left)
+    ∙ ap left (internal-starts (a .at) (a .base) (a .old) (a .w .now, a .trace .now) (p9 .field .ensures) (p4 .field2 .ensures))
+
+same-length-2 : tie.Need-same-length-2 Inv-loop μ-loop
+same-length-2 c =
+    let p14 = c .before .before .before .before .before .before .before .before .before .before .before .before .before .before in
+    trace-kept (p14 .args .at) (applyInternalRelocations (p14 .args .base) (p14 .args .old)) (p14 .args .w .now) (p14 .args .trace .now) (returns c)
 
 pub apply-internal-relocations-spec : {M : Type 1} → statement M
 apply-internal-relocations-spec =
@@ -96,4 +99,5 @@ apply-internal-relocations-spec =
     loop-less
     loop-again
     same-length
+    same-length-2
     returns)

@@ -1,6 +1,5 @@
--- The three writes, at the entry that the table offset gives: `set-in-words`.
 use borrow.Author.Needs.{needs}
-use Rattle.layout.proofs.Laws.{set-in-words}
+use Rattle.layout.proofs.Accesses.{segment-set}
 use Rattle.layout.proofs.segments.set_segment.Statement.{statement}
 use Rattle.layout.proofs.segments.set_segment.Tie as tie
 
@@ -31,16 +30,24 @@ write32-requires-3 c κs = search needs
 same-length : tie.Need-same-length
 same-length c = search needs
 
+same-length-2 : tie.Need-same-length-2
+same-length-2 c = search needs
+
 returns : tie.Need-returns
 returns c =
-    let b₄ = c .before .before .before .before in
-    let b₈ = b₄ .before .before .before .before in
-    let b₁₂ = b₈ .before .before .before .before in
-    let b₁₆ = b₁₂ .before .before .before .before in
-    let a = b₁₆ .before .before .before .args in
-    set-in-words (a .at) (a .base) (a .index) (a .w .now) (b₁₆ .field .ensures) (b₁₂ .before .before .before .entry-address .ensures)
-    (b₈ .before .wrapping-add-u32 .ensures) (b₄ .wrapping-add-u322 .ensures) (a .value) (b₁₂ .before .write32 .ensures)
-    (b₈ .write322 .ensures) (c .before .before .before .raw .ensures) (c .before .before .write323 .ensures)
+    let p4 = c .before .before .before .before in
+    let p5 = p4 .before in
+    let p6 = p5 .before in
+    let p13 = p6 .before .before .before .before .before .before .before in
+    let p14 = p13 .before in
+    let p21 = p14 .before .before .before .before .before .before .before in
+    let p24 = p21 .before .before .before in
+    let p27 = p24 .before .before .before in
+    let p32 = p27 .before .before .before .before .before in
+    let a = p32 .args in
+    segment-set (a .at) (a .base) (a .index) (a .value) (a .w .now, a .trace .now) (p27 .field .ensures)
+    (p24 .entry-address .ensures) (p21 .write32 .ensures) (p14 .wrapping-add-u32 .ensures) (p13 .write322 .ensures)
+    (p6 .wrapping-add-u322 .ensures) (p5 .raw .ensures) (p4 .write323 .ensures)
 
 pub set-segment-spec : {M : Type 1} → statement M
 set-segment-spec =
@@ -55,4 +62,5 @@ set-segment-spec =
     raw-requires
     write32-requires-3
     same-length
+    same-length-2
     returns)

@@ -31,20 +31,23 @@ set-field-requires c κs = search needs
 same-length : tie.Need-same-length
 same-length c = search needs
 
+same-length-2 : tie.Need-same-length-2
+same-length-2 c = search needs
+
 returns : tie.Need-returns
 returns c =
-    let p2 = c .before .before in
-    let p6 = p2 .before .before .before .before in
-    let p7 = p6 .before in
-    let p9 = p7 .before .before in
-    let p12 = p9 .before .before .before in
-    let p13 = p12 .before in
+    let p4 = c .before .before .before .before in
+    let p11 = p4 .before .before .before .before .before .before .before in
+    let p13 = p11 .before .before in
     let p15 = p13 .before .before in
-    let p17 = p15 .before .before in
-    let p20 = p17 .before .before .before in
-    let a = p20 .args in
-    fixed-from (a .at) (a .base) (a .size) (a .barrier) (a .w .now) (p17 .field .ensures) (p15 .field2 .ensures) (p13 .wrapping-add-u32 .ensures)
-    (p12 .fix-pairs .ensures) (p9 .fixed-to .ensures) (p7 .wrapping-add-u322 .ensures) (p6 .end-tables .ensures) (p2 .set-field .ensures)
+    let p20 = p15 .before .before .before .before .before in
+    let p22 = p20 .before .before in
+    let p26 = p22 .before .before .before .before in
+    let p31 = p26 .before .before .before .before .before in
+    let p36 = p31 .before .before .before .before .before in
+    let a = p36 .args in
+    fixed-from (a .at) (a .base) (a .size) (a .barrier) (a .w .now, a .trace .now) (p31 .field .ensures) (p26 .field2 .ensures) (p22 .wrapping-add-u32 .ensures)
+    (p20 .fix-pairs .ensures) (p15 .fixed-to .ensures) (p13 .wrapping-add-u322 .ensures) (p11 .end-tables .ensures) (p4 .set-field .ensures)
 
 pub fix-from-spec : {M : Type 1} → statement M
 fix-from-spec =
@@ -59,4 +62,5 @@ fix-from-spec =
     end-tables-requires
     set-field-requires
     same-length
+    same-length-2
     returns)

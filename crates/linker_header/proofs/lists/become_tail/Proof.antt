@@ -18,16 +18,19 @@ set-field-requires-3 c κs = search needs
 same-length : tie.Need-same-length
 same-length c = search needs
 
+same-length-2 : tie.Need-same-length-2
+same-length-2 c = search needs
+
 returns : tie.Need-returns
 returns c =
-    let p2 = c .before .before in
-    let p6 = p2 .before .before .before .before in
-    let p10 = p6 .before .before .before .before in
-    let p12 = p10 .before .before in
-    let p15 = p12 .before .before .before in
-    let a = p15 .args in
-    tail-made (a .at) (a .head) (a .base) (a .w .now) (p12 .field .ensures) (p10 .set-field .ensures) (p6 .set-field2 .ensures)
-    (p2 .set-field3 .ensures)
+    let p4 = c .before .before .before .before in
+    let p11 = p4 .before .before .before .before .before .before .before in
+    let p18 = p11 .before .before .before .before .before .before .before in
+    let p23 = p18 .before .before .before .before .before in
+    let p28 = p23 .before .before .before .before .before in
+    let a = p28 .args in
+    tail-made (a .at) (a .head) (a .base) (a .w .now, a .trace .now) (p23 .field .ensures) (p18 .set-field .ensures) (p11 .set-field2 .ensures)
+    (p4 .set-field3 .ensures)
 
 pub become-tail-spec : {M : Type 1} → statement M
 become-tail-spec =
@@ -38,4 +41,5 @@ become-tail-spec =
     set-field-requires-2
     set-field-requires-3
     same-length
+    same-length-2
     returns)

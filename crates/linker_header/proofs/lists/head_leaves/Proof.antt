@@ -2,6 +2,7 @@ use mathlib.Core.Path.{ap, _∙_}
 use mathlib.Core.Logic.{⊎-elim}
 use lib.ListN.{length}
 use borrow.Author.Needs.{needs}
+use Rattle.window.specs.TraceRuns.{joined}
 use Rattle.linker_header.proofs.ListLaws.{head-alone, head-left}
 use Rattle.linker_header.proofs.lists.head_leaves.Statement.{statement}
 use Rattle.linker_header.proofs.lists.head_leaves.Tie as tie
@@ -14,21 +15,28 @@ set-field-requires-2 c κs = search needs
 
 same-length : tie.Need-same-length
 same-length c =
-    let p2 = c .before .before in
-    let p4 = p2 .before .before in
-    p2 .set-field2 .kept .1 .0 ∙ ⊎-elim (λ e. ap length (e .5) ∙ e .2 .kept .1 .0) (λ e. ap length (e .1)) (p4 .if1 .came)
+    let p4 = c .before .before .before .before in
+    let p7 = p4 .before .before .before in
+    p4 .set-field2 .kept .1 .0 ∙ ⊎-elim (λ e. ap length (e .8) ∙ e .3 .kept .1 .0) (λ e. ap length (e .1)) (p7 .if1 .came)
+
+same-length-2 : tie.Need-same-length-2
+same-length-2 c =
+    let p4 = c .before .before .before .before in
+    let p7 = p4 .before .before .before in
+    p4 .set-field2 .kept .1 .1 .1 .1 .1 .0 ∙ ⊎-elim (λ e. ap length (e .9) ∙ e .3 .kept .1 .1 .1 .1 .1 .0) (λ e. ap length (e .2)) (p7 .if1 .came)
 
 returns : tie.Need-returns
 returns c =
-    let p2 = c .before .before in
-    let p4 = p2 .before .before in
-    let p6 = p4 .before .before in
-    let a = p6 .args in
+    let p4 = c .before .before .before .before in
+    let p7 = p4 .before .before .before in
+    let p10 = p7 .before .before .before in
+    let a = p10 .args in
     ⊎-elim
-    (λ e. head-left (a .at) (a .crs) (a .x) (a .next) (a .previous) (a .w .now) (p2 .set-field2 .ensures) (e .0 .taken)
-    (e .5 ∙ e .2 .ensures))
-    (λ e. head-alone (a .at) (a .crs) (a .x) (a .next) (a .previous) (a .w .now) (p2 .set-field2 .ensures) (e .0 .left) (e .1))
-    (p4 .if1 .came)
+    (λ e. head-left (a .at) (a .crs) (a .x) (a .next) (a .previous) (a .w .now, a .trace .now) (p4 .set-field2 .ensures) (e .0 .taken)
+    (joined (e .8) (e .9) ∙ e .3 .ensures))
+    (λ e. head-alone (a .at) (a .crs) (a .x) (a .next) (a .previous) (a .w .now, a .trace .now) (p4 .set-field2 .ensures) (e .0 .left) (joined (e .1) (e .2)))
+    (p7 .if1 .came)
 
 pub head-leaves-spec : {M : Type 1} → statement M
-head-leaves-spec = tie.close (tie.spec set-field-requires set-field-requires-2 same-length returns)
+head-leaves-spec =
+    tie.close (tie.spec set-field-requires set-field-requires-2 same-length same-length-2 returns)

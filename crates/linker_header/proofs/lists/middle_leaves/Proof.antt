@@ -12,14 +12,17 @@ set-field-requires-2 c κs = search needs
 same-length : tie.Need-same-length
 same-length c = search needs
 
+same-length-2 : tie.Need-same-length-2
+same-length-2 c = search needs
+
 returns : tie.Need-returns
 returns c =
-    let p2 = c .before .before in
-    let p6 = p2 .before .before .before .before in
-    let p9 = p6 .before .before .before in
-    let a = p9 .args in
-    middle-left (a .at) (a .next) (a .previous) (a .w .now) (p6 .set-field .ensures) (p2 .set-field2 .ensures)
+    let p4 = c .before .before .before .before in
+    let p11 = p4 .before .before .before .before .before .before .before in
+    let p16 = p11 .before .before .before .before .before in
+    let a = p16 .args in
+    middle-left (a .at) (a .next) (a .previous) (a .w .now, a .trace .now) (p11 .set-field .ensures) (p4 .set-field2 .ensures)
 
 pub middle-leaves-spec : {M : Type 1} → statement M
 middle-leaves-spec =
-    tie.close (tie.spec set-field-requires set-field-requires-2 same-length returns)
+    tie.close (tie.spec set-field-requires set-field-requires-2 same-length same-length-2 returns)

@@ -3,6 +3,7 @@ use mathlib.Core.Path.{ap, _∙_}
 use mathlib.Core.Logic.{⊎-elim}
 use lib.ListN.{length}
 use borrow.Author.Needs.{needs}
+use Rattle.window.specs.TraceRuns.{joined}
 use Rattle.linker_header.proofs.ListLaws.{registered-head, registered-tail}
 use Rattle.linker_header.proofs.lists.register.Statement.{statement}
 use Rattle.linker_header.proofs.lists.register.Tie as tie
@@ -24,26 +25,35 @@ set-field-requires c κs = search needs
 
 same-length : tie.Need-same-length
 same-length c =
-    let p2 = c .before .before in
-    let p4 = p2 .before .before in
-    p2 .set-field .kept .1 .0 ∙ ⊎-elim (λ e. ap length (e .5) ∙ e .2 .kept .1 .0) (λ e. ap length (e .5) ∙ e .2 .kept .1 .0) (p4 .if1 .came)
+    let p4 = c .before .before .before .before in
+    let p7 = p4 .before .before .before in
+    p4 .set-field .kept .1 .0 ∙ ⊎-elim (λ e. ap length (e .8) ∙ e .3 .kept .1 .0) (λ e. ap length (e .8) ∙ e .3 .kept .1 .0) (p7 .if1 .came)
+
+same-length-2 : tie.Need-same-length-2
+same-length-2 c =
+    let p4 = c .before .before .before .before in
+    let p7 = p4 .before .before .before in
+    let p10 = p7 .before .before .before in
+    p4 .set-field .kept .1 .1 .1 .1 .1 .0
+    ∙ ⊎-elim (λ e. ap length (e .9) ∙ e .3 .kept .1 .1 .1 .1 .1 .0) (λ e. ap length (e .9) ∙ e .3 .kept .1 .1 .1 .1 .0) (p7 .if1 .came)
+    ∙ p10 .field .kept .1 .1 .1 .1 .0
 
 returns : tie.Need-returns
 returns c =
-    let p2 = c .before .before in
-    let p4 = p2 .before .before in
-    let p5 = p4 .before in
-    let p7 = p5 .before .before in
-    let p9 = p7 .before .before in
-    let a = p9 .args in
+    let p4 = c .before .before .before .before in
+    let p7 = p4 .before .before .before in
+    let p10 = p7 .before .before .before in
+    let p13 = p10 .before .before .before in
+    let p16 = p13 .before .before .before in
+    let a = p16 .args in
     ⊎-elim
-    (λ e. registered-head (a .at) (a .crs) (a .base) (a .auto-link) (a .w .now) (p7 .head-field .ensures) (p5 .field .ensures)
-    (p2 .set-field .ensures)
-    (e .0 .taken) (e .5 ∙ e .2 .ensures))
-    (λ e. registered-tail (a .at) (a .crs) (a .base) (a .auto-link) (a .w .now) (p7 .head-field .ensures) (p5 .field .ensures)
-    (p2 .set-field .ensures)
-    (e .0 .left) (e .5 ∙ e .2 .ensures))
-    (p4 .if1 .came)
+    (λ e. registered-head (a .at) (a .crs) (a .base) (a .auto-link) (a .w .now, a .trace .now) (p13 .head-field .ensures) (p10 .field .ensures)
+    (p4 .set-field .ensures)
+    (e .0 .taken) (joined (e .8) (e .9) ∙ e .3 .ensures))
+    (λ e. registered-tail (a .at) (a .crs) (a .base) (a .auto-link) (a .w .now, a .trace .now) (p13 .head-field .ensures) (p10 .field .ensures)
+    (p4 .set-field .ensures)
+    (e .0 .left) (joined (e .8) (e .9) ∙ e .3 .ensures))
+    (p7 .if1 .came)
 
 pub register-spec : {M : Type 1} → statement M
 register-spec =
@@ -55,4 +65,5 @@ register-spec =
     become-tail-requires
     set-field-requires
     same-length
+    same-length-2
     returns)

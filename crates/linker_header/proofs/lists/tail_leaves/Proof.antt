@@ -15,17 +15,26 @@ new-tail-requires-2 c κs = search needs
 same-length : tie.Need-same-length
 same-length c = search needs
 
+same-length-2 : tie.Need-same-length-2
+same-length-2 c = search needs
+
 returns : tie.Need-returns
 returns c =
-    let p2 = c .before .before in
-    let p6 = p2 .before .before .before .before in
-    let p10 = p6 .before .before .before .before in
-    let p13 = p10 .before .before .before in
-    let a = p13 .args in
-    tail-left (a .at) (a .crs) (a .base) (a .previous) (a .w .now) (p10 .set-field .ensures) (p6 .new-tail .ensures)
-    (p2 .new-tail2 .ensures)
+    let p4 = c .before .before .before .before in
+    let p11 = p4 .before .before .before .before .before .before .before in
+    let p18 = p11 .before .before .before .before .before .before .before in
+    let p23 = p18 .before .before .before .before .before in
+    let a = p23 .args in
+    tail-left (a .at) (a .crs) (a .base) (a .previous) (a .w .now, a .trace .now) (p18 .set-field .ensures) (p11 .new-tail .ensures)
+    (p4 .new-tail2 .ensures)
 
 pub tail-leaves-spec : {M : Type 1} → statement M
 tail-leaves-spec =
     tie.close
-    (tie.spec set-field-requires new-tail-requires new-tail-requires-2 same-length returns)
+    (tie.spec
+    set-field-requires
+    new-tail-requires
+    new-tail-requires-2
+    same-length
+    same-length-2
+    returns)

@@ -1,7 +1,5 @@
--- By what the tag gives: `entry-nowhere` and `entry-at`.
-use mathlib.Core.Path.{sym, _∙_}
 use borrow.Author.Needs.{needs}
-use Rattle.linker_relocation.proofs.Laws.{entry-nowhere, entry-at}
+use Rattle.linker_relocation.proofs.Laws.{entry-applied}
 use Rattle.linker_relocation.proofs.relocation.apply_entry.Statement.{statement}
 use Rattle.linker_relocation.proofs.relocation.apply_entry.Tie as tie
 
@@ -20,52 +18,27 @@ wrapping-add-u32-requires-2 c κs = search needs
 read32-requires-2 : tie.Need-read32-requires-2
 read32-requires-2 c κs = search needs
 
-tag-to-address-requires : tie.Need-tag-to-address-requires
-tag-to-address-requires c κs = search needs
-
-enum-known-target : tie.Need-enum-known-target
-enum-known-target c = search needs
-
-enum-told : tie.Need-enum-told
-enum-told c = search needs
+relocate-entry-requires : tie.Need-relocate-entry-requires
+relocate-entry-requires c κs = search needs
 
 same-length : tie.Need-same-length
 same-length c = search needs
 
-returns : tie.Need-returns
-returns c =
-    let p2 = c .before .before in
-    let p10 = p2 .before .before .before .before .before .before .before .before in
-    let p13 = p10 .before .before .before in
-    let a = p13 .args in
-    entry-nowhere (a .at) (a .base) (a .symbol) (a .entry) (a .w .now) (p10 .read32 .ensures)
-    (sym (p2 .tag-to-address .ensures) ∙ c .enum-told .given .1)
-
-from-raw-requires : tie.Need-from-raw-requires
-from-raw-requires c κs = search needs
-
-apply-relocation-requires : tie.Need-apply-relocation-requires
-apply-relocation-requires c κs = search needs
-
 same-length-2 : tie.Need-same-length-2
 same-length-2 c = search needs
 
-returns-2 : tie.Need-returns-2
-returns-2 c =
-    let p2 = c .before .before in
-    let p3 = p2 .before in
-    let p6 = p3 .before .before .before in
-    let p8 = p6 .before .before in
-    let p10 = p8 .before .before in
-    let p11 = p10 .before in
-    let p13 = p11 .before .before in
-    let p14 = p13 .before in
-    let p16 = p14 .before .before in
-    let p19 = p16 .before .before .before in
-    let a = p19 .args in
-    entry-at (a .at) (a .base) (a .symbol) (a .entry) (a .w .now) (p16 .read32 .ensures)
-    (p14 .wrapping-add-u32 .ensures) (p13 .read8 .ensures) (p11 .wrapping-add-u322 .ensures) (p10 .read322 .ensures)
-    (sym (p8 .tag-to-address .ensures) ∙ p6 .target .given .1) (p3 .from-raw .ensures) (p2 .apply-relocation .ensures)
+returns : tie.Need-returns
+returns c =
+    let p4 = c .before .before .before .before in
+    let p9 = p4 .before .before .before .before .before in
+    let p11 = p9 .before .before in
+    let p15 = p11 .before .before .before .before in
+    let p17 = p15 .before .before in
+    let p21 = p17 .before .before .before .before in
+    let p26 = p21 .before .before .before .before .before in
+    entry-applied (p26 .args .at) (p26 .args .base) (p26 .args .symbol) (p26 .args .entry) (p26 .args .w .now, p26 .args .trace .now)
+    (p21 .read32 .ensures) (p17 .wrapping-add-u32 .ensures) (p15 .read8 .ensures) (p11 .wrapping-add-u322 .ensures) (p9 .read322 .ensures)
+    (p4 .relocate-entry .ensures)
 
 pub apply-entry-spec : {M : Type 1} → statement M
 apply-entry-spec =
@@ -76,12 +49,7 @@ apply-entry-spec =
     read8-requires
     wrapping-add-u32-requires-2
     read32-requires-2
-    tag-to-address-requires
-    enum-known-target
-    enum-told
+    relocate-entry-requires
     same-length
-    returns
-    from-raw-requires
-    apply-relocation-requires
     same-length-2
-    returns-2)
+    returns)

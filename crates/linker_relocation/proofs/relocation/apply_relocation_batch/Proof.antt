@@ -5,38 +5,33 @@ use mathlib.Core.Logic.{⊎-elim}
 use native.Mathlib.Omega.{arith}
 use lib.ListN.{length}
 use borrow.Author.Needs.{needs}
-use Rattle.window.specs.Access.{run}
+use Rattle.window.specs.Trace.{runT}
 use Rattle.linker.specs.Relocation.{walk, batchLimit}
 use Rattle.linker_relocation.proofs.Laws.{walk-on, walk-end, walk-full, batch-made, mark-byte}
 use Rattle.linker_relocation.proofs.relocation.apply_relocation_batch.Statement.{statement}
 use Rattle.linker_relocation.proofs.relocation.apply_relocation_batch.Tie as tie
 
 abbrev Inv-loop : tie.InvT-loop
-Inv-loop at w₀ base batch symbol resolved entry₀ walked₀ w entry walked =
+Inv-loop at w₀ base batch symbol resolved trace₀ entry₀ walked₀ w trace entry walked =
     (walked < 0x1001)
     × (length w ≡ length w₀)
-    × (run at (walk (0x1001 - walked) base symbol entry walked) w ≡ run at (walk batchLimit base symbol batch 0) w₀)
+    × (runT at (walk (0x1001 - walked) base symbol entry walked) (w, trace) ≡ runT at (walk batchLimit base symbol batch 0) (w₀, trace₀))
+    × (length trace ≡ length trace₀)
 
 abbrev μ-loop : tie.MeasureT-loop
-μ-loop at w₀ base batch symbol resolved entry₀ walked₀ w entry walked = 0x1001 - walked
+μ-loop at w₀ base batch symbol resolved trace₀ entry₀ walked₀ w trace entry walked = 0x1001 - walked
 
 loop-holds : tie.Need-loop-holds Inv-loop μ-loop
-loop-holds c = (omega arith, refl, refl)
+loop-holds c = (omega arith, refl, refl, refl)
 
-wrapping-add-u32-requires : tie.Need-wrapping-add-u32-requires Inv-loop μ-loop
-wrapping-add-u32-requires c κs = search needs
-
-read8-requires : tie.Need-read8-requires Inv-loop μ-loop
-read8-requires c κs = search needs
-
-apply-entry-requires : tie.Need-apply-entry-requires Inv-loop μ-loop
-apply-entry-requires c κs = search needs
+walk-entry-requires : tie.Need-walk-entry-requires Inv-loop μ-loop
+walk-entry-requires c κs = search needs
 
 add-walked : tie.Need-add-walked Inv-loop μ-loop
 add-walked c = omega arith
 
-wrapping-add-u32-requires-2 : tie.Need-wrapping-add-u32-requires-2 Inv-loop μ-loop
-wrapping-add-u32-requires-2 c κs = search needs
+wrapping-add-u32-requires : tie.Need-wrapping-add-u32-requires Inv-loop μ-loop
+wrapping-add-u32-requires c κs = search needs
 
 loop-less : tie.Need-loop-less Inv-loop μ-loop
 loop-less c = omega arith
@@ -44,21 +39,19 @@ loop-less c = omega arith
 loop-again : tie.Need-loop-again Inv-loop μ-loop
 loop-again c =
     let p2 = c .before .before in
-    let p5 = p2 .before .before .before in
-    let p7 = p5 .before .before in
-    let p8 = p7 .before in
-    let p10 = p8 .before .before in
-    let p12 = p10 .before .before in
-    let a = p12 .args in (
+    let p7 = p2 .before .before .before .before .before in
+    let p10 = p7 .before .before .before in
+    let p13 = p10 .before .before .before in (
       omega arith,
-      p5 .apply-entry .kept .1 .0 ∙ p10 .loop .inv .1,
-      walk-on (a .at) (a .base) (a .symbol) (p10 .loop .entry) (p10 .loop .w) 0x1001 (p10 .loop .walked) (p10 .loop .inv .0)
-          (p8 .wrapping-add-u32 .ensures) (p7 .read8 .ensures) (p5 .apply-entry .ensures) (p2 .if1 .left) (c .wrapping-add-u322 .ensures)
+      p7 .walk-entry .kept .1 .0 ∙ p10 .loop .inv .1,
+      walk-on (p13 .args .at) (p13 .args .base) (p13 .args .symbol) (p10 .loop .entry) (p10 .loop .w, p10 .loop .trace) 0x1001 (p10 .loop .walked) (p10 .loop .inv .0)
+          (p7 .walk-entry .ensures) (p2 .if1 .left) (c .wrapping-add-u32 .ensures)
           ∙ p10 .loop .inv .2,
+      p7 .walk-entry .kept .1 .1 .1 .1 .1 .0 ∙ p10 .loop .inv .3,
     )
 
-wrapping-add-u32-requires-3 : tie.Need-wrapping-add-u32-requires-3 Inv-loop μ-loop
-wrapping-add-u32-requires-3 c κs = search needs
+wrapping-add-u32-requires-2 : tie.Need-wrapping-add-u32-requires-2 Inv-loop μ-loop
+wrapping-add-u32-requires-2 c κs = search needs
 
 cast-write8 : tie.Need-cast-write8 Inv-loop μ-loop
 cast-write8 c = search needs
@@ -68,31 +61,35 @@ write8-requires c κs = search needs
 
 same-length : tie.Need-same-length Inv-loop μ-loop
 same-length c =
-    let p2 = c .before .before in
-    let p8 = p2 .before .before .before .before .before .before in
-    let p13 = p8 .before .before .before .before .before in
-    p2 .write8 .kept .1 .0 ∙ p8 .apply-entry .kept .1 .0 ∙ p13 .loop .inv .1
+    let p4 = c .before .before .before .before in
+    let p13 = p4 .before .before .before .before .before .before .before .before .before in
+    let p16 = p13 .before .before .before in
+    p4 .write8 .kept .1 .0 ∙ p13 .walk-entry .kept .1 .0 ∙ p16 .loop .inv .1
+
+same-length-2 : tie.Need-same-length-2 Inv-loop μ-loop
+same-length-2 c =
+    let p4 = c .before .before .before .before in
+    let p13 = p4 .before .before .before .before .before .before .before .before .before in
+    let p16 = p13 .before .before .before in
+    p4 .write8 .kept .1 .1 .1 .1 .0 ∙ p13 .walk-entry .kept .1 .1 .1 .1 .1 .0 ∙ p16 .loop .inv .3
 
 returns : tie.Need-returns Inv-loop μ-loop
 returns c =
-    let p2 = c .before .before in
-    let p3 = p2 .before in
-    let p5 = p3 .before .before in
-    let p8 = p5 .before .before .before in
-    let p10 = p8 .before .before in
-    let p11 = p10 .before in
-    let p13 = p11 .before .before in
-    let p15 = p13 .before .before in
-    let a = p15 .args in
-    batch-made (a .at) (a .base) (a .batch) (a .symbol) (a .resolved) (a .w .now)
+    let p4 = c .before .before .before .before in
+    let p6 = p4 .before .before in
+    let p8 = p6 .before .before in
+    let p13 = p8 .before .before .before .before .before in
+    let p16 = p13 .before .before .before in
+    let p19 = p16 .before .before .before in
+    batch-made (p19 .args .at) (p19 .args .base) (p19 .args .batch) (p19 .args .symbol) (p19 .args .resolved) (p19 .args .w .now, p19 .args .trace .now)
     (⊎-elim
-    (λ e. walk-end (a .at) (a .base) (a .symbol) (p13 .loop .entry) (p13 .loop .w) 0x1001 (p13 .loop .walked) (p13 .loop .inv .0)
-    (p11 .wrapping-add-u32 .ensures) (p10 .read8 .ensures) (p8 .apply-entry .ensures) (e .taken))
-    (λ e. walk-full (a .at) (a .base) (a .symbol) (p13 .loop .entry) (p13 .loop .w) 0x1001 (p13 .loop .walked) (p13 .loop .inv .0)
-    (p11 .wrapping-add-u32 .ensures) (p10 .read8 .ensures) (p8 .apply-entry .ensures) (e .0 .left) (e .1 .taken))
-    (p5 .if1 .came)
-    ∙ p13 .loop .inv .2)
-    (p3 .wrapping-add-u323 .ensures) (mark-byte (a .resolved)) (p2 .write8 .ensures)
+    (λ e. walk-end (p19 .args .at) (p19 .args .base) (p19 .args .symbol) (p16 .loop .entry) (p16 .loop .w, p16 .loop .trace) 0x1001 (p16 .loop .walked) (p16 .loop .inv .0)
+    (p13 .walk-entry .ensures) (e .taken))
+    (λ e. walk-full (p19 .args .at) (p19 .args .base) (p19 .args .symbol) (p16 .loop .entry) (p16 .loop .w, p16 .loop .trace) 0x1001 (p16 .loop .walked) (p16 .loop .inv .0)
+    (p13 .walk-entry .ensures) (e .0 .left) (e .1 .taken))
+    (p8 .if1 .came)
+    ∙ p16 .loop .inv .2)
+    (p6 .wrapping-add-u322 .ensures) (mark-byte (p19 .args .resolved)) (p4 .write8 .ensures)
 
 pub apply-relocation-batch-spec : {M : Type 1} → statement M
 apply-relocation-batch-spec =
@@ -101,15 +98,14 @@ apply-relocation-batch-spec =
     Inv-loop
     μ-loop
     loop-holds
-    wrapping-add-u32-requires
-    read8-requires
-    apply-entry-requires
+    walk-entry-requires
     add-walked
-    wrapping-add-u32-requires-2
+    wrapping-add-u32-requires
     loop-less
     loop-again
-    wrapping-add-u32-requires-3
+    wrapping-add-u32-requires-2
     cast-write8
     write8-requires
     same-length
+    same-length-2
     returns)

@@ -10,12 +10,17 @@ wrapping-add-u32-requires c κs = search needs
 read8-requires : tie.Need-read8-requires
 read8-requires c κs = search needs
 
+same-length : tie.Need-same-length
+same-length c = search needs
+
 returns : tie.Need-returns
 returns c =
-    let p1 = c .before in
-    let p3 = p1 .before .before in
-    let a = p3 .args in
-    mark-read (a .at) (a .batch) (a .w .now) (p1 .wrapping-add-u32 .ensures) (c .read8 .ensures)
+    let p2 = c .before .before in
+    let p4 = p2 .before .before in
+    let p7 = p4 .before .before .before in
+    let a = p7 .args in
+    mark-read (a .at) (a .batch) (a .w .now, a .trace .now) (p4 .wrapping-add-u32 .ensures) (p2 .read8 .ensures)
 
 pub batch-is-resolved-spec : {M : Type 1} → statement M
-batch-is-resolved-spec = tie.close (tie.spec wrapping-add-u32-requires read8-requires returns)
+batch-is-resolved-spec =
+    tie.close (tie.spec wrapping-add-u32-requires read8-requires same-length returns)

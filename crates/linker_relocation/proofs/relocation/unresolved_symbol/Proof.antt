@@ -1,5 +1,5 @@
 -- By what the handler's tag gives: `handler-is`.
-use mathlib.Core.Path.{sym, ap, _∙_}
+use mathlib.Core.Path.{sym, ap}
 use borrow.Author.Needs.{needs}
 use Rattle.linker.specs.Relocation.{addressOr0}
 use Rattle.linker_relocation.proofs.Laws.{handler-is}
@@ -18,24 +18,28 @@ enum-known-handler c = search needs
 enum-told : tie.Need-enum-told
 enum-told c = search needs
 
+same-length : tie.Need-same-length
+same-length c = search needs
+
 returns : tie.Need-returns
 returns c =
-    let p2 = c .before .before in
-    let p3 = p2 .before in
-    let p5 = p3 .before .before in
-    let a = p5 .args in
-    ap addressOr0 (sym (c .enum-told .given .1)) ∙ ap addressOr0 (p2 .tag-to-address .ensures) ∙ handler-is (a .at) (a .base) _
-    (p3 .field .ensures)
+    let p4 = c .before .before .before .before in
+    let p8 = p4 .before .before .before .before in
+    let p12 = p8 .before .before .before .before in
+    handler-is (p12 .args .at) (p12 .args .base) (p12 .args .w .now, p12 .args .trace .now) (p8 .field .ensures) (p4 .tag-to-address .ensures)
+    (ap addressOr0 (sym (c .enum-told .given .1)))
+
+same-length-2 : tie.Need-same-length-2
+same-length-2 c = search needs
 
 returns-2 : tie.Need-returns-2
 returns-2 c =
     let p1 = c .before in
-    let p3 = p1 .before .before in
-    let p4 = p3 .before in
-    let p6 = p4 .before .before in
-    let a = p6 .args in
-    ap addressOr0 (sym (p1 .handler .given .1)) ∙ ap addressOr0 (p3 .tag-to-address .ensures) ∙ handler-is (a .at) (a .base) _
-    (p4 .field .ensures)
+    let p5 = p1 .before .before .before .before in
+    let p9 = p5 .before .before .before .before in
+    let p13 = p9 .before .before .before .before in
+    handler-is (p13 .args .at) (p13 .args .base) (p13 .args .w .now, p13 .args .trace .now) (p9 .field .ensures) (p5 .tag-to-address .ensures)
+    (ap addressOr0 (sym (p1 .handler .given .1)))
 
 pub unresolved-symbol-spec : {M : Type 1} → statement M
 unresolved-symbol-spec =
@@ -45,5 +49,7 @@ unresolved-symbol-spec =
     tag-to-address-requires
     enum-known-handler
     enum-told
+    same-length
     returns
+    same-length-2
     returns-2)

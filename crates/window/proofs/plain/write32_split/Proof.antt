@@ -1,8 +1,8 @@
 -- The four byte writes are those of `putWord`, each at its address modulo 2 ^ 32.
 use borrow.Author.Needs.{needs}
 use Rattle.window.proofs.Laws.{putWord-steps}
-use Rattle.window.proofs.write32_split.Statement.{statement}
-use Rattle.window.proofs.write32_split.Tie as tie
+use Rattle.window.proofs.plain.write32_split.Statement.{statement}
+use Rattle.window.proofs.plain.write32_split.Tie as tie
 
 wrapping-add-u32-requires : tie.Need-wrapping-add-u32-requires
 wrapping-add-u32-requires c κs = search needs

@@ -2,8 +2,8 @@
 use mathlib.Core.Path.{_∙_}
 use borrow.Author.Needs.{needs}
 use Rattle.window.proofs.Laws.{wordAt-steps}
-use Rattle.window.proofs.read32_split.Statement.{statement}
-use Rattle.window.proofs.read32_split.Tie as tie
+use Rattle.window.proofs.plain.read32_split.Statement.{statement}
+use Rattle.window.proofs.plain.read32_split.Tie as tie
 
 read8-requires : tie.Need-read8-requires
 read8-requires c κs = search needs

@@ -6,8 +6,8 @@ use lib.ListN.{length, length-set}
 use borrow.Author.Needs.{needs}
 use Rattle.window.specs.Memory.{putUpward, putPrivileged}
 use Rattle.window.proofs.Laws.{upward-turn, upward-stop, upward-done}
-use Rattle.window.proofs.write32_upward.Statement.{statement}
-use Rattle.window.proofs.write32_upward.Tie as tie
+use Rattle.window.proofs.plain.write32_upward.Statement.{statement}
+use Rattle.window.proofs.plain.write32_upward.Tie as tie
 
 abbrev Inv-loop : tie.InvT-loop
 Inv-loop at w₀ x v y₀ rest₀ k₀ w y rest k =
