@@ -62,7 +62,7 @@ loop-again c =
       step-made (a .at) (applyInternalRelocation (a .base) (a .old)) (λ i. entryAt (p17 .field .result) i relocationEntrySize)
           (p9 .loop .index) (p12 .field2 .result) (p9 .loop .w, p9 .loop .trace) (p9 .loop .inv .2) (p8 .loop-test .taken) (p7 .entry-address .ensures)
           (p4 .apply-internal-relocation .ensures),
-      p4 .apply-internal-relocation .kept .1 .1 .1 .1 .1 .0 ∙ p9 .loop .inv .3,
+      p4 .apply-internal-relocation .kept .1 .1 .0 ∙ p9 .loop .inv .3,
     )
 
 same-length : tie.Need-same-length Inv-loop μ-loop

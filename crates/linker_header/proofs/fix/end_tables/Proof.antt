@@ -60,7 +60,7 @@ loop-again c =
       p4 .set-field .kept .1 .0 ∙ p8 .loop .inv .1,
       step-made (a .at) (λ x. setField (a .base) x (a .end)) (λ i. a .barrier + 8 * i) (p8 .loop .i) (p9 .saturating-sub .result / 8)
           (p8 .loop .w, p8 .loop .trace) (p8 .loop .inv .2) (p7 .loop-test .taken) refl (p4 .set-field .ensures),
-      p4 .set-field .kept .1 .1 .1 .1 .1 .0 ∙ p8 .loop .inv .3,
+      p4 .set-field .kept .1 .1 .0 ∙ p8 .loop .inv .3,
     )
 
 same-length : tie.Need-same-length Inv-loop μ-loop

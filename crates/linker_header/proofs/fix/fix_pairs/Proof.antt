@@ -44,7 +44,7 @@ loop-again c =
       p4 .fix-pair .kept .1 .0 ∙ p8 .loop .inv .1,
       turn-made (a .at) (fixPair (a .base) (a .barrier)) (p8 .loop .i) 15 (p8 .loop .last) (p8 .loop .w, p8 .loop .trace) (p8 .loop .inv .2) (p7 .loop-test .taken)
           (p4 .fix-pair .ensures),
-      p4 .fix-pair .kept .1 .1 .1 .1 .1 .1 .0 ∙ p8 .loop .inv .3,
+      p4 .fix-pair .kept .1 .1 .0 ∙ p8 .loop .inv .3,
     )
 
 same-length : tie.Need-same-length Inv-loop μ-loop

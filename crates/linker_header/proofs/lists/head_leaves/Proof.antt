@@ -23,7 +23,7 @@ same-length-2 : tie.Need-same-length-2
 same-length-2 c =
     let p4 = c .before .before .before .before in
     let p7 = p4 .before .before .before in
-    p4 .set-field2 .kept .1 .1 .1 .1 .1 .0 ∙ ⊎-elim (λ e. ap length (e .9) ∙ e .3 .kept .1 .1 .1 .1 .1 .0) (λ e. ap length (e .2)) (p7 .if1 .came)
+    p4 .set-field2 .kept .1 .1 .0 ∙ ⊎-elim (λ e. ap length (e .9) ∙ e .3 .kept .1 .1 .0) (λ e. ap length (e .2)) (p7 .if1 .came)
 
 returns : tie.Need-returns
 returns c =

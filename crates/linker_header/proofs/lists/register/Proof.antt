@@ -34,9 +34,9 @@ same-length-2 c =
     let p4 = c .before .before .before .before in
     let p7 = p4 .before .before .before in
     let p10 = p7 .before .before .before in
-    p4 .set-field .kept .1 .1 .1 .1 .1 .0
-    ∙ ⊎-elim (λ e. ap length (e .9) ∙ e .3 .kept .1 .1 .1 .1 .1 .0) (λ e. ap length (e .9) ∙ e .3 .kept .1 .1 .1 .1 .0) (p7 .if1 .came)
-    ∙ p10 .field .kept .1 .1 .1 .1 .0
+    p4 .set-field .kept .1 .1 .0
+    ∙ ⊎-elim (λ e. ap length (e .9) ∙ e .3 .kept .1 .1 .0) (λ e. ap length (e .9) ∙ e .3 .kept .1 .1 .0) (p7 .if1 .came)
+    ∙ p10 .field .kept .1 .1 .0
 
 returns : tie.Need-returns
 returns c =

@@ -47,7 +47,7 @@ loop-again c =
       walk-on (p13 .args .at) (p13 .args .base) (p13 .args .symbol) (p10 .loop .entry) (p10 .loop .w, p10 .loop .trace) 0x1001 (p10 .loop .walked) (p10 .loop .inv .0)
           (p7 .walk-entry .ensures) (p2 .if1 .left) (c .wrapping-add-u32 .ensures)
           ∙ p10 .loop .inv .2,
-      p7 .walk-entry .kept .1 .1 .1 .1 .1 .0 ∙ p10 .loop .inv .3,
+      p7 .walk-entry .kept .1 .1 .0 ∙ p10 .loop .inv .3,
     )
 
 wrapping-add-u32-requires-2 : tie.Need-wrapping-add-u32-requires-2 Inv-loop μ-loop
@@ -71,7 +71,7 @@ same-length-2 c =
     let p4 = c .before .before .before .before in
     let p13 = p4 .before .before .before .before .before .before .before .before .before in
     let p16 = p13 .before .before .before in
-    p4 .write8 .kept .1 .1 .1 .1 .0 ∙ p13 .walk-entry .kept .1 .1 .1 .1 .1 .0 ∙ p16 .loop .inv .3
+    p4 .write8 .kept .1 .1 .0 ∙ p13 .walk-entry .kept .1 .1 .0 ∙ p16 .loop .inv .3
 
 returns : tie.Need-returns Inv-loop μ-loop
 returns c =

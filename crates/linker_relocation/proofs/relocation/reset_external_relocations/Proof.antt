@@ -65,7 +65,7 @@ loop-again c =
       step-made (a .at) (resetEntry (a .base) (p22 .unresolved-symbol .result)) (λ i. entryAt (p17 .field .result) i relocationEntrySize)
           (p9 .loop .index) (p12 .field2 .result) (p9 .loop .w, p9 .loop .trace) (p9 .loop .inv .2) (p8 .loop-test .taken) (p7 .entry-address .ensures)
           (p4 .reset-entry .ensures),
-      p4 .reset-entry .kept .1 .1 .1 .1 .1 .0 ∙ p9 .loop .inv .3,
+      p4 .reset-entry .kept .1 .1 .0 ∙ p9 .loop .inv .3,
     )
 
 same-length : tie.Need-same-length Inv-loop μ-loop
@@ -77,7 +77,7 @@ same-length-2 c =
     let p4 = p1 .before .before .before in
     let p9 = p4 .before .before .before .before .before in
     let p14 = p9 .before .before .before .before .before in
-    p1 .loop .inv .3 ∙ p4 .field2 .kept .1 .1 .1 .1 .0 ∙ p9 .field .kept .1 .1 .1 .1 .0 ∙ p14 .unresolved-symbol .kept .1 .1 .1 .0
+    p1 .loop .inv .3 ∙ p4 .field2 .kept .1 .1 .0 ∙ p9 .field .kept .1 .1 .0 ∙ p14 .unresolved-symbol .kept .1 .1 .0
 
 returns : tie.Need-returns Inv-loop μ-loop
 returns c =
