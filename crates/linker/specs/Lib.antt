@@ -11,6 +11,7 @@ pub mod Calls
 pub mod Shape
 pub mod OtherList
 pub mod Outcome
+pub mod Touches
 pub mod Refusals
 pub mod Gives
 pub mod Answers

@@ -6,7 +6,7 @@ use mathlib.Core.Bool.{Bool, true, false, not, _&&_}
 use lib.ListN.{length, replicate}
 use lib.Dec.{eqb}
 use Rattle.window.specs.Memory.{if_then_else_, goodWindow}
-use Rattle.window.specs.Access.{Prog, ret, _>>=_}
+use Rattle.window.specs.Access.{Prog, ret, _>>=_, run}
 use Rattle.window.specs.Trace.{runT, touchOf}
 use Rattle.register.specs.Module.{Register}
 use Rattle.register.specs.Decode.{registerOf, isRegister}
@@ -33,13 +33,16 @@ resetRebased base Rebased.Done = resetExternalRelocations base
 unfoldable pub upToReset : Prog Rebased → ℕ → Prog (Unit {0})
 upToReset rebase base = rebase >>= resetRebased base
 
--- with 3 and 4 no access is made; else those of the call count, with 5 those of its beginning
+-- what counts with an answer, of what the call's beginning leaves and of what the whole call leaves
+unfoldable pub counted : {A : Type 0} → Answer → A → A → A
+counted a beginning whole = if eqb (number a) (number NoRoom) then beginning else whole
+
+-- with 3 and 4 no access is made
 unfoldable pub touches : (ℕ → ℕ → Register → Prog Answer) → Prog (Unit {0}) → ℕ → Bytes → ℕ × ℕ
 touches call beginning at b =
     if goodWindow at (b .window) && isRegister (b .records) (b .names) (b .missing)
     then (let called = call (length (b .records)) (length (b .names)) (registerOf (b .records) (b .names) (b .missing)) in
-    if eqb (number (runT at called (b .window, noTouch) .0)) (number NoRoom) then touchIn at beginning (b .window)
-    else touchIn at called (b .window))
+    counted (run at called (b .window) .0) (touchIn at beginning (b .window)) (touchIn at called (b .window)))
     else (0, 0)
 
 unfoldable pub initializeTouches : ℕ → ℕ → ℕ → Bytes → ℕ × ℕ
@@ -48,6 +51,6 @@ initializeTouches base size at b = touches (initialize base size) (upToReset (re
 unfoldable pub loadTouches : Lent → ℕ → ℕ → ℕ → Bytes → ℕ × ℕ
 loadTouches l auto level at b = touches (load l (not (eqb auto 0)) level) (upToReset (rebase l) (l .base)) at b
 
--- an unload is never 5, so its beginning does not count
+-- an unload is never 5: its beginning does not count
 unfoldable pub unloadTouches : ℕ → ℕ → Bytes → ℕ × ℕ
 unloadTouches base at b = touches (λ records names. unload base) (ret tt) at b

@@ -1,17 +1,20 @@
 -- The two tests that all calls have, and a module's entry into the register.
 use Prim.Native.Nat.{ℕ}
-use mathlib.Core.Path.{_≡_, refl, ap, _∙_}
+use mathlib.Core.Path.{_≡_, refl, _∙_}
 use mathlib.Core.List.{List}
 use mathlib.Core.Bool.{Bool, true, false}
 use lib.ListN.{length}
 use Rattle.window.specs.Memory.{if_then_else_}
-use Rattle.window.specs.Access.{Prog, ret, run, run-bind, reads-same}
+use Rattle.window.specs.Access.{Prog, ret}
+use Rattle.window.specs.Trace.{S, runT, runT-bind}
+use Rattle.window.specs.Silent.{reads-runT}
 use Rattle.register.specs.Module.{Module, Register}
 use Rattle.register.specs.Change.{appended}
 use Rattle.linker.specs.declared.rebase.Rebased.{Rebased}
 use Rattle.linker.specs.Relocation.{resetExternalRelocations}
 use Rattle.linker.specs.Exports.{readModule, readModule-reads}
 use Rattle.linker.specs.Calls.{Answer, BadWindow, NoRegister, NoRoom, Done, number, fits, enter}
+use Rattle.linker.specs.Touches.{resetRebased, counted}
 use Rattle.linker_exports.specs.Exported.{registerIn, leftBy, exported}
 
 -- the number of the first two tests: the window's, then the register's, 0 where both pass
@@ -22,45 +25,51 @@ tested goodWindow isRegister = if goodWindow then (if isRegister then 0 else num
 unfoldable pub recorded : Register → Module → Prog Answer
 recorded r m = ret (Done 0 (appended r m))
 
--- the number, the window, the records and the names after a rebase that ended so: 0 where the module has its record
-unfoldable pub entered : ℕ → List ℕ → List ℕ → ℕ → ℕ → Bool → Rebased → List ℕ → ℕ × List ℕ × List ℕ × List ℕ
-entered at records names base size auto rebased w =
+-- the number, window and trace, the records and the names after a rebase that ended so: 0 where the module has its record;
+-- with 5 the trace is that of the external reset
+unfoldable pub entered : ℕ → List ℕ → List ℕ → ℕ → ℕ → Bool → Rebased → S → ℕ × S × List ℕ × List ℕ
+entered at records names base size auto rebased s =
     let r = registerIn records names in
-    let x = run at (enter (length records) (length names) r base size auto (recorded r) rebased) w in
-    (number (x .0), x .1, leftBy records names (x .0) .records, leftBy records names (x .0) .names)
+    let x = runT at (enter (length records) (length names) r base size auto (recorded r) rebased) s in (
+      number (x .0),
+      (x .1 .0, counted (x .0) (runT at (resetRebased base rebased) s .1 .1) (x .1 .1)),
+      leftBy records names (x .0) .records,
+      leftBy records names (x .0) .names,
+    )
 
 -- after a rebase that is done: the record is read after the external reset, and reading writes nothing
-module _ (at base size : ℕ) (auto : Bool) (w : List ℕ) where
-  abbrev v : List ℕ
-  v = run at (resetExternalRelocations base) w .1
+module _ (at base size : ℕ) (auto : Bool) (s : S) where
+  abbrev v : S
+  v = runT at (resetExternalRelocations base) s .1
 
   abbrev m : Module
-  m = run at (readModule base size auto) v .0
+  m = runT at (readModule base size auto) v .0
+
+  abbrev z : S
+  z = runT at (readModule base size auto) v .1
 
   pub enter-done
       : (records names : ℕ) (r : Register) (next : Module → Prog Answer)
-      → run at (enter records names r base size auto next Rebased.Done) w ≡ run at (if fits records names r m then next m else ret NoRoom) v
+      → runT at (enter records names r base size auto next Rebased.Done) s ≡ runT at (if fits records names r m then next m else ret NoRoom) z
   unfolding enter
   enter-done records names r next =
-      run-bind at (resetExternalRelocations base) _ w
-      ∙ run-bind at (readModule base size auto) _ v
-      ∙ ap (run at (if fits records names r m then next m else ret NoRoom))
-      (reads-same at (readModule base size auto) v (readModule-reads base size auto))
+      runT-bind at (resetExternalRelocations base) _ s ∙ runT-bind at (readModule base size auto) _ v
 
   pub entered-done
       : (records names : List ℕ)
-      → entered at records names base size auto Rebased.Done w
-      ≡ (number (exported records names m .0), v, exported records names m .1, exported records names m .2)
-  unfolding entered exported recorded run
+      → entered at records names base size auto Rebased.Done s
+      ≡ (number (exported records names m .0), (v .0, counted (exported records names m .0) (v .1) (z .1)), exported records names m .1, exported records names m .2)
+  unfolding entered exported recorded runT resetRebased
   entered-done records names =
-      rw (enter-done (length records) (length names) (registerIn records names) (recorded (registerIn records names)))
+      rw (enter-done (length records) (length names) (registerIn records names) (recorded (registerIn records names)), ← reads-runT at (readModule base size auto) v (readModule-reads base size auto) .1)
       (go (fits (length records) (length names) (registerIn records names) m))
     where
       go
           : (t : Bool) → let r = registerIn records names in
-          let x = run at (if t then recorded r m else ret NoRoom) v in
+          let x = runT at (if t then recorded r m else ret NoRoom) z in
           let a = if t then Done 0 (appended r m) else NoRoom in
-          _≡_ {A = ℕ × List ℕ × List ℕ × List ℕ} (number (x .0), x .1, leftBy records names (x .0) .records, leftBy records names (x .0) .names)
-          (number a, v, leftBy records names a .records, leftBy records names a .names)
+          _≡_ {A = ℕ × S × List ℕ × List ℕ}
+          (number (x .0), (x .1 .0, counted (x .0) (v .1) (x .1 .1)), leftBy records names (x .0) .records, leftBy records names (x .0) .names)
+          (number a, (z .0, counted a (v .1) (z .1)), leftBy records names a .records, leftBy records names a .names)
       go true = refl
       go false = refl

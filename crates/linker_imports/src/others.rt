@@ -1,6 +1,6 @@
 // The imports of the modules that stand, served by the module whose record begins at a place.
 ghost use mathlib.Core.Path.{_≡_};
-ghost use Rattle.window.specs.Access.{run};
+ghost use Rattle.window.specs.Trace.{runT};
 ghost use Rattle.register_read.specs.Read.{Encoded, modulesOf, moduleAt};
 ghost use Rattle.linker.specs.Imports.{serveNamed, serveModule, serve, applyExportsToLoaded};
 ghost use Rattle.linker_imports.specs.Served.{serveAllNamed, serveAllModules};
@@ -27,6 +27,7 @@ use register_read::record_name;
 fn serve_named(
     at: u32,
     w: &mut [u8],
+    trace: &mut [u8],
     records: &[u8],
     names: &[u8],
     place: usize,
@@ -36,11 +37,11 @@ fn serve_named(
     ensures { λ _. ⌜ now (w .exit)
         ≡ run at (serveNamed (moduleAt (now (records .entry)) (now (names .entry)) place) base entry) (now (w .entry)) .1 ⌝ }
 {
-    let batch = window::read32(at, w, std::num::wrapping_add_u32(entry, 4));
-    if is_unresolved(at, w, batch) {
-        let address = window::read32(at, w, entry);
-        let symbol = export_of(at, w, records, names, place, address);
-        resolve(at, w, base, batch, symbol);
+    let batch = window::read32(at, w, trace, std::num::wrapping_add_u32(entry, 4));
+    if is_unresolved(at, w, trace, batch) {
+        let address = window::read32(at, w, trace, entry);
+        let symbol = export_of(at, w, trace, records, names, place, address);
+        resolve(at, w, trace, base, batch, symbol);
     }
 }
 
@@ -48,6 +49,7 @@ fn serve_named(
 fn serve_module(
     at: u32,
     w: &mut [u8],
+    trace: &mut [u8],
     records: &[u8],
     names: &[u8],
     place: usize,
@@ -57,50 +59,81 @@ fn serve_module(
     ensures { λ _. ⌜ now (w .exit)
         ≡ run at (serveModule (moduleAt (now (records .entry)) (now (names .entry)) place) base entry) (now (w .entry)) .1 ⌝ }
 {
-    let address = window::read32(at, w, entry);
+    let address = window::read32(at, w, trace, entry);
     let name = record_name(names, record_at(records, place));
-    if is_name(at, w, address, name) {
-        imports_of(at, w, records, place, base, entry);
+    if is_name(at, w, trace, address, name) {
+        imports_of(at, w, trace, records, place, base, entry);
     }
 }
 
 // The named imports of the module at base.
-fn serve_all_named(at: u32, w: &mut [u8], records: &[u8], names: &[u8], place: usize, base: u32)
+fn serve_all_named(
+    at: u32,
+    w: &mut [u8],
+    trace: &mut [u8],
+    records: &[u8],
+    names: &[u8],
+    place: usize,
+    base: u32,
+)
     ensures { λ _. ⌜ now (w .exit)
         ≡ run at (serveAllNamed (moduleAt (now (records .entry)) (now (names .entry)) place) base) (now (w .entry)) .1 ⌝ }
 {
-    let table = field(at, w, base, IMPORT_NAMED_SYMBOL_TABLE_OFFSET);
-    let count = field(at, w, base, IMPORT_NAMED_SYMBOL_NUM);
+    let table = field(at, w, trace, base, IMPORT_NAMED_SYMBOL_TABLE_OFFSET);
+    let count = field(at, w, trace, base, IMPORT_NAMED_SYMBOL_NUM);
     for index in 0..count {
         let entry = entry_address(table, index, IMPORT_NAMED_SYMBOL_ENTRY_SIZE);
-        serve_named(at, w, records, names, place, base, entry);
+        serve_named(at, w, trace, records, names, place, base, entry);
     }
 }
 
 // The module entries of the module at base.
-fn serve_all_modules(at: u32, w: &mut [u8], records: &[u8], names: &[u8], place: usize, base: u32)
+fn serve_all_modules(
+    at: u32,
+    w: &mut [u8],
+    trace: &mut [u8],
+    records: &[u8],
+    names: &[u8],
+    place: usize,
+    base: u32,
+)
     ensures { λ _. ⌜ now (w .exit)
         ≡ run at (serveAllModules (moduleAt (now (records .entry)) (now (names .entry)) place) base) (now (w .entry)) .1 ⌝ }
 {
-    let table = field(at, w, base, IMPORT_MODULE_TABLE_OFFSET);
-    let count = field(at, w, base, IMPORT_MODULE_NUM);
+    let table = field(at, w, trace, base, IMPORT_MODULE_TABLE_OFFSET);
+    let count = field(at, w, trace, base, IMPORT_MODULE_NUM);
     for index in 0..count {
         let entry = entry_address(table, index, IMPORT_MODULE_ENTRY_SIZE);
-        serve_module(at, w, records, names, place, base, entry);
+        serve_module(at, w, trace, records, names, place, base, entry);
     }
 }
 
 // Resolves the imports of the module at base that the module at the place satisfies.
-pub fn serve(at: u32, w: &mut [u8], records: &[u8], names: &[u8], place: usize, base: u32)
+pub fn serve(
+    at: u32,
+    w: &mut [u8],
+    trace: &mut [u8],
+    records: &[u8],
+    names: &[u8],
+    place: usize,
+    base: u32,
+)
     ensures { λ _. ⌜ now (w .exit)
         ≡ run at (serve (moduleAt (now (records .entry)) (now (names .entry)) place) base) (now (w .entry)) .1 ⌝ }
 {
-    serve_all_named(at, w, records, names, place, base);
-    serve_all_modules(at, w, records, names, place, base);
+    serve_all_named(at, w, trace, records, names, place, base);
+    serve_all_modules(at, w, trace, records, names, place, base);
 }
 
 // Resolves the imports that the module at the place satisfies in all modules but the last, which is the new one itself.
-pub fn apply_exports_to_loaded(at: u32, w: &mut [u8], records: &[u8], names: &[u8], place: usize)
+pub fn apply_exports_to_loaded(
+    at: u32,
+    w: &mut [u8],
+    trace: &mut [u8],
+    records: &[u8],
+    names: &[u8],
+    place: usize,
+)
     requires { ⌜ Encoded (now records) (now names) ⌝ }
     ensures { λ _. ⌜ now (w .exit)
         ≡ run at (applyExportsToLoaded (moduleAt (now (records .entry)) (now (names .entry)) place)
@@ -111,7 +144,7 @@ pub fn apply_exports_to_loaded(at: u32, w: &mut [u8], records: &[u8], names: &[u
     let mut k: u32 = 1;
     while k < count {
         let record = record_at(records, next);
-        serve(at, w, records, names, place, record.base);
+        serve(at, w, trace, records, names, place, record.base);
         next = record_end(record);
         k += 1;
     }

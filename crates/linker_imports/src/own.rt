@@ -1,7 +1,7 @@
 // The imports of a new module: named ones by lookup among all modules, itself included, and those from the modules that it names.
 ghost use mathlib.Core.Path.{_≡_};
 ghost use mathlib.Core.Bool.{true};
-ghost use Rattle.window.specs.Access.{run};
+ghost use Rattle.window.specs.Trace.{runT};
 ghost use Rattle.register.specs.Decode.{registerOf, isRegister};
 ghost use Rattle.register_read.specs.Read.{Encoded, modulesOf};
 ghost use Rattle.linker.specs.Imports.{importNamed, applyImportNamedSymbols, importModule, applyModuleImports};
@@ -28,6 +28,7 @@ use register_read::modules::lookup;
 fn import_named(
     at: u32,
     w: &mut [u8],
+    trace: &mut [u8],
     records: &mut [u8],
     names: &[u8],
     missing: &mut [u8],
@@ -40,14 +41,14 @@ fn import_named(
         ((now (w .exit), now (records .exit), now (missing .exit)) ≡ imported r (now (records .entry)) x)
         × Noted r (now (records .exit)) (now (names .entry)) (now (missing .exit)) (x .0)) ⌝ }
 {
-    let batch = window::read32(at, w, std::num::wrapping_add_u32(entry, 4));
-    if is_unresolved(at, w, batch) {
-        let address = window::read32(at, w, entry);
+    let batch = window::read32(at, w, trace, std::num::wrapping_add_u32(entry, 4));
+    if is_unresolved(at, w, trace, batch) {
+        let address = window::read32(at, w, trace, entry);
         let mut buffer = [0u8; 512];
-        let n = read_name(at, w, address, &mut buffer);
+        let n = read_name(at, w, trace, address, &mut buffer);
         match lookup(records, names, &buffer[..n]) {
             Symbol::At(symbol) => {
-                apply_relocation_batch(at, w, base, batch, symbol, true);
+                apply_relocation_batch(at, w, trace, base, batch, symbol, true);
             }
             Symbol::Nothing => {
                 push_missing(records, missing, &buffer[..n]);
@@ -60,6 +61,7 @@ fn import_named(
 pub fn apply_import_named_symbols(
     at: u32,
     w: &mut [u8],
+    trace: &mut [u8],
     records: &mut [u8],
     names: &[u8],
     missing: &mut [u8],
@@ -71,35 +73,50 @@ pub fn apply_import_named_symbols(
         ((now (w .exit), now (records .exit), now (missing .exit)) ≡ imported r (now (records .entry)) x)
         × Noted r (now (records .exit)) (now (names .entry)) (now (missing .exit)) (x .0)) ⌝ }
 {
-    let table = field(at, w, base, IMPORT_NAMED_SYMBOL_TABLE_OFFSET);
-    let count = field(at, w, base, IMPORT_NAMED_SYMBOL_NUM);
+    let table = field(at, w, trace, base, IMPORT_NAMED_SYMBOL_TABLE_OFFSET);
+    let count = field(at, w, trace, base, IMPORT_NAMED_SYMBOL_NUM);
     for index in 0..count {
         let entry = entry_address(table, index, IMPORT_NAMED_SYMBOL_ENTRY_SIZE);
-        import_named(at, w, records, names, missing, base, entry);
+        import_named(at, w, trace, records, names, missing, base, entry);
     }
 }
 
 // The imports of one module entry, from the first module of that name.
-fn import_module(at: u32, w: &mut [u8], records: &[u8], names: &[u8], base: u32, entry: u32)
+fn import_module(
+    at: u32,
+    w: &mut [u8],
+    trace: &mut [u8],
+    records: &[u8],
+    names: &[u8],
+    base: u32,
+    entry: u32,
+)
     requires { ⌜ Encoded (now records) (now names) ⌝ }
-    ensures { λ _. ⌜ now (w .exit) ≡ run at (importModule (modulesOf (now (records .entry)) (now (names .entry))) base entry) (now (w .entry)) .1 ⌝ }
+    ensures { λ _. ⌜ (now (w .exit), now (trace .exit)) ≡ runT at (importModule (modulesOf (now (records .entry)) (now (names .entry))) base entry) (now (w .entry), now (trace .entry)) .1 ⌝ }
 {
-    let address = window::read32(at, w, entry);
-    let Found::At(place) = module_by_name(at, w, records, names, address) else {
+    let address = window::read32(at, w, trace, entry);
+    let Found::At(place) = module_by_name(at, w, trace, records, names, address) else {
         return;
     };
-    imports_of(at, w, records, place, base, entry);
+    imports_of(at, w, trace, records, place, base, entry);
 }
 
 // Resolves the indexed and anonymous symbols that a module imports from the modules that it names.
-pub fn apply_module_imports(at: u32, w: &mut [u8], records: &[u8], names: &[u8], base: u32)
+pub fn apply_module_imports(
+    at: u32,
+    w: &mut [u8],
+    trace: &mut [u8],
+    records: &[u8],
+    names: &[u8],
+    base: u32,
+)
     requires { ⌜ Encoded (now records) (now names) ⌝ }
-    ensures { λ _. ⌜ now (w .exit) ≡ run at (applyModuleImports (modulesOf (now (records .entry)) (now (names .entry))) base) (now (w .entry)) .1 ⌝ }
+    ensures { λ _. ⌜ (now (w .exit), now (trace .exit)) ≡ runT at (applyModuleImports (modulesOf (now (records .entry)) (now (names .entry))) base) (now (w .entry), now (trace .entry)) .1 ⌝ }
 {
-    let table = field(at, w, base, IMPORT_MODULE_TABLE_OFFSET);
-    let count = field(at, w, base, IMPORT_MODULE_NUM);
+    let table = field(at, w, trace, base, IMPORT_MODULE_TABLE_OFFSET);
+    let count = field(at, w, trace, base, IMPORT_MODULE_NUM);
     for index in 0..count {
         let entry = entry_address(table, index, IMPORT_MODULE_ENTRY_SIZE);
-        import_module(at, w, records, names, base, entry);
+        import_module(at, w, trace, records, names, base, entry);
     }
 }

@@ -1,6 +1,6 @@
 // Rebasing: every stored offset becomes an address, and the relocations within the module are applied.
 ghost use mathlib.Core.Path.{_≡_};
-ghost use Rattle.window.specs.Access.{run};
+ghost use Rattle.window.specs.Trace.{runT};
 ghost use Rattle.linker.specs.declared.rebase.Moved.the-variants.{OldPlace};
 ghost use Rattle.linker.specs.Rebase.{isMagic};
 ghost use Rattle.linker.specs.Calls.{relocate, rebase, rebaseStatic};
@@ -25,36 +25,36 @@ pub fn is_magic(word: u32) -> bool
 }
 
 // After the segments: the pointer tables, then the internal relocations.
-fn relocate(at: u32, w: &mut [u8], base: u32, old: u32) -> Rebased
-    ensures { λ r. ⌜ (r, now (w .exit)) ≡ run at (relocate base (OldPlace old)) (now (w .entry)) ⌝ }
+fn relocate(at: u32, w: &mut [u8], trace: &mut [u8], base: u32, old: u32) -> Rebased
+    ensures { λ r. ⌜ (r, (now (w .exit), now (trace .exit))) ≡ runT at (relocate base (OldPlace old)) (now (w .entry), now (trace .entry)) ⌝ }
 {
-    move_tables(at, w, true, base);
-    apply_internal_relocations(at, w, base, old);
+    move_tables(at, w, trace, true, base);
+    apply_internal_relocations(at, w, trace, base, old);
     Rebased::Done
 }
 
 // Prepares a module that a load lends.
-pub fn rebase(at: u32, w: &mut [u8], lent: Lent) -> Rebased
-    ensures { λ r. ⌜ (r, now (w .exit)) ≡ run at (rebase lent) (now (w .entry)) ⌝ }
+pub fn rebase(at: u32, w: &mut [u8], trace: &mut [u8], lent: Lent) -> Rebased
+    ensures { λ r. ⌜ (r, (now (w .exit), now (trace .exit))) ≡ runT at (rebase lent) (now (w .entry), now (trace .entry)) ⌝ }
 {
     let base = lent.base;
-    if !is_magic(field(at, w, base, MAGIC)) {
+    if !is_magic(field(at, w, trace, base, MAGIC)) {
         return Rebased::NotACro;
     }
-    move_header(at, w, true, base);
-    let Moved::OldPlace(old) = move_segments(at, w, lent) else {
+    move_header(at, w, trace, true, base);
+    let Moved::OldPlace(old) = move_segments(at, w, trace, lent) else {
         return Rebased::BadSegment;
     };
-    relocate(at, w, base, old)
+    relocate(at, w, trace, base, old)
 }
 
 // Prepares the static module: its segments are the main program's, already addresses, and stay as they are.
-pub fn rebase_static(at: u32, w: &mut [u8], base: u32) -> Rebased
-    ensures { λ r. ⌜ (r, now (w .exit)) ≡ run at (rebaseStatic base) (now (w .entry)) ⌝ }
+pub fn rebase_static(at: u32, w: &mut [u8], trace: &mut [u8], base: u32) -> Rebased
+    ensures { λ r. ⌜ (r, (now (w .exit), now (trace .exit))) ≡ runT at (rebaseStatic base) (now (w .entry), now (trace .entry)) ⌝ }
 {
-    if !is_magic(field(at, w, base, MAGIC)) {
+    if !is_magic(field(at, w, trace, base, MAGIC)) {
         return Rebased::NotACro;
     }
-    move_header(at, w, true, base);
-    relocate(at, w, base, 0)
+    move_header(at, w, trace, true, base);
+    relocate(at, w, trace, base, 0)
 }

@@ -1,6 +1,6 @@
 // The segments of a load: code and read-only data stay in the module's image, Data and Bss get places of their own.
 ghost use mathlib.Core.Path.{_≡_};
-ghost use Rattle.window.specs.Access.{run};
+ghost use Rattle.window.specs.Trace.{runT};
 ghost use Rattle.linker.specs.declared.rebase.Moved.the-variants.{OldPlace};
 ghost use Rattle.linker.specs.Rebase.{at-offset, lentPlace, movedPlace, place, writeBack, moveSegment, moveSegments};
 use layout::fields::field;
@@ -75,36 +75,43 @@ fn place(lent: Lent, s: Segment, old: u32) -> Placed
 }
 
 // Writes a segment that got its place.
-fn write_back(at: u32, w: &mut [u8], base: u32, index: u32, placed: Placed) -> Moved
-    ensures { λ r. ⌜ (r, now (w .exit)) ≡ run at (writeBack base index placed) (now (w .entry)) ⌝ }
+fn write_back(
+    at: u32,
+    w: &mut [u8],
+    trace: &mut [u8],
+    base: u32,
+    index: u32,
+    placed: Placed,
+) -> Moved
+    ensures { λ r. ⌜ (r, (now (w .exit), now (trace .exit))) ≡ runT at (writeBack base index placed) (now (w .entry), now (trace .entry)) ⌝ }
 {
     let Placed::Put(s, old) = placed else {
         return Moved::Bad;
     };
-    set_segment(at, w, base, index, s);
+    set_segment(at, w, trace, base, index, s);
     Moved::OldPlace(old)
 }
 
 // Moves one segment; a lookup that finds none passes it over.
-fn move_segment(at: u32, w: &mut [u8], lent: Lent, index: u32, old: u32) -> Moved
-    ensures { λ r. ⌜ (r, now (w .exit)) ≡ run at (moveSegment lent index (OldPlace old)) (now (w .entry)) ⌝ }
+fn move_segment(at: u32, w: &mut [u8], trace: &mut [u8], lent: Lent, index: u32, old: u32) -> Moved
+    ensures { λ r. ⌜ (r, (now (w .exit), now (trace .exit))) ≡ runT at (moveSegment lent index (OldPlace old)) (now (w .entry), now (trace .entry)) ⌝ }
 {
     let base = lent.base;
-    let FoundSegment::Found(s) = segment(at, w, base, index) else {
+    let FoundSegment::Found(s) = segment(at, w, trace, base, index) else {
         return Moved::OldPlace(old);
     };
-    write_back(at, w, base, index, place(lent, s, old))
+    write_back(at, w, trace, base, index, place(lent, s, old))
 }
 
 // Moves the segments in order, up to the first that is refused.
-pub fn move_segments(at: u32, w: &mut [u8], lent: Lent) -> Moved
-    ensures { λ r. ⌜ (r, now (w .exit)) ≡ run at (moveSegments lent) (now (w .entry)) ⌝ }
+pub fn move_segments(at: u32, w: &mut [u8], trace: &mut [u8], lent: Lent) -> Moved
+    ensures { λ r. ⌜ (r, (now (w .exit), now (trace .exit))) ≡ runT at (moveSegments lent) (now (w .entry), now (trace .entry)) ⌝ }
 {
     let base = lent.base;
-    let count = field(at, w, base, SEGMENT_NUM);
+    let count = field(at, w, trace, base, SEGMENT_NUM);
     let mut old: u32 = 0;
     for index in 0..count {
-        let Moved::OldPlace(next) = move_segment(at, w, lent, index, old) else {
+        let Moved::OldPlace(next) = move_segment(at, w, trace, lent, index, old) else {
             return Moved::Bad;
         };
         old = next;

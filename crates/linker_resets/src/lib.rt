@@ -1,6 +1,6 @@
 // The resets of an unload: what linked against the module whose record begins at a place goes back to its own handler.
 ghost use mathlib.Core.Path.{_≡_};
-ghost use Rattle.window.specs.Access.{run};
+ghost use Rattle.window.specs.Trace.{runT};
 ghost use Rattle.register_read.specs.Read.{Encoded, modulesOf, moduleAt};
 ghost use Rattle.linker.specs.Resets.{reset, resetAt, resetNamed, resetModule, resetImports, resetImporters};
 ghost use Rattle.linker_resets.specs.Tables.{resetTable, resetAllNamed, resetAllModules};
@@ -27,32 +27,40 @@ use register_read::record_end;
 use register_read::record_name;
 
 // Points a resolved batch at the handler, even if that is 0, and marks it unresolved.
-fn reset(at: u32, w: &mut [u8], base: u32, handler: u32, batch: u32)
-    ensures { λ _. ⌜ now (w .exit) ≡ run at (reset base handler batch) (now (w .entry)) .1 ⌝ }
+fn reset(at: u32, w: &mut [u8], trace: &mut [u8], base: u32, handler: u32, batch: u32)
+    ensures { λ _. ⌜ (now (w .exit), now (trace .exit)) ≡ runT at (reset base handler batch) (now (w .entry), now (trace .entry)) .1 ⌝ }
 {
     if batch == 0 {
         return;
     }
-    if batch_is_resolved(at, w, batch) {
-        apply_relocation_batch(at, w, base, batch, handler, false);
+    if batch_is_resolved(at, w, trace, batch) {
+        apply_relocation_batch(at, w, trace, base, batch, handler, false);
     }
 }
 
 // The batch of one import.
-fn reset_at(at: u32, w: &mut [u8], base: u32, handler: u32, entry: u32)
-    ensures { λ _. ⌜ now (w .exit) ≡ run at (resetAt base handler entry) (now (w .entry)) .1 ⌝ }
+fn reset_at(at: u32, w: &mut [u8], trace: &mut [u8], base: u32, handler: u32, entry: u32)
+    ensures { λ _. ⌜ (now (w .exit), now (trace .exit)) ≡ runT at (resetAt base handler entry) (now (w .entry), now (trace .entry)) .1 ⌝ }
 {
-    let batch = window::read32(at, w, std::num::wrapping_add_u32(entry, 4));
-    reset(at, w, base, handler, batch);
+    let batch = window::read32(at, w, trace, std::num::wrapping_add_u32(entry, 4));
+    reset(at, w, trace, base, handler, batch);
 }
 
 // The imports of one table of a module entry, indexed or anonymous.
-fn reset_table(at: u32, w: &mut [u8], base: u32, handler: u32, table: u32, count: u32)
-    ensures { λ _. ⌜ now (w .exit) ≡ run at (resetTable base handler table count) (now (w .entry)) .1 ⌝ }
+fn reset_table(
+    at: u32,
+    w: &mut [u8],
+    trace: &mut [u8],
+    base: u32,
+    handler: u32,
+    table: u32,
+    count: u32,
+)
+    ensures { λ _. ⌜ (now (w .exit), now (trace .exit)) ≡ runT at (resetTable base handler table count) (now (w .entry), now (trace .entry)) .1 ⌝ }
 {
     for index in 0..count {
         let entry = entry_address(table, index, IMPORT_INDEXED_SYMBOL_ENTRY_SIZE);
-        reset_at(at, w, base, handler, entry);
+        reset_at(at, w, trace, base, handler, entry);
     }
 }
 
@@ -60,6 +68,7 @@ fn reset_table(at: u32, w: &mut [u8], base: u32, handler: u32, table: u32, count
 fn reset_named(
     at: u32,
     w: &mut [u8],
+    trace: &mut [u8],
     records: &[u8],
     names: &[u8],
     place: usize,
@@ -70,17 +79,18 @@ fn reset_named(
     ensures { λ _. ⌜ now (w .exit)
         ≡ run at (resetNamed (moduleAt (now (records .entry)) (now (names .entry)) place) base handler entry) (now (w .entry)) .1 ⌝ }
 {
-    let address = window::read32(at, w, entry);
-    let Symbol::At(_) = export_of(at, w, records, names, place, address) else {
+    let address = window::read32(at, w, trace, entry);
+    let Symbol::At(_) = export_of(at, w, trace, records, names, place, address) else {
         return;
     };
-    reset_at(at, w, base, handler, entry);
+    reset_at(at, w, trace, base, handler, entry);
 }
 
 // The imports of a module entry, if it names the module.
 fn reset_module(
     at: u32,
     w: &mut [u8],
+    trace: &mut [u8],
     records: &[u8],
     names: &[u8],
     place: usize,
@@ -91,15 +101,15 @@ fn reset_module(
     ensures { λ _. ⌜ now (w .exit)
         ≡ run at (resetModule (moduleAt (now (records .entry)) (now (names .entry)) place) base handler entry) (now (w .entry)) .1 ⌝ }
 {
-    let address = window::read32(at, w, entry);
+    let address = window::read32(at, w, trace, entry);
     let name = record_name(names, record_at(records, place));
-    if is_name(at, w, address, name) {
-        let indexed = window::read32(at, w, std::num::wrapping_add_u32(entry, 4));
-        let indexed_count = window::read32(at, w, std::num::wrapping_add_u32(entry, 8));
-        let anonymous = window::read32(at, w, std::num::wrapping_add_u32(entry, 12));
-        let anonymous_count = window::read32(at, w, std::num::wrapping_add_u32(entry, 16));
-        reset_table(at, w, base, handler, indexed, indexed_count);
-        reset_table(at, w, base, handler, anonymous, anonymous_count);
+    if is_name(at, w, trace, address, name) {
+        let indexed = window::read32(at, w, trace, std::num::wrapping_add_u32(entry, 4));
+        let indexed_count = window::read32(at, w, trace, std::num::wrapping_add_u32(entry, 8));
+        let anonymous = window::read32(at, w, trace, std::num::wrapping_add_u32(entry, 12));
+        let anonymous_count = window::read32(at, w, trace, std::num::wrapping_add_u32(entry, 16));
+        reset_table(at, w, trace, base, handler, indexed, indexed_count);
+        reset_table(at, w, trace, base, handler, anonymous, anonymous_count);
     }
 }
 
@@ -107,6 +117,7 @@ fn reset_module(
 fn reset_all_named(
     at: u32,
     w: &mut [u8],
+    trace: &mut [u8],
     records: &[u8],
     names: &[u8],
     place: usize,
@@ -116,11 +127,11 @@ fn reset_all_named(
     ensures { λ _. ⌜ now (w .exit)
         ≡ run at (resetAllNamed (moduleAt (now (records .entry)) (now (names .entry)) place) base handler) (now (w .entry)) .1 ⌝ }
 {
-    let table = field(at, w, base, IMPORT_NAMED_SYMBOL_TABLE_OFFSET);
-    let count = field(at, w, base, IMPORT_NAMED_SYMBOL_NUM);
+    let table = field(at, w, trace, base, IMPORT_NAMED_SYMBOL_TABLE_OFFSET);
+    let count = field(at, w, trace, base, IMPORT_NAMED_SYMBOL_NUM);
     for index in 0..count {
         let entry = entry_address(table, index, IMPORT_NAMED_SYMBOL_ENTRY_SIZE);
-        reset_named(at, w, records, names, place, base, handler, entry);
+        reset_named(at, w, trace, records, names, place, base, handler, entry);
     }
 }
 
@@ -128,6 +139,7 @@ fn reset_all_named(
 fn reset_all_modules(
     at: u32,
     w: &mut [u8],
+    trace: &mut [u8],
     records: &[u8],
     names: &[u8],
     place: usize,
@@ -137,26 +149,42 @@ fn reset_all_modules(
     ensures { λ _. ⌜ now (w .exit)
         ≡ run at (resetAllModules (moduleAt (now (records .entry)) (now (names .entry)) place) base handler) (now (w .entry)) .1 ⌝ }
 {
-    let table = field(at, w, base, IMPORT_MODULE_TABLE_OFFSET);
-    let count = field(at, w, base, IMPORT_MODULE_NUM);
+    let table = field(at, w, trace, base, IMPORT_MODULE_TABLE_OFFSET);
+    let count = field(at, w, trace, base, IMPORT_MODULE_NUM);
     for index in 0..count {
         let entry = entry_address(table, index, IMPORT_MODULE_ENTRY_SIZE);
-        reset_module(at, w, records, names, place, base, handler, entry);
+        reset_module(at, w, trace, records, names, place, base, handler, entry);
     }
 }
 
 // Resets what the module at base linked against the module at the place.
-pub fn reset_imports(at: u32, w: &mut [u8], records: &[u8], names: &[u8], place: usize, base: u32)
+pub fn reset_imports(
+    at: u32,
+    w: &mut [u8],
+    trace: &mut [u8],
+    records: &[u8],
+    names: &[u8],
+    place: usize,
+    base: u32,
+)
     ensures { λ _. ⌜ now (w .exit)
         ≡ run at (resetImports (moduleAt (now (records .entry)) (now (names .entry)) place) base) (now (w .entry)) .1 ⌝ }
 {
-    let handler = unresolved_symbol(at, w, base);
-    reset_all_named(at, w, records, names, place, base, handler);
-    reset_all_modules(at, w, records, names, place, base, handler);
+    let handler = unresolved_symbol(at, w, trace, base);
+    reset_all_named(at, w, trace, records, names, place, base, handler);
+    reset_all_modules(at, w, trace, records, names, place, base, handler);
 }
 
 // Resets one other module, if it is auto-linked.
-fn reset_importer(at: u32, w: &mut [u8], records: &[u8], names: &[u8], place: usize, record: Record)
+fn reset_importer(
+    at: u32,
+    w: &mut [u8],
+    trace: &mut [u8],
+    records: &[u8],
+    names: &[u8],
+    place: usize,
+    record: Record,
+)
     ensures { λ _. ⌜ now (w .exit)
         ≡ run at (resetImporter (moduleAt (now (records .entry)) (now (names .entry)) place) place «record») (now (w .entry)) .1 ⌝ }
 {
@@ -164,12 +192,19 @@ fn reset_importer(at: u32, w: &mut [u8], records: &[u8], names: &[u8], place: us
         return;
     }
     if record.auto_link == 1 {
-        reset_imports(at, w, records, names, place, record.base);
+        reset_imports(at, w, trace, records, names, place, record.base);
     }
 }
 
 // Resets what the auto-linked modules linked against the module at the place, itself left out.
-pub fn reset_importers(at: u32, w: &mut [u8], records: &[u8], names: &[u8], place: usize)
+pub fn reset_importers(
+    at: u32,
+    w: &mut [u8],
+    trace: &mut [u8],
+    records: &[u8],
+    names: &[u8],
+    place: usize,
+)
     requires { ⌜ Encoded (now records) (now names) ⌝ }
     ensures { λ _. ⌜ now (w .exit)
         ≡ run at (resetImporters (moduleAt (now (records .entry)) (now (names .entry)) place)
@@ -180,7 +215,7 @@ pub fn reset_importers(at: u32, w: &mut [u8], records: &[u8], names: &[u8], plac
     let mut k: u32 = 0;
     while k < count {
         let record = record_at(records, next);
-        reset_importer(at, w, records, names, place, record);
+        reset_importer(at, w, trace, records, names, place, record);
         next = record_end(record);
         k += 1;
     }

@@ -1,6 +1,6 @@
 // Names in the window and what they stand for. Each is read once into a buffer of its own, then compared as bytes.
 ghost use mathlib.Core.Path.{_≡_};
-ghost use Rattle.window.specs.Access.{run};
+ghost use Rattle.window.specs.Trace.{runT};
 ghost use Rattle.name.specs.Name.{nameAt};
 ghost use Rattle.register.specs.Words.{same};
 ghost use Rattle.register_read.specs.Read.{Encoded, modulesOf, placeFrom, hasName, exportOf, moduleAt};
@@ -12,13 +12,20 @@ use register_read::export_named;
 use register_read::modules::first_with_name;
 
 // Where the record of the first module with the name at `address` begins.
-pub fn module_by_name(at: u32, w: &[u8], records: &[u8], names: &[u8], address: u32) -> Found
+pub fn module_by_name(
+    at: u32,
+    w: &[u8],
+    trace: &mut [u8],
+    records: &[u8],
+    names: &[u8],
+    address: u32,
+) -> Found
     requires { ⌜ Encoded (now records) (now names) ⌝ }
     ensures { λ r. ⌜ r ≡ placeFrom 32 (modulesOf (now (records .entry)) (now (names .entry)))
         (hasName (run at (nameAt address) (now (w .entry)) .0)) ⌝ }
 {
     let mut buffer = [0u8; 512];
-    let n = read_name(at, w, address, &mut buffer);
+    let n = read_name(at, w, trace, address, &mut buffer);
     first_with_name(records, names, &buffer[..n])
 }
 
@@ -26,6 +33,7 @@ pub fn module_by_name(at: u32, w: &[u8], records: &[u8], names: &[u8], address: 
 pub fn export_of(
     at: u32,
     w: &[u8],
+    trace: &mut [u8],
     records: &[u8],
     names: &[u8],
     place: usize,
@@ -34,15 +42,15 @@ pub fn export_of(
     ensures { λ r. ⌜ r ≡ exportOf (moduleAt (now (records .entry)) (now (names .entry)) place) (run at (nameAt address) (now (w .entry)) .0) ⌝ }
 {
     let mut buffer = [0u8; 512];
-    let n = read_name(at, w, address, &mut buffer);
+    let n = read_name(at, w, trace, address, &mut buffer);
     export_named(records, names, place, &buffer[..n])
 }
 
 // Whether the name at `address` is that one.
-pub fn is_name(at: u32, w: &[u8], address: u32, name: &[u8]) -> bool
+pub fn is_name(at: u32, w: &[u8], trace: &mut [u8], address: u32, name: &[u8]) -> bool
     ensures { λ r. ⌜ r ≡ same (run at (nameAt address) (now (w .entry)) .0) (now (name .entry)) ⌝ }
 {
     let mut buffer = [0u8; 512];
-    let n = read_name(at, w, address, &mut buffer);
+    let n = read_name(at, w, trace, address, &mut buffer);
     same_name(&buffer[..n], name)
 }

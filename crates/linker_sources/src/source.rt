@@ -3,7 +3,7 @@ ghost use mathlib.Core.Path.{_≡_};
 ghost use mathlib.Core.List.{List};
 ghost use mathlib.Core.Option.{some};
 ghost use Prim.Native.Nat.{ℕ};
-ghost use Rattle.window.specs.Access.{run};
+ghost use Rattle.window.specs.Trace.{runT};
 ghost use Rattle.register_read.specs.Read.{moduleAt};
 ghost use Rattle.linker.specs.Imports.{anonymousOf, importFrom, importsOf};
 ghost use Rattle.linker_sources.specs.Source.{symbolOf, importTable};
@@ -46,6 +46,7 @@ fn symbol_of(records: &[u8], place: usize, kind: ImportTable, number: u32) -> Sy
 fn import_from(
     at: u32,
     w: &mut [u8],
+    trace: &mut [u8],
     records: &[u8],
     place: usize,
     kind: ImportTable,
@@ -55,10 +56,17 @@ fn import_from(
     ensures { λ _. ⌜ ((names : List ℕ) → now (w .exit)
         ≡ run at (importFrom (symbolOf kind (moduleAt (now (records .entry)) names place)) base entry) (now (w .entry)) .1) ⌝ }
 {
-    let number = window::read32(at, w, entry);
-    let batch = window::read32(at, w, std::num::wrapping_add_u32(entry, 4));
-    if is_unresolved(at, w, batch) {
-        resolve(at, w, base, batch, symbol_of(records, place, kind, number));
+    let number = window::read32(at, w, trace, entry);
+    let batch = window::read32(at, w, trace, std::num::wrapping_add_u32(entry, 4));
+    if is_unresolved(at, w, trace, batch) {
+        resolve(
+            at,
+            w,
+            trace,
+            base,
+            batch,
+            symbol_of(records, place, kind, number),
+        );
     }
 }
 
@@ -66,6 +74,7 @@ fn import_from(
 fn import_table(
     at: u32,
     w: &mut [u8],
+    trace: &mut [u8],
     records: &[u8],
     place: usize,
     kind: ImportTable,
@@ -78,22 +87,31 @@ fn import_table(
 {
     for index in 0..count {
         let entry = entry_address(table, index, IMPORT_INDEXED_SYMBOL_ENTRY_SIZE);
-        import_from(at, w, records, place, kind, base, entry);
+        import_from(at, w, trace, records, place, kind, base, entry);
     }
 }
 
 // The imports of a module entry, from the module whose record begins at the place.
-pub fn imports_of(at: u32, w: &mut [u8], records: &[u8], place: usize, base: u32, entry: u32)
+pub fn imports_of(
+    at: u32,
+    w: &mut [u8],
+    trace: &mut [u8],
+    records: &[u8],
+    place: usize,
+    base: u32,
+    entry: u32,
+)
     ensures { λ _. ⌜ ((names : List ℕ) → now (w .exit)
         ≡ run at (importsOf (some (moduleAt (now (records .entry)) names place)) base entry) (now (w .entry)) .1) ⌝ }
 {
-    let indexed = window::read32(at, w, std::num::wrapping_add_u32(entry, 4));
-    let indexed_count = window::read32(at, w, std::num::wrapping_add_u32(entry, 8));
-    let anonymous = window::read32(at, w, std::num::wrapping_add_u32(entry, 12));
-    let anonymous_count = window::read32(at, w, std::num::wrapping_add_u32(entry, 16));
+    let indexed = window::read32(at, w, trace, std::num::wrapping_add_u32(entry, 4));
+    let indexed_count = window::read32(at, w, trace, std::num::wrapping_add_u32(entry, 8));
+    let anonymous = window::read32(at, w, trace, std::num::wrapping_add_u32(entry, 12));
+    let anonymous_count = window::read32(at, w, trace, std::num::wrapping_add_u32(entry, 16));
     import_table(
         at,
         w,
+        trace,
         records,
         place,
         ImportTable::Indexed,
@@ -104,6 +122,7 @@ pub fn imports_of(at: u32, w: &mut [u8], records: &[u8], place: usize, base: u32
     import_table(
         at,
         w,
+        trace,
         records,
         place,
         ImportTable::Anonymous,

@@ -1,6 +1,6 @@
 // Unrebasing: an unloaded module gets its offsets back, as its file has them. The port of that part of cro/mod.rs.
 ghost use mathlib.Core.Path.{_≡_};
-ghost use Rattle.window.specs.Access.{run};
+ghost use Rattle.window.specs.Trace.{runT};
 ghost use Rattle.linker.specs.Unrebase.{offsetBack, leavesAs, unmoveSegment, unmoveSegments, unrebase};
 use layout::fields::field;
 use layout::fields::set_field;
@@ -38,30 +38,30 @@ fn leaves_as(base: u32, s: Segment) -> Segment
     }
 }
 
-fn unmove_segment(at: u32, w: &mut [u8], base: u32, index: u32)
-    ensures { λ _. ⌜ now (w .exit) ≡ run at (unmoveSegment base index) (now (w .entry)) .1 ⌝ }
+fn unmove_segment(at: u32, w: &mut [u8], trace: &mut [u8], base: u32, index: u32)
+    ensures { λ _. ⌜ (now (w .exit), now (trace .exit)) ≡ runT at (unmoveSegment base index) (now (w .entry), now (trace .entry)) .1 ⌝ }
 {
-    let FoundSegment::Found(s) = segment(at, w, base, index) else {
+    let FoundSegment::Found(s) = segment(at, w, trace, base, index) else {
         return;
     };
-    set_segment(at, w, base, index, leaves_as(base, s));
+    set_segment(at, w, trace, base, index, leaves_as(base, s));
 }
 
-fn unmove_segments(at: u32, w: &mut [u8], base: u32)
-    ensures { λ _. ⌜ now (w .exit) ≡ run at (unmoveSegments base) (now (w .entry)) .1 ⌝ }
+fn unmove_segments(at: u32, w: &mut [u8], trace: &mut [u8], base: u32)
+    ensures { λ _. ⌜ (now (w .exit), now (trace .exit)) ≡ runT at (unmoveSegments base) (now (w .entry), now (trace .entry)) .1 ⌝ }
 {
-    let count = field(at, w, base, SEGMENT_NUM);
+    let count = field(at, w, trace, base, SEGMENT_NUM);
     for index in 0..count {
-        unmove_segment(at, w, base, index);
+        unmove_segment(at, w, trace, base, index);
     }
 }
 
 // Puts a module back the way its file has it.
-pub fn unrebase(at: u32, w: &mut [u8], base: u32)
-    ensures { λ _. ⌜ now (w .exit) ≡ run at (unrebase base) (now (w .entry)) .1 ⌝ }
+pub fn unrebase(at: u32, w: &mut [u8], trace: &mut [u8], base: u32)
+    ensures { λ _. ⌜ (now (w .exit), now (trace .exit)) ≡ runT at (unrebase base) (now (w .entry), now (trace .entry)) .1 ⌝ }
 {
-    move_tables(at, w, false, base);
-    unmove_segments(at, w, base);
-    move_header(at, w, false, base);
-    set_field(at, w, base, FIXED_SIZE, 0);
+    move_tables(at, w, trace, false, base);
+    unmove_segments(at, w, trace, base);
+    move_header(at, w, trace, false, base);
+    set_field(at, w, trace, base, FIXED_SIZE, 0);
 }
