@@ -3,13 +3,17 @@ use Prim.Native.Nat.{ℕ}
 use mathlib.Core.Path.{_≡_, sym, ap, _∙_, subst}
 use mathlib.Core.List.{List}
 use mathlib.Core.Bool.{Bool, true, false}
-use Rattle.window.specs.Access.{run}
+use Rattle.window.specs.Access.{Prog, run}
+use Rattle.window.specs.Trace.{S, runT}
+use Rattle.window.specs.Silent.{reads-runT}
+use Rattle.register.specs.Module.{Module}
 use Rattle.register.specs.Change.{appended}
 use Rattle.linker.specs.declared.rebase.Rebased.{Rebased}
 use Rattle.linker.specs.Relocation.{resetExternalRelocations}
-use Rattle.linker.specs.Exports.{readModule}
+use Rattle.linker.specs.Exports.{readModule, readModule-reads}
 use Rattle.linker.specs.Calls.{Answer, number, enter}
 use Rattle.linker.specs.Outcome.{registerAfter}
+use Rattle.linker.specs.Touches.{counted}
 use Rattle.linker_exports.specs.declared.Indexed.{Indexed}
 use Rattle.linker_exports.specs.declared.Indexed.the-variants as indexed
 use Rattle.linker_exports.specs.Exported.{registerIn, entryAnswer, exported}
@@ -32,35 +36,51 @@ tested-0 e f = rw (e, f)
 -- the entry of a module, as its parts give it
 
 abbrev Now : Type 0
-Now = ℕ × List ℕ × List ℕ × List ℕ
+Now = ℕ × S × List ℕ × List ℕ
 
-module _ (at : ℕ) (w records names : List ℕ) (base size : ℕ) (auto : Bool) where
-  pub enter-1 : {x : Rebased} → x ≡ Rebased.NotACro → _≡_ {A = Now} (1, w, records, names) (entered at records names base size auto x w)
-  unfolding entered enter run number registerAfter
+module _ (at : ℕ) (w t records names : List ℕ) (base size : ℕ) (auto : Bool) where
+  pub enter-1 : {x : Rebased} → x ≡ Rebased.NotACro → _≡_ {A = Now} (1, (w, t), records, names) (entered at records names base size auto x (w, t))
+  unfolding entered enter runT number counted registerAfter
   enter-1 e = rw e
 
-  pub enter-2 : {x : Rebased} → x ≡ Rebased.BadSegment → _≡_ {A = Now} (2, w, records, names) (entered at records names base size auto x w)
-  unfolding entered enter run number registerAfter
+  pub enter-2 : {x : Rebased} → x ≡ Rebased.BadSegment → _≡_ {A = Now} (2, (w, t), records, names) (entered at records names base size auto x (w, t))
+  unfolding entered enter runT number counted registerAfter
   enter-2 e = rw e
 
-  -- the answer that the entry of the module is which window u holds
-  abbrev answer : List ℕ → Indexed → Answer
-  answer u i = entryAnswer (appended (registerIn records names) (run at (readModule base size auto) u .0)) i
+  abbrev reading : Prog Module
+  reading = readModule base size auto
 
-  module _ {x : Rebased} (e : x ≡ Rebased.Done) {u : List ℕ} (ew : u ≡ run at (resetExternalRelocations base) w .1) (i : Indexed) {rs ns : List ℕ}
-      (ei : _≡_ {A = Answer × List ℕ × List ℕ} (answer u i, rs, ns) (exported records names (run at (readModule base size auto) u .0))) where
-    enter-is : _≡_ {A = Now} (number (answer u i), u, rs, ns) (entered at records names base size auto x w)
+  -- the answer that the entry of the module m is
+  abbrev answer : Module → Indexed → Answer
+  answer m i = entryAnswer (appended (registerIn records names) m) i
+
+  -- what the entry leaves where the external reset left s
+  abbrev after : S → Indexed → List ℕ → List ℕ → Now
+  after s i rs ns =
+      let a = answer (run at reading (s .0) .0) i in
+      (number a, (s .0, counted a (s .1) (runT at reading s .1 .1)), rs, ns)
+
+  module _ {x : Rebased} (e : x ≡ Rebased.Done) {u t₁ : List ℕ} (es : _≡_ {A = S} (u, t₁) (runT at (resetExternalRelocations base) (w, t) .1)) (i : Indexed)
+      {rs ns : List ℕ}
+      (ei : _≡_ {A = Answer × List ℕ × List ℕ} (answer (run at reading u .0) i, rs, ns) (exported records names (run at reading u .0))) where
+    enter-is : _≡_ {A = Now} (after (u, t₁) i rs ns) (entered at records names base size auto x (w, t))
     enter-is =
-        let v = run at (resetExternalRelocations base) w .1 in
-        let z : _≡_ {A = Answer × List ℕ × List ℕ} (answer v i, rs, ns) (exported records names (run at (readModule base size auto) v .0)) =
-        subst (λ t. _≡_ {A = Answer × List ℕ × List ℕ} (answer t i, rs, ns) (exported records names (run at (readModule base size auto) t .0)))
-        ew ei in
-        rw (e, ew, entered-done at base size auto w records names) (ap (λ (y : Answer × List ℕ × List ℕ). (number (y .0), v, y .1, y .2)) z)
+        let v = runT at (resetExternalRelocations base) (w, t) .1 in
+        let q = reads-runT at reading v (readModule-reads base size auto) .0 in
+        let z : _≡_ {A = Answer × List ℕ × List ℕ} (answer (run at reading (v .0) .0) i, rs, ns) (exported records names (run at reading (v .0) .0)) =
+        subst (λ (s : S). _≡_ {A = Answer × List ℕ × List ℕ} (answer (run at reading (s .0) .0) i, rs, ns) (exported records names (run at reading (s .0) .0)))
+        es ei in
+        ap (λ (s : S). after s i rs ns) es
+        ∙ ap (λ (y : Answer × List ℕ × List ℕ). (number (y .0), (v .0, counted (y .0) (v .1) (runT at reading v .1 .1)), y .1, y .2)) z
+        ∙ rw (e, entered-done at base size auto (w, t) records names, q)
 
-    pub enter-5 : i ≡ indexed.NoRoom → _≡_ {A = Now} (5, u, rs, ns) (entered at records names base size auto x w)
-    unfolding entryAnswer number
-    enter-5 z = ap (λ t. (number (answer u t), u, rs, ns)) (sym z) ∙ enter-is
+    pub enter-5 : i ≡ indexed.NoRoom → _≡_ {A = Now} (5, (u, t₁), rs, ns) (entered at records names base size auto x (w, t))
+    unfolding entryAnswer number counted
+    enter-5 z = ap (λ j. after (u, t₁) j rs ns) (sym z) ∙ enter-is
 
-    pub enter-0 : i ≡ indexed.Appended → _≡_ {A = Now} (0, u, rs, ns) (entered at records names base size auto x w)
-    unfolding entryAnswer number
-    enter-0 z = ap (λ t. (number (answer u t), u, rs, ns)) (sym z) ∙ enter-is
+    pub enter-0
+        : i ≡ indexed.Appended → {t₂ : List ℕ} → _≡_ {A = S} (u, t₂) (runT at reading (u, t₁) .1)
+        → _≡_ {A = Now} (0, (u, t₂), rs, ns) (entered at records names base size auto x (w, t))
+    unfolding entryAnswer number counted
+    enter-0 z h =
+        ap (λ (s : S). (0, (u, s .1), rs, ns)) h ∙ ap (λ j. after (u, t₁) j rs ns) (sym z) ∙ enter-is

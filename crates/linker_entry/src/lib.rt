@@ -8,6 +8,7 @@ use linker::rebase::Rebased;
 use linker_exports::Indexed;
 use linker_exports::index_exports;
 use linker_relocation::relocation::reset_external_relocations;
+use linker_touches::touch_module;
 use register_test::is_register;
 
 // The tests that come first: 3 where the window breaks its rule, then 4 where the buffers are no register.
@@ -23,10 +24,12 @@ pub fn tested(at: u32, w: &[u8], records: &[u8], names: &[u8], missing: &[u8]) -
     0
 }
 
-// Gives a rebased module its record: 0, or the number of what hinders it.
+// Gives a rebased module its record: 0, or the number of what hinders it. What the Rust reads for a record is touched in
+// its order once the record stands: with 5 nothing of it counts.
 pub fn enter(
     at: u32,
     w: &mut [u8],
+    trace: &mut [u8],
     records: &mut [u8],
     names: &mut [u8],
     base: u32,
@@ -35,17 +38,20 @@ pub fn enter(
     rebased: Rebased,
 ) -> u32
     requires { ⌜ Encoded (now records) (now names) ⌝ }
-    ensures { λ r. ⌜ (r, now (w .exit), now (records .exit), now (names .exit))
-        ≡ entered at (now (records .entry)) (now (names .entry)) base size «auto_link» rebased (now (w .entry)) ⌝ }
+    ensures { λ r. ⌜ (r, (now (w .exit), now (trace .exit)), now (records .exit), now (names .exit))
+        ≡ entered at (now (records .entry)) (now (names .entry)) base size «auto_link» rebased (now (w .entry), now (trace .entry)) ⌝ }
 {
     match rebased {
         Rebased::NotACro => 1,
         Rebased::BadSegment => 2,
         Rebased::Done => {
-            reset_external_relocations(at, w, base);
+            reset_external_relocations(at, w, trace, base);
             match index_exports(at, w, records, names, base, size, auto_link) {
                 Indexed::NoRoom => 5,
-                Indexed::Appended => 0,
+                Indexed::Appended => {
+                    touch_module(at, w, trace, base);
+                    0
+                }
             }
         }
     }
