@@ -1,48 +1,79 @@
 -- From the code's loops over names to the definitions of `Name`.
 use Prim.Native.Nat.{ℕ, suc, _+_, _-_, _%_, _^_, _≤_, _<_}
-use mathlib.Core.Path.{_≡_, sym, ap, _∙_}
+use mathlib.Core.Path.{_≡_, refl, sym, ap, _∙_}
 use mathlib.Core.List.{List, [], _∷_, _++_, append-assoc, append-nil}
 use native.Mathlib.Omega.{arith}
 use native.Mathlib.Numerals.{add-one}
 use lib.ListN.{length, take, drop, getD, set, drop-of-length-le, take-append-drop}
 use lib.Seq.{drop-cons, length-take-le, take-suc-set, drop-set-lt, drop-drop}
-use borrow.Author.Tests.{lt-ltb, le-ltb}
-use Rattle.window.specs.Memory.{byteAt}
-use Rattle.window.specs.Access.{run}
-use Rattle.name.specs.Name.{nameFrom, name-stop, name-on, laidOver, orderOf}
+use borrow.Author.Tests.{eq-eqb, ne-eqb, lt-ltb, le-ltb}
+use Rattle.window.specs.Access.{ret, get8, run}
+use Rattle.window.specs.Trace.{S, runT}
+use Rattle.window.specs.TraceRuns.{left, given, gives, on-true, on-false}
+use Rattle.window.specs.Silent.{reads-runT}
+use Rattle.name.specs.Name.{nameAt, nameFrom, nameAt-0, nameAt-reads, laidOver, orderOf}
 use Rattle.name.specs.declared.NameOrder.the-variants.{Before, Same, After}
+
+pub name-nothing : (at p : ℕ) (s : S) → p ≡ 0 → ([], s) ≡ runT at (nameAt p) s
+name-nothing at p s e = rw (e, nameAt-0) (given at [] s)
 
 -- a name of at most m bytes, k of them read
 
-module _ (m k at : ℕ) (w : List ℕ) (p : ℕ) where
-  pub name-end : {b : ℕ} → k < m → b ≡ byteAt at w p → b ≡ 0 → run at (nameFrom (m - k) p) w .0 ≡ []
-  name-end l e h = let s : m - k ≡ suc (m - (k + 1)) = omega arith in rw s (name-stop at (m - (k + 1)) p w (sym e ∙ h))
+-- what is read from here on, behind bytes that were read before
+abbrev pub behind : List ℕ → List ℕ × S → List ℕ × S
+behind front r = (front ++ r .0, r .1)
 
-  pub name-next
-      : {b q : ℕ} → k < m → b ≡ byteAt at w p → (b ≡ 0 → ⊥) → q ≡ (p + 1) % 2 ^ 32
-      → run at (nameFrom (m - k) p) w .0 ≡ b ∷ run at (nameFrom (m - (k + 1)) q) w .0
-  name-next l e h f =
-      let s : m - k ≡ suc (m - (k + 1)) = omega arith in
-      rw (s, e, f) (name-on at (m - (k + 1)) p w (λ z. h (e ∙ z)))
+module _ (at m k p : ℕ) (s : S) where
+  pub name-full : m ≤ k → ([], s) ≡ runT at (nameFrom (m - k) p) s
+  unfolding nameFrom
+  name-full l = let z : m - k ≡ 0 = omega arith in rw z (given at [] s)
 
-  pub name-full : m ≤ k → run at (nameFrom (m - k) p) w .0 ≡ []
-  unfolding nameFrom run
-  name-full l = let s : m - k ≡ 0 = omega arith in rw s
+  module _ {b : ℕ} {s₁ : S} (l : k < m) (h : (b, s₁) ≡ runT at (get8 p) s) where
+    pub name-end : b ≡ 0 → ([], s₁) ≡ runT at (nameFrom (m - k) p) s
+    unfolding nameFrom
+    name-end e =
+        let z : m - k ≡ suc (m - (k + 1)) = omega arith in
+        rw z (on-true at s₁ (ret []) _ (eq-eqb b 0 e) (given at [] s₁) ∙ gives at (get8 p) s _ h)
+
+    pub name-next
+        : {q : ℕ} → (b ≡ 0 → ⊥) → q ≡ (p + 1) % 2 ^ 32
+        → behind (b ∷ []) (runT at (nameFrom (m - (k + 1)) q) s₁) ≡ runT at (nameFrom (m - k) p) s
+    unfolding nameFrom
+    name-next n f =
+        let z : m - k ≡ suc (m - (k + 1)) = omega arith in
+        let r = runT at (nameFrom (m - (k + 1)) ((p + 1) % 2 ^ 32)) s₁ in
+        rw (z, f)
+        (on-false at s₁ (ret []) _ (ne-eqb b 0 n)
+        (given at (b ∷ r .0) (r .1) ∙ gives at (nameFrom (m - (k + 1)) ((p + 1) % 2 ^ 32)) s₁ (λ rest. ret (b ∷ rest)) refl)
+        ∙ gives at (get8 p) s _ h)
 
 -- the buffer with n bytes of the name in it
 
-pub laid
-    : (n : ℕ) (buffer old : List ℕ) {name left : List ℕ} → n ≤ length buffer → take n buffer ++ left ≡ name → left ≡ []
-    → drop n buffer ≡ drop n old → _≡_ {A = ℕ × List ℕ} (n, buffer) (laidOver name old)
+laid
+    : (n : ℕ) (buffer old : List ℕ) {name : List ℕ} → n ≤ length buffer → take n buffer ++ [] ≡ name → drop n buffer ≡ drop n old
+    → _≡_ {A = ℕ × List ℕ} (n, buffer) (laidOver name old)
 unfolding laidOver
-laid n buffer old l e z d =
-    let t : take n buffer ≡ _ = sym (append-nil (take n buffer)) ∙ rw z at e in
+laid n buffer old l e d =
+    let t : take n buffer ≡ _ = sym (append-nil (take n buffer)) ∙ e in
     rw (← t, length-take-le n buffer l, ← d, take-append-drop)
 
+pub all-laid
+    : (n : ℕ) (buffer old : List ℕ) {rest r : List ℕ × S} {s : S} → n ≤ length buffer → behind (take n buffer) rest ≡ r
+    → ([], s) ≡ rest → drop n buffer ≡ drop n old → ((n, buffer) ≡ laidOver (r .0) old) × (s ≡ r .1)
+all-laid n buffer old {s = s} l e z d =
+    let f = ap (behind (take n buffer)) z ∙ e in
+    (laid n buffer old l (ap (λ (r : List ℕ × S). r .0) f) d, ap left f)
+
+-- a name is what it is, whatever its trace
+pub laid-peeked
+    : (at p : ℕ) (s : S) (old : List ℕ) {r : ℕ × List ℕ} → r ≡ laidOver (runT at (nameAt p) s .0) old
+    → r ≡ laidOver (run at (nameAt p) (s .0) .0) old
+laid-peeked at p s old h = h ∙ ap (λ name. laidOver name old) (reads-runT at (nameAt p) s (nameAt-reads p) .0)
+
 pub laid-turn
-    : (n : ℕ) (buffer : List ℕ) (b : ℕ) (left : List ℕ) → n < length buffer
-    → take (n + 1) (set buffer n b) ++ left ≡ take n buffer ++ (b ∷ left)
-laid-turn n buffer b left l = rw (add-one, take-suc-set buffer n b l, append-assoc)
+    : (n : ℕ) (buffer : List ℕ) (b : ℕ) (rest : List ℕ × S) → n < length buffer
+    → behind (take (n + 1) (set buffer n b)) rest ≡ behind (take n buffer) (behind (b ∷ []) rest)
+laid-turn n buffer b rest l = rw (add-one, take-suc-set buffer n b l, append-assoc)
 
 pub laid-rest
     : (n : ℕ) (buffer old : List ℕ) (b : ℕ) → drop n buffer ≡ drop n old → drop (n + 1) (set buffer n b) ≡ drop (n + 1) old

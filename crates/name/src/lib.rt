@@ -3,19 +3,28 @@ ghost use mathlib.Core.Path.{_≡_};
 ghost use Prim.Native.Nat.{_≤_};
 ghost use lib.ListN.{length};
 ghost use Rattle.window.specs.Access.{run};
+ghost use Rattle.window.specs.Trace.{runT};
 ghost use Rattle.name.specs.Name.{nameAt, laidOver, orderOf};
 
 // Reads the name at `address` into `buffer` and gives its length; the bytes of `buffer` past the name stay.
-pub fn read_name(at: u32, w: &[u8], address: u32, buffer: &mut [u8; 512]) -> usize
-    ensures { λ r. ⌜ (r, now (buffer .exit)) ≡ laidOver (run at (nameAt address) (now (w .entry)) .0) (now (buffer .entry)) ⌝ }
+pub fn read_name(at: u32, w: &[u8], trace: &mut [u8], address: u32, buffer: &mut [u8; 512]) -> usize
+    ensures { λ r. ⌜ ((r, now (buffer .exit)) ≡ laidOver (runT at (nameAt address) (now (w .entry), now (trace .entry)) .0) (now (buffer .entry))) × ((now (w .entry), now (trace .exit)) ≡ runT at (nameAt address) (now (w .entry), now (trace .entry)) .1) ⌝ }
 {
-    read_into(at, w, address, buffer)
+    read_into(at, w, trace, address, buffer)
 }
 
-// The same into any buffer that is long enough.
-fn read_into(at: u32, w: &[u8], address: u32, buffer: &mut [u8]) -> usize
-    requires { ⌜ 512 ≤ length (now buffer) ⌝ }
+// The same for a reader that is no step: what it touches is nobody's, so it drops the trace.
+pub fn peek_name(at: u32, w: &[u8], address: u32, buffer: &mut [u8; 512]) -> usize
     ensures { λ r. ⌜ (r, now (buffer .exit)) ≡ laidOver (run at (nameAt address) (now (w .entry)) .0) (now (buffer .entry)) ⌝ }
+{
+    let mut trace = [0u8; 16];
+    read_into(at, w, &mut trace[..], address, buffer)
+}
+
+// Reads a name into any buffer that is long enough.
+fn read_into(at: u32, w: &[u8], trace: &mut [u8], address: u32, buffer: &mut [u8]) -> usize
+    requires { ⌜ 512 ≤ length (now buffer) ⌝ }
+    ensures { λ r. ⌜ ((r, now (buffer .exit)) ≡ laidOver (runT at (nameAt address) (now (w .entry), now (trace .entry)) .0) (now (buffer .entry))) × ((now (w .entry), now (trace .exit)) ≡ runT at (nameAt address) (now (w .entry), now (trace .entry)) .1) ⌝ }
 {
     if address == 0 {
         return 0;
@@ -23,7 +32,7 @@ fn read_into(at: u32, w: &[u8], address: u32, buffer: &mut [u8]) -> usize
     let mut n: usize = 0;
     let mut p = address;
     while n < 512 {
-        let b = window::read8(at, w, p);
+        let b = window::read8(at, w, trace, p);
         if b == 0 {
             return n;
         }
@@ -32,6 +41,22 @@ fn read_into(at: u32, w: &[u8], address: u32, buffer: &mut [u8]) -> usize
         p = std::num::wrapping_add_u32(p, 1);
     }
     n
+}
+
+// Makes the accesses of the name at `address` and keeps no byte of it.
+pub fn touch_name(at: u32, w: &[u8], trace: &mut [u8], address: u32)
+    ensures { λ _. ⌜ (now (w .entry), now (trace .exit)) ≡ runT at (nameAt address) (now (w .entry), now (trace .entry)) .1 ⌝ }
+{
+    let mut p = address;
+    if p == 0 {
+        return;
+    }
+    for n in 0u32..512 {
+        if window::read8(at, w, trace, p) == 0 {
+            return;
+        }
+        p = std::num::wrapping_add_u32(p, 1);
+    }
 }
 
 // How one name stands to another.
