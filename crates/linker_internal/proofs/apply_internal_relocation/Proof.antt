@@ -51,18 +51,18 @@ same-length-2 c = search needs
 returns : tie.Need-returns
 returns c =
     let p4 = c .before .before .before .before in
-    let p6 = p4 .before .before in
-    let p10 = p6 .before .before .before .before in
-    let p12 = p10 .before .before in
-    let p16 = p12 .before .before .before .before in
-    let p18 = p16 .before .before in
-    let p22 = p18 .before .before .before .before in
-    let p24 = p22 .before .before in
-    let p28 = p24 .before .before .before .before in
+    let p5 = p4 .before in
+    let p10 = p5 .before .before .before .before .before in
+    let p11 = p10 .before in
+    let p16 = p11 .before .before .before .before .before in
+    let p17 = p16 .before in
+    let p22 = p17 .before .before .before .before .before in
+    let p23 = p22 .before in
+    let p28 = p23 .before .before .before .before .before in
     let p33 = p28 .before .before .before .before .before in
     let a = p33 .args in
-    into-missing (a .at) (a .base) (a .old) (a .entry) (a .w .now, a .trace .now) (p28 .read32 .ensures) (p24 .wrapping-add-u32 .ensures) (p22 .read8 .ensures)
-    (p18 .wrapping-add-u322 .ensures) (p16 .read82 .ensures) (p12 .wrapping-add-u323 .ensures) (p10 .read322 .ensures) (p6 .segment .ensures) (p4 .segment2 .ensures)
+    into-missing (a .at) (a .base) (a .old) (a .entry) (a .w .now, a .trace .now) (p28 .read32 .ensures) (p23 .wrapping-add-u32 .ensures) (p22 .read8 .ensures)
+    (p17 .wrapping-add-u322 .ensures) (p16 .read82 .ensures) (p11 .wrapping-add-u323 .ensures) (p10 .read322 .ensures) (p5 .segment .ensures) (p4 .segment2 .ensures)
     (c .enum-told .given .1)
 
 offset-requires : tie.Need-offset-requires
@@ -76,24 +76,25 @@ returns-2 c =
     let p2 = c .before .before in
     let p4 = p2 .before .before in
     let p8 = p4 .before .before .before .before in
-    let p10 = p8 .before .before in
-    let p14 = p10 .before .before .before .before in
-    let p16 = p14 .before .before in
-    let p20 = p16 .before .before .before .before in
-    let p22 = p20 .before .before in
-    let p26 = p22 .before .before .before .before in
-    let p28 = p26 .before .before in
-    let p32 = p28 .before .before .before .before in
+    let p9 = p8 .before in
+    let p14 = p9 .before .before .before .before .before in
+    let p15 = p14 .before in
+    let p20 = p15 .before .before .before .before .before in
+    let p21 = p20 .before in
+    let p26 = p21 .before .before .before .before .before in
+    let p27 = p26 .before in
+    let p32 = p27 .before .before .before .before .before in
     let p37 = p32 .before .before .before .before .before in
     let a = p37 .args in
-    into-past (a .at) (a .base) (a .old) (a .entry) (a .w .now, a .trace .now) (p32 .read32 .ensures) (p28 .wrapping-add-u32 .ensures) (p26 .read8 .ensures)
-    (p22 .wrapping-add-u322 .ensures) (p20 .read82 .ensures) (p16 .wrapping-add-u323 .ensures) (p14 .read322 .ensures) (p10 .segment .ensures) (p8 .segment2 .ensures)
+    into-past (a .at) (a .base) (a .old) (a .entry) (a .w .now, a .trace .now) (p32 .read32 .ensures) (p27 .wrapping-add-u32 .ensures) (p26 .read8 .ensures)
+    (p21 .wrapping-add-u322 .ensures) (p20 .read82 .ensures) (p15 .wrapping-add-u323 .ensures) (p14 .read322 .ensures) (p9 .segment .ensures) (p8 .segment2 .ensures)
     (p4 .into .given .0 .0) (p4 .into .given .1) (p2 .offset .ensures) (c .if1 .taken)
 
 same-length-4 : tie.Need-same-length-4
 same-length-4 c =
     let p37 = c .before .before .before .before .before .before .before .before .before .before .before .before .before .before .before .before .before .before .before .before .before .before .before .before .before .before .before .before .before .before .before .before .before .before .before .before .before in
-    trace-kept (p37 .args .at) (applyInternalRelocation (p37 .args .base) (p37 .args .old) (p37 .args .entry)) (p37 .args .w .now) (p37 .args .trace .now) (returns-2 c)
+    let a = p37 .args in
+    trace-kept (a .at) (applyInternalRelocation (a .base) (a .old) (a .entry)) (a .w .now) (a .trace .now) (returns-2 c)
 
 wrapping-add-u32-requires-4 : tie.Need-wrapping-add-u32-requires-4
 wrapping-add-u32-requires-4 c κs = search needs
@@ -120,24 +121,25 @@ returns-3 c =
     let p11 = p9 .before .before in
     let p13 = p11 .before .before in
     let p17 = p13 .before .before .before .before in
-    let p19 = p17 .before .before in
-    let p23 = p19 .before .before .before .before in
-    let p25 = p23 .before .before in
-    let p29 = p25 .before .before .before .before in
-    let p31 = p29 .before .before in
-    let p35 = p31 .before .before .before .before in
-    let p37 = p35 .before .before in
-    let p41 = p37 .before .before .before .before in
+    let p18 = p17 .before in
+    let p23 = p18 .before .before .before .before .before in
+    let p24 = p23 .before in
+    let p29 = p24 .before .before .before .before .before in
+    let p30 = p29 .before in
+    let p35 = p30 .before .before .before .before .before in
+    let p36 = p35 .before in
+    let p41 = p36 .before .before .before .before .before in
     let p46 = p41 .before .before .before .before .before in
     let a = p46 .args in
-    from-missing (a .at) (a .base) (a .old) (a .entry) (a .w .now, a .trace .now) (p41 .read32 .ensures) (p37 .wrapping-add-u32 .ensures) (p35 .read8 .ensures)
-    (p31 .wrapping-add-u322 .ensures) (p29 .read82 .ensures) (p25 .wrapping-add-u323 .ensures) (p23 .read322 .ensures) (p19 .segment .ensures) (p17 .segment2 .ensures)
+    from-missing (a .at) (a .base) (a .old) (a .entry) (a .w .now, a .trace .now) (p41 .read32 .ensures) (p36 .wrapping-add-u32 .ensures) (p35 .read8 .ensures)
+    (p30 .wrapping-add-u322 .ensures) (p29 .read82 .ensures) (p24 .wrapping-add-u323 .ensures) (p23 .read322 .ensures) (p18 .segment .ensures) (p17 .segment2 .ensures)
     (p13 .into .given .0 .0) (p13 .into .given .1) (p11 .offset .ensures) (p9 .if1 .left) (p4 .segment3 .ensures) (c .enum-told2 .given .1)
 
 same-length-6 : tie.Need-same-length-6
 same-length-6 c =
     let p46 = c .before .before .before .before .before .before .before .before .before .before .before .before .before .before .before .before .before .before .before .before .before .before .before .before .before .before .before .before .before .before .before .before .before .before .before .before .before .before .before .before .before .before .before .before .before .before in
-    trace-kept (p46 .args .at) (applyInternalRelocation (p46 .args .base) (p46 .args .old) (p46 .args .entry)) (p46 .args .w .now) (p46 .args .trace .now) (returns-3 c)
+    let a = p46 .args in
+    trace-kept (a .at) (applyInternalRelocation (a .base) (a .old) (a .entry)) (a .w .now) (a .trace .now) (returns-3 c)
 
 from-raw-requires : tie.Need-from-raw-requires
 from-raw-requires c κs = search needs
@@ -151,8 +153,8 @@ same-length-7 c = search needs
 returns-4 : tie.Need-returns-4
 returns-4 c =
     let p4 = c .before .before .before .before in
-    let p6 = p4 .before .before in
-    let p9 = p6 .before .before .before in
+    let p5 = p4 .before in
+    let p9 = p5 .before .before .before .before in
     let p13 = p9 .before .before .before .before in
     let p16 = p13 .before .before .before in
     let p17 = p16 .before in
@@ -160,25 +162,26 @@ returns-4 c =
     let p20 = p18 .before .before in
     let p22 = p20 .before .before in
     let p26 = p22 .before .before .before .before in
-    let p28 = p26 .before .before in
-    let p32 = p28 .before .before .before .before in
-    let p34 = p32 .before .before in
-    let p38 = p34 .before .before .before .before in
-    let p40 = p38 .before .before in
-    let p44 = p40 .before .before .before .before in
-    let p46 = p44 .before .before in
-    let p50 = p46 .before .before .before .before in
+    let p27 = p26 .before in
+    let p32 = p27 .before .before .before .before .before in
+    let p33 = p32 .before in
+    let p38 = p33 .before .before .before .before .before in
+    let p39 = p38 .before in
+    let p44 = p39 .before .before .before .before .before in
+    let p45 = p44 .before in
+    let p50 = p45 .before .before .before .before .before in
     let p55 = p50 .before .before .before .before .before in
     let a = p55 .args in
-    from-found (a .at) (a .base) (a .old) (a .entry) (a .w .now, a .trace .now) (p50 .read32 .ensures) (p46 .wrapping-add-u32 .ensures) (p44 .read8 .ensures)
-    (p40 .wrapping-add-u322 .ensures) (p38 .read82 .ensures) (p34 .wrapping-add-u323 .ensures) (p32 .read322 .ensures) (p28 .segment .ensures) (p26 .segment2 .ensures)
+    from-found (a .at) (a .base) (a .old) (a .entry) (a .w .now, a .trace .now) (p50 .read32 .ensures) (p45 .wrapping-add-u32 .ensures) (p44 .read8 .ensures)
+    (p39 .wrapping-add-u322 .ensures) (p38 .read82 .ensures) (p33 .wrapping-add-u323 .ensures) (p32 .read322 .ensures) (p27 .segment .ensures) (p26 .segment2 .ensures)
     (p22 .into .given .0 .0) (p22 .into .given .1) (p20 .offset .ensures) (p18 .if1 .left) (p13 .segment3 .ensures)
-    (p9 .from .given .0 .0) (p9 .from .given .1) (p17 .wrapping-add-u324 .ensures) (p16 .write-place .ensures) (p6 .from-raw .ensures) (p4 .apply-relocation .ensures)
+    (p9 .from .given .0 .0) (p9 .from .given .1) (p17 .wrapping-add-u324 .ensures) (p16 .write-place .ensures) (p5 .from-raw .ensures) (p4 .apply-relocation .ensures)
 
 same-length-8 : tie.Need-same-length-8
 same-length-8 c =
     let p55 = c .before .before .before .before .before .before .before .before .before .before .before .before .before .before .before .before .before .before .before .before .before .before .before .before .before .before .before .before .before .before .before .before .before .before .before .before .before .before .before .before .before .before .before .before .before .before .before .before .before .before .before .before .before .before .before in
-    trace-kept (p55 .args .at) (applyInternalRelocation (p55 .args .base) (p55 .args .old) (p55 .args .entry)) (p55 .args .w .now) (p55 .args .trace .now) (returns-4 c)
+    let a = p55 .args in
+    trace-kept (a .at) (applyInternalRelocation (a .base) (a .old) (a .entry)) (a .w .now) (a .trace .now) (returns-4 c)
 
 pub apply-internal-relocation-spec : {M : Type 1} → statement M
 apply-internal-relocation-spec =

@@ -16,7 +16,7 @@ use Rattle.linker_internal.proofs.apply_internal_relocations.Statement.
 use Rattle.linker_internal.proofs.apply_internal_relocations.Tie as tie
 
 abbrev Inv-loop : tie.InvT-loop
-Inv-loop at w₀ base old trace₀ table count index₀ w trace index =
+Inv-loop at w₀ trace₀ base old table count index₀ w trace index =
     (index ≤ count)
     × (length w ≡ length w₀)
     × (runT at (loop (λ i _. applyInternalRelocation base old (entryAt table i relocationEntrySize)) index (count - index) tt) (w, trace)
@@ -24,7 +24,7 @@ Inv-loop at w₀ base old trace₀ table count index₀ w trace index =
     × (length trace ≡ length trace₀)
 
 abbrev μ-loop : tie.MeasureT-loop
-μ-loop at w₀ base old trace₀ table count index₀ w trace index = count - index
+μ-loop at w₀ trace₀ base old table count index₀ w trace index = count - index
 
 field-requires : tie.Need-field-requires Inv-loop μ-loop
 field-requires c κs = search needs
@@ -56,7 +56,8 @@ loop-again c =
     let p12 = p9 .before .before .before in
     let p17 = p12 .before .before .before .before .before in
     let p22 = p17 .before .before .before .before .before in
-    let a = p22 .args in (
+    let a = p22 .args in
+    (
       omega arith,
       p4 .apply-internal-relocation .kept .1 .0 ∙ p9 .loop .inv .1,
       step-made (a .at) (applyInternalRelocation (a .base) (a .old)) (λ i. entryAt (p17 .field .result) i relocationEntrySize)
@@ -66,7 +67,9 @@ loop-again c =
     )
 
 same-length : tie.Need-same-length Inv-loop μ-loop
-same-length c = c .before .loop .inv .1
+same-length c =
+    let p1 = c .before in
+    p1 .loop .inv .1
 
 returns : tie.Need-returns Inv-loop μ-loop
 returns c =
@@ -82,7 +85,8 @@ returns c =
 same-length-2 : tie.Need-same-length-2 Inv-loop μ-loop
 same-length-2 c =
     let p14 = c .before .before .before .before .before .before .before .before .before .before .before .before .before .before in
-    trace-kept (p14 .args .at) (applyInternalRelocations (p14 .args .base) (p14 .args .old)) (p14 .args .w .now) (p14 .args .trace .now) (returns c)
+    let a = p14 .args in
+    trace-kept (a .at) (applyInternalRelocations (a .base) (a .old)) (a .w .now) (a .trace .now) (returns c)
 
 pub apply-internal-relocations-spec : {M : Type 1} → statement M
 apply-internal-relocations-spec =

@@ -14,7 +14,7 @@ use Rattle.linker_header.proofs.fix.end_tables.Statement.{statement}
 use Rattle.linker_header.proofs.fix.end_tables.Tie as tie
 
 abbrev Inv-loop : tie.InvT-loop
-Inv-loop at w₀ base barrier end trace₀ count i₀ w trace i =
+Inv-loop at w₀ trace₀ base barrier end count i₀ w trace i =
     (i ≤ count)
     × (length w ≡ length w₀)
     × (runT at (loop (λ i _. setField base (barrier + 8 * i) end) i (count - i) tt) (w, trace)
@@ -22,7 +22,7 @@ Inv-loop at w₀ base barrier end trace₀ count i₀ w trace i =
     × (length trace ≡ length trace₀)
 
 abbrev μ-loop : tie.MeasureT-loop
-μ-loop at w₀ base barrier end trace₀ count i₀ w trace i = count - i
+μ-loop at w₀ trace₀ base barrier end count i₀ w trace i = count - i
 
 saturating-sub-requires : tie.Need-saturating-sub-requires Inv-loop μ-loop
 saturating-sub-requires c κs = search needs

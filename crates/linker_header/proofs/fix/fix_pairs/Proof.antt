@@ -12,14 +12,14 @@ use Rattle.linker_header.proofs.fix.fix_pairs.Statement.{statement}
 use Rattle.linker_header.proofs.fix.fix_pairs.Tie as tie
 
 abbrev Inv-loop : tie.InvT-loop
-Inv-loop at w₀ base barrier end trace₀ last₀ i₀ w trace last i =
+Inv-loop at w₀ trace₀ base barrier end last₀ i₀ w trace last i =
     (i ≤ 15)
     × (length w ≡ length w₀)
     × (runT at (loop (fixPair base barrier) i (15 - i) last) (w, trace) ≡ runT at (loop (fixPair base barrier) 0 15 end) (w₀, trace₀))
     × (length trace ≡ length trace₀)
 
 abbrev μ-loop : tie.MeasureT-loop
-μ-loop at w₀ base barrier end trace₀ last₀ i₀ w trace last i = 15 - i
+μ-loop at w₀ trace₀ base barrier end last₀ i₀ w trace last i = 15 - i
 
 loop-holds : tie.Need-loop-holds Inv-loop μ-loop
 loop-holds c = (omega arith, refl, refl, refl)

@@ -31,13 +31,14 @@ returns : tie.Need-returns
 returns c =
     let p4 = c .before .before .before .before in
     let p9 = p4 .before .before .before .before .before in
-    let p11 = p9 .before .before in
-    let p15 = p11 .before .before .before .before in
-    let p17 = p15 .before .before in
-    let p21 = p17 .before .before .before .before in
+    let p10 = p9 .before in
+    let p15 = p10 .before .before .before .before .before in
+    let p16 = p15 .before in
+    let p21 = p16 .before .before .before .before .before in
     let p26 = p21 .before .before .before .before .before in
-    entry-applied (p26 .args .at) (p26 .args .base) (p26 .args .symbol) (p26 .args .entry) (p26 .args .w .now, p26 .args .trace .now)
-    (p21 .read32 .ensures) (p17 .wrapping-add-u32 .ensures) (p15 .read8 .ensures) (p11 .wrapping-add-u322 .ensures) (p9 .read322 .ensures)
+    let a = p26 .args in
+    entry-applied (a .at) (a .base) (a .symbol) (a .entry) (a .w .now, a .trace .now)
+    (p21 .read32 .ensures) (p16 .wrapping-add-u32 .ensures) (p15 .read8 .ensures) (p10 .wrapping-add-u322 .ensures) (p9 .read322 .ensures)
     (p4 .relocate-entry .ensures)
 
 pub apply-entry-spec : {M : Type 1} → statement M

@@ -12,14 +12,14 @@ use Rattle.linker_relocation.proofs.relocation.apply_relocation_batch.S
 use Rattle.linker_relocation.proofs.relocation.apply_relocation_batch.Tie as tie
 
 abbrev Inv-loop : tie.InvT-loop
-Inv-loop at w₀ base batch symbol resolved trace₀ entry₀ walked₀ w trace entry walked =
+Inv-loop at w₀ trace₀ base batch symbol resolved entry₀ walked₀ w trace entry walked =
     (walked < 0x1001)
     × (length w ≡ length w₀)
     × (runT at (walk (0x1001 - walked) base symbol entry walked) (w, trace) ≡ runT at (walk batchLimit base symbol batch 0) (w₀, trace₀))
     × (length trace ≡ length trace₀)
 
 abbrev μ-loop : tie.MeasureT-loop
-μ-loop at w₀ base batch symbol resolved trace₀ entry₀ walked₀ w trace entry walked = 0x1001 - walked
+μ-loop at w₀ trace₀ base batch symbol resolved entry₀ walked₀ w trace entry walked = 0x1001 - walked
 
 loop-holds : tie.Need-loop-holds Inv-loop μ-loop
 loop-holds c = (omega arith, refl, refl, refl)
@@ -41,10 +41,12 @@ loop-again c =
     let p2 = c .before .before in
     let p7 = p2 .before .before .before .before .before in
     let p10 = p7 .before .before .before in
-    let p13 = p10 .before .before .before in (
+    let p13 = p10 .before .before .before in
+    let a = p13 .args in
+    (
       omega arith,
       p7 .walk-entry .kept .1 .0 ∙ p10 .loop .inv .1,
-      walk-on (p13 .args .at) (p13 .args .base) (p13 .args .symbol) (p10 .loop .entry) (p10 .loop .w, p10 .loop .trace) 0x1001 (p10 .loop .walked) (p10 .loop .inv .0)
+      walk-on (a .at) (a .base) (a .symbol) (p10 .loop .entry) (p10 .loop .w, p10 .loop .trace) 0x1001 (p10 .loop .walked) (p10 .loop .inv .0)
           (p7 .walk-entry .ensures) (p2 .if1 .left) (c .wrapping-add-u32 .ensures)
           ∙ p10 .loop .inv .2,
       p7 .walk-entry .kept .1 .1 .0 ∙ p10 .loop .inv .3,
@@ -76,20 +78,21 @@ same-length-2 c =
 returns : tie.Need-returns Inv-loop μ-loop
 returns c =
     let p4 = c .before .before .before .before in
-    let p6 = p4 .before .before in
-    let p8 = p6 .before .before in
+    let p5 = p4 .before in
+    let p8 = p5 .before .before .before in
     let p13 = p8 .before .before .before .before .before in
     let p16 = p13 .before .before .before in
     let p19 = p16 .before .before .before in
-    batch-made (p19 .args .at) (p19 .args .base) (p19 .args .batch) (p19 .args .symbol) (p19 .args .resolved) (p19 .args .w .now, p19 .args .trace .now)
+    let a = p19 .args in
+    batch-made (a .at) (a .base) (a .batch) (a .symbol) (a .resolved) (a .w .now, a .trace .now)
     (⊎-elim
-    (λ e. walk-end (p19 .args .at) (p19 .args .base) (p19 .args .symbol) (p16 .loop .entry) (p16 .loop .w, p16 .loop .trace) 0x1001 (p16 .loop .walked) (p16 .loop .inv .0)
+    (λ e. walk-end (a .at) (a .base) (a .symbol) (p16 .loop .entry) (p16 .loop .w, p16 .loop .trace) 0x1001 (p16 .loop .walked) (p16 .loop .inv .0)
     (p13 .walk-entry .ensures) (e .taken))
-    (λ e. walk-full (p19 .args .at) (p19 .args .base) (p19 .args .symbol) (p16 .loop .entry) (p16 .loop .w, p16 .loop .trace) 0x1001 (p16 .loop .walked) (p16 .loop .inv .0)
+    (λ e. walk-full (a .at) (a .base) (a .symbol) (p16 .loop .entry) (p16 .loop .w, p16 .loop .trace) 0x1001 (p16 .loop .walked) (p16 .loop .inv .0)
     (p13 .walk-entry .ensures) (e .0 .left) (e .1 .taken))
     (p8 .if1 .came)
     ∙ p16 .loop .inv .2)
-    (p6 .wrapping-add-u322 .ensures) (mark-byte (p19 .args .resolved)) (p4 .write8 .ensures)
+    (p5 .wrapping-add-u322 .ensures) (mark-byte (a .resolved)) (p4 .write8 .ensures)
 
 pub apply-relocation-batch-spec : {M : Type 1} → statement M
 apply-relocation-batch-spec =

@@ -16,10 +16,10 @@ same-length c = search needs
 returns : tie.Need-returns
 returns c =
     let p2 = c .before .before in
-    let p4 = p2 .before .before in
-    let p7 = p4 .before .before .before in
+    let p3 = p2 .before in
+    let p7 = p3 .before .before .before .before in
     let a = p7 .args in
-    mark-read (a .at) (a .batch) (a .w .now, a .trace .now) (p4 .wrapping-add-u32 .ensures) (p2 .read8 .ensures)
+    mark-read (a .at) (a .batch) (a .w .now, a .trace .now) (p3 .wrapping-add-u32 .ensures) (p2 .read8 .ensures)
 
 pub batch-is-resolved-spec : {M : Type 1} → statement M
 batch-is-resolved-spec =

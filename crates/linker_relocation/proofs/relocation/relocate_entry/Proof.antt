@@ -23,7 +23,8 @@ returns : tie.Need-returns
 returns c =
     let p4 = c .before .before .before .before in
     let p9 = p4 .before .before .before .before .before in
-    relocate-nowhere (p9 .args .at) (p9 .args .base) (p9 .args .symbol) (p9 .args .tag) (p9 .args .kind) (p9 .args .addend) (p9 .args .w .now, p9 .args .trace .now)
+    let a = p9 .args in
+    relocate-nowhere (a .at) (a .base) (a .symbol) (a .tag) (a .kind) (a .addend) (a .w .now, a .trace .now)
     (p4 .tag-to-address .ensures) (c .enum-told .given .1)
 
 from-raw-requires : tie.Need-from-raw-requires
@@ -41,12 +42,13 @@ same-length-4 c = search needs
 returns-2 : tie.Need-returns-2
 returns-2 c =
     let p4 = c .before .before .before .before in
-    let p6 = p4 .before .before in
-    let p9 = p6 .before .before .before in
+    let p5 = p4 .before in
+    let p9 = p5 .before .before .before .before in
     let p13 = p9 .before .before .before .before in
     let p18 = p13 .before .before .before .before .before in
-    relocate-at (p18 .args .at) (p18 .args .base) (p18 .args .symbol) (p18 .args .tag) (p18 .args .kind) (p18 .args .addend) (p18 .args .w .now, p18 .args .trace .now)
-    (p13 .tag-to-address .ensures) (p9 .target .given .1) (p6 .from-raw .ensures) (p4 .apply-relocation .ensures)
+    let a = p18 .args in
+    relocate-at (a .at) (a .base) (a .symbol) (a .tag) (a .kind) (a .addend) (a .w .now, a .trace .now)
+    (p13 .tag-to-address .ensures) (p9 .target .given .1) (p5 .from-raw .ensures) (p4 .apply-relocation .ensures)
 
 pub relocate-entry-spec : {M : Type 1} → statement M
 relocate-entry-spec =

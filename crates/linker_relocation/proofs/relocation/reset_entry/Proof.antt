@@ -32,14 +32,14 @@ same-length-2 c =
 returns : tie.Need-returns
 returns c =
     let p4 = c .before .before .before .before in
-    let p6 = p4 .before .before in
-    let p8 = p6 .before .before in
+    let p5 = p4 .before in
+    let p8 = p5 .before .before .before in
     let p11 = p8 .before .before .before in
     let a = p11 .args in
     ⊎-elim
-    (λ e. reset-some (a .at) (a .base) (a .handler) (a .entry) (a .w .now, a .trace .now) (p6 .wrapping-add-u32 .ensures) (p4 .write8 .ensures) (e .0 .taken)
+    (λ e. reset-some (a .at) (a .base) (a .handler) (a .entry) (a .w .now, a .trace .now) (p5 .wrapping-add-u32 .ensures) (p4 .write8 .ensures) (e .0 .taken)
     (joined (e .8) (e .9) ∙ e .3 .ensures))
-    (λ e. reset-none (a .at) (a .base) (a .handler) (a .entry) (a .w .now, a .trace .now) (p6 .wrapping-add-u32 .ensures) (p4 .write8 .ensures)
+    (λ e. reset-none (a .at) (a .base) (a .handler) (a .entry) (a .w .now, a .trace .now) (p5 .wrapping-add-u32 .ensures) (p4 .write8 .ensures)
     (e .0 .left) (joined (e .1) (e .2)))
     (p8 .if1 .came)
 

@@ -15,7 +15,7 @@ use Rattle.linker_relocation.proofs.relocation.reset_external_relocatio
 use Rattle.linker_relocation.proofs.relocation.reset_external_relocations.Tie as tie
 
 abbrev Inv-loop : tie.InvT-loop
-Inv-loop at w₀ base trace₀ handler table count index₀ w trace index =
+Inv-loop at w₀ trace₀ base handler table count index₀ w trace index =
     (index ≤ count)
     × (length w ≡ length w₀)
     × (runT at (loop (λ i _. resetEntry base handler (entryAt table i relocationEntrySize)) index (count - index) tt) (w, trace)
@@ -23,7 +23,7 @@ Inv-loop at w₀ base trace₀ handler table count index₀ w trace index =
     × (length trace ≡ length trace₀)
 
 abbrev μ-loop : tie.MeasureT-loop
-μ-loop at w₀ base trace₀ handler table count index₀ w trace index = count - index
+μ-loop at w₀ trace₀ base handler table count index₀ w trace index = count - index
 
 unresolved-symbol-requires : tie.Need-unresolved-symbol-requires Inv-loop μ-loop
 unresolved-symbol-requires c κs = search needs
@@ -59,7 +59,8 @@ loop-again c =
     let p17 = p12 .before .before .before .before .before in
     let p22 = p17 .before .before .before .before .before in
     let p27 = p22 .before .before .before .before .before in
-    let a = p27 .args in (
+    let a = p27 .args in
+    (
       omega arith,
       p4 .reset-entry .kept .1 .0 ∙ p9 .loop .inv .1,
       step-made (a .at) (resetEntry (a .base) (p22 .unresolved-symbol .result)) (λ i. entryAt (p17 .field .result) i relocationEntrySize)
@@ -69,7 +70,9 @@ loop-again c =
     )
 
 same-length : tie.Need-same-length Inv-loop μ-loop
-same-length c = c .before .loop .inv .1
+same-length c =
+    let p1 = c .before in
+    p1 .loop .inv .1
 
 same-length-2 : tie.Need-same-length-2 Inv-loop μ-loop
 same-length-2 c =

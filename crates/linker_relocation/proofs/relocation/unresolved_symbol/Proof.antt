@@ -26,7 +26,8 @@ returns c =
     let p4 = c .before .before .before .before in
     let p8 = p4 .before .before .before .before in
     let p12 = p8 .before .before .before .before in
-    handler-is (p12 .args .at) (p12 .args .base) (p12 .args .w .now, p12 .args .trace .now) (p8 .field .ensures) (p4 .tag-to-address .ensures)
+    let a = p12 .args in
+    handler-is (a .at) (a .base) (a .w .now, a .trace .now) (p8 .field .ensures) (p4 .tag-to-address .ensures)
     (ap addressOr0 (sym (c .enum-told .given .1)))
 
 same-length-2 : tie.Need-same-length-2
@@ -38,7 +39,8 @@ returns-2 c =
     let p5 = p1 .before .before .before .before in
     let p9 = p5 .before .before .before .before in
     let p13 = p9 .before .before .before .before in
-    handler-is (p13 .args .at) (p13 .args .base) (p13 .args .w .now, p13 .args .trace .now) (p9 .field .ensures) (p5 .tag-to-address .ensures)
+    let a = p13 .args in
+    handler-is (a .at) (a .base) (a .w .now, a .trace .now) (p9 .field .ensures) (p5 .tag-to-address .ensures)
     (ap addressOr0 (sym (p1 .handler .given .1)))
 
 pub unresolved-symbol-spec : {M : Type 1} → statement M

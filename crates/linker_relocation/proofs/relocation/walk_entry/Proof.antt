@@ -37,16 +37,17 @@ returns : tie.Need-returns
 returns c =
     let p4 = c .before .before .before .before in
     let p9 = p4 .before .before .before .before .before in
-    let p11 = p9 .before .before in
-    let p15 = p11 .before .before .before .before in
-    let p17 = p15 .before .before in
-    let p21 = p17 .before .before .before .before in
-    let p23 = p21 .before .before in
-    let p27 = p23 .before .before .before .before in
+    let p10 = p9 .before in
+    let p15 = p10 .before .before .before .before .before in
+    let p16 = p15 .before in
+    let p21 = p16 .before .before .before .before .before in
+    let p22 = p21 .before in
+    let p27 = p22 .before .before .before .before .before in
     let p32 = p27 .before .before .before .before .before in
-    entry-walked (p32 .args .at) (p32 .args .base) (p32 .args .symbol) (p32 .args .entry) (p32 .args .w .now, p32 .args .trace .now)
-    (p27 .read32 .ensures) (p23 .wrapping-add-u32 .ensures) (p21 .read8 .ensures) (p17 .wrapping-add-u322 .ensures) (p15 .read82 .ensures)
-    (p11 .wrapping-add-u323 .ensures) (p9 .read322 .ensures) (p4 .relocate-entry .ensures)
+    let a = p32 .args in
+    entry-walked (a .at) (a .base) (a .symbol) (a .entry) (a .w .now, a .trace .now)
+    (p27 .read32 .ensures) (p22 .wrapping-add-u32 .ensures) (p21 .read8 .ensures) (p16 .wrapping-add-u322 .ensures) (p15 .read82 .ensures)
+    (p10 .wrapping-add-u323 .ensures) (p9 .read322 .ensures) (p4 .relocate-entry .ensures)
 
 pub walk-entry-spec : {M : Type 1} → statement M
 walk-entry-spec =
