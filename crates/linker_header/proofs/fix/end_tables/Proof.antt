@@ -55,7 +55,8 @@ loop-again c =
     let p8 = p7 .before in
     let p9 = p8 .before in
     let p12 = p9 .before .before .before in
-    let a = p12 .args in (
+    let a = p12 .args in
+    (
       omega arith,
       p4 .set-field .kept .1 .0 ∙ p8 .loop .inv .1,
       step-made (a .at) (λ x. setField (a .base) x (a .end)) (λ i. a .barrier + 8 * i) (p8 .loop .i) (p9 .saturating-sub .result / 8)
@@ -64,10 +65,14 @@ loop-again c =
     )
 
 same-length : tie.Need-same-length Inv-loop μ-loop
-same-length c = c .before .loop .inv .1
+same-length c =
+    let p1 = c .before in
+    p1 .loop .inv .1
 
 same-length-2 : tie.Need-same-length-2 Inv-loop μ-loop
-same-length-2 c = c .before .loop .inv .3
+same-length-2 c =
+    let p1 = c .before in
+    p1 .loop .inv .3
 
 returns : tie.Need-returns Inv-loop μ-loop
 returns c =

@@ -38,16 +38,16 @@ returns : tie.Need-returns
 returns c =
     let p4 = c .before .before .before .before in
     let p11 = p4 .before .before .before .before .before .before .before in
-    let p13 = p11 .before .before in
-    let p15 = p13 .before .before in
+    let p12 = p11 .before in
+    let p15 = p12 .before .before .before in
     let p20 = p15 .before .before .before .before .before in
-    let p22 = p20 .before .before in
-    let p26 = p22 .before .before .before .before in
+    let p21 = p20 .before in
+    let p26 = p21 .before .before .before .before .before in
     let p31 = p26 .before .before .before .before .before in
     let p36 = p31 .before .before .before .before .before in
     let a = p36 .args in
-    fixed-from (a .at) (a .base) (a .size) (a .barrier) (a .w .now, a .trace .now) (p31 .field .ensures) (p26 .field2 .ensures) (p22 .wrapping-add-u32 .ensures)
-    (p20 .fix-pairs .ensures) (p15 .fixed-to .ensures) (p13 .wrapping-add-u322 .ensures) (p11 .end-tables .ensures) (p4 .set-field .ensures)
+    fixed-from (a .at) (a .base) (a .size) (a .barrier) (a .w .now, a .trace .now) (p31 .field .ensures) (p26 .field2 .ensures) (p21 .wrapping-add-u32 .ensures)
+    (p20 .fix-pairs .ensures) (p15 .fixed-to .ensures) (p12 .wrapping-add-u322 .ensures) (p11 .end-tables .ensures) (p4 .set-field .ensures)
 
 pub fix-from-spec : {M : Type 1} → statement M
 fix-from-spec =

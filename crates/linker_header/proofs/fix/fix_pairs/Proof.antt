@@ -39,7 +39,8 @@ loop-again c =
     let p7 = p4 .before .before .before in
     let p8 = p7 .before in
     let p11 = p8 .before .before .before in
-    let a = p11 .args in (
+    let a = p11 .args in
+    (
       omega arith,
       p4 .fix-pair .kept .1 .0 ∙ p8 .loop .inv .1,
       turn-made (a .at) (fixPair (a .base) (a .barrier)) (p8 .loop .i) 15 (p8 .loop .last) (p8 .loop .w, p8 .loop .trace) (p8 .loop .inv .2) (p7 .loop-test .taken)
@@ -48,10 +49,14 @@ loop-again c =
     )
 
 same-length : tie.Need-same-length Inv-loop μ-loop
-same-length c = c .before .loop .inv .1
+same-length c =
+    let p1 = c .before in
+    p1 .loop .inv .1
 
 same-length-2 : tie.Need-same-length-2 Inv-loop μ-loop
-same-length-2 c = c .before .loop .inv .3
+same-length-2 c =
+    let p1 = c .before in
+    p1 .loop .inv .3
 
 returns : tie.Need-returns Inv-loop μ-loop
 returns c =
