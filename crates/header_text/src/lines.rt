@@ -24,7 +24,7 @@ pub fn is_module(at: u32, w: &[u8], base: u32, n: usize) -> bool
     if n < header::SIZE as usize {
         return false;
     }
-    let magic = layout::fields::field(at, w, base, header::MAGIC);
+    let magic = layout::peek::field(at, w, base, header::MAGIC);
     if magic == CRO0 {
         return true;
     }

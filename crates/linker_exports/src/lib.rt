@@ -14,12 +14,11 @@ ghost use Rattle.linker_record.specs.Read.{headerWord, segmentsTo, namedTo, ind
 ghost use Rattle.linker_exports.specs.Modules.{withSegments, withNamed, withIndexeds, Turns, Bare, Unindexed, Empty, Any};
 ghost use Rattle.linker_exports.specs.Exported.{registerIn, entryAnswer, exported, registerWith};
 use layout::fields::entry_address;
-use layout::fields::field;
 use layout::format::EXPORT_INDEXED_SYMBOL_ENTRY_SIZE;
 use layout::format::EXPORT_NAMED_SYMBOL_ENTRY_SIZE;
 use layout::format::SegmentTag;
 use layout::header;
-use layout::segments;
+use layout::peek;
 use layout::segments::Address;
 use linker_record::at_most_16;
 use linker_record::begin;
@@ -68,7 +67,7 @@ fn add_segments(
     ensures { λ r. ⌜ Turns Bare (λ m. withSegments m []) (λ m. withSegments m (run at (readSegments base) (now (w .entry)) .0))
         before (now (records .entry)) (now (names .entry)) r (now (records .exit)) (now (names .exit)) ⌝ }
 {
-    let count = at_most_16(field(at, w, base, header::SEGMENT_NUM));
+    let count = at_most_16(peek::field(at, w, base, header::SEGMENT_NUM));
     let mut last = before;
     let mut i: u32 = 0;
     while i < count {
@@ -118,8 +117,8 @@ fn add_all_indexed(
     ensures { λ r. ⌜ Turns Any (λ m. withIndexeds m []) (λ m. withIndexeds m (run at (indexedExports base) (now (w .entry)) .0))
         before (now (records .entry)) (now (names .entry)) r (now (records .exit)) (now (names .exit)) ⌝ }
 {
-    let table = field(at, w, base, header::EXPORT_INDEXED_SYMBOL_TABLE_OFFSET);
-    let count = field(at, w, base, header::EXPORT_INDEXED_SYMBOL_NUM);
+    let table = peek::field(at, w, base, header::EXPORT_INDEXED_SYMBOL_TABLE_OFFSET);
+    let count = peek::field(at, w, base, header::EXPORT_INDEXED_SYMBOL_NUM);
     let mut last = before;
     let mut i: u32 = 0;
     while i < count {
@@ -152,9 +151,9 @@ fn add_named(
         before (now (records .entry)) (now (names .entry)) r (now (records .exit)) (now (names .exit))) ⌝ }
 {
     let entry = entry_address(table, i, EXPORT_NAMED_SYMBOL_ENTRY_SIZE);
-    let place = window::read32(at, w, entry);
-    let tag = SegmentTag(window::read32(at, w, std::num::wrapping_add_u32(entry, 4)));
-    match segments::tag_to_address(at, w, base, tag) {
+    let place = peek::word(at, w, entry);
+    let tag = SegmentTag(peek::word(at, w, std::num::wrapping_add_u32(entry, 4)));
+    match peek::tag_to_address(at, w, base, tag) {
         Address::Nowhere => Drafted::Open(before),
         Address::At(address) => put_named(at, w, place, address, records, names, before),
     }
@@ -172,8 +171,8 @@ fn add_all_named(
     ensures { λ r. ⌜ Turns Unindexed (λ m. withNamed m []) (λ m. withNamed m (run at (namedExports base) (now (w .entry)) .0))
         before (now (records .entry)) (now (names .entry)) r (now (records .exit)) (now (names .exit)) ⌝ }
 {
-    let table = field(at, w, base, header::EXPORT_NAMED_SYMBOL_TABLE_OFFSET);
-    let count = field(at, w, base, header::EXPORT_NAMED_SYMBOL_NUM);
+    let table = peek::field(at, w, base, header::EXPORT_NAMED_SYMBOL_TABLE_OFFSET);
+    let count = peek::field(at, w, base, header::EXPORT_NAMED_SYMBOL_NUM);
     let mut last = before;
     let mut i: u32 = 0;
     while i < count {

@@ -8,10 +8,9 @@ ghost use Rattle.register_append.specs.Draft.{beginRecord};
 ghost use Rattle.linker.specs.Relocation.{addressOr0};
 ghost use Rattle.linker_record.specs.Read.{segmentOf, atMost16, ownName};
 ghost use Rattle.linker_record.specs.Tried.{tried, putTried};
-use layout::fields::field;
 use layout::format::SegmentTag;
 use layout::header;
-use layout::segments;
+use layout::peek;
 use layout::segments::Address;
 use layout::segments::FoundSegment;
 use register_append::draft;
@@ -35,7 +34,7 @@ pub fn kept(records: &mut [u8], names: &mut [u8], before: Draft, after: Drafted)
 pub fn segment_offset(at: u32, w: &[u8], base: u32, i: u32) -> u32
     ensures { λ r. ⌜ r ≡ segmentOf at (now (w .entry)) base i ⌝ }
 {
-    match segments::segment(at, w, base, i) {
+    match peek::segment(at, w, base, i) {
         FoundSegment::Found(entry) => entry.offset,
         FoundSegment::Missing => 0,
     }
@@ -55,8 +54,8 @@ pub fn at_most_16(n: u32) -> u32
 pub fn indexed_address(at: u32, w: &[u8], base: u32, entry: u32) -> u32
     ensures { λ r. ⌜ r ≡ addressOr0 (run at (tagToAddress base (wordAt at (now (w .entry)) entry)) (now (w .entry)) .0) ⌝ }
 {
-    let tag = SegmentTag(window::read32(at, w, entry));
-    match segments::tag_to_address(at, w, base, tag) {
+    let tag = SegmentTag(peek::word(at, w, entry));
+    match peek::tag_to_address(at, w, base, tag) {
         Address::At(address) => address,
         Address::Nowhere => 0,
     }
@@ -76,7 +75,7 @@ pub fn put_named(
         ≡ putTried before (now (records .entry)) (now (names .entry)) (run at (nameAt place) (now (w .entry)) .0) address ⌝ }
 {
     let mut buffer = [0u8; 512];
-    let count = name::read_name(at, w, place, &mut buffer);
+    let count = name::peek_name(at, w, place, &mut buffer);
     let after = draft::put_export(records, names, before, &buffer[..count], address);
     kept(records, names, before, after)
 }
@@ -95,7 +94,7 @@ pub fn begin(
         ≡ beginRecord (now (records .entry)) (now (names .entry)) base size «auto_link» (ownName at (now (w .entry)) base) ⌝ }
 {
     let mut buffer = [0u8; 512];
-    let place = field(at, w, base, header::MODULE_NAME_OFFSET);
-    let count = name::read_name(at, w, place, &mut buffer);
+    let place = peek::field(at, w, base, header::MODULE_NAME_OFFSET);
+    let count = name::peek_name(at, w, place, &mut buffer);
     register_begin::begin_record(records, names, base, size, auto_link, &buffer[..count])
 }

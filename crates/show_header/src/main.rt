@@ -3,8 +3,7 @@
 ghost use Prim.Native.Nat.{_<_};
 use header_text::append::Next;
 use header_text::lines;
-use layout::fields;
-use layout::segments;
+use layout::peek;
 use layout::segments::FoundSegment;
 
 // The module starts with the window, at 0: there its offsets are addresses before it is loaded.
@@ -35,7 +34,7 @@ fn print_field(w: &[u8], k: u32)
     if let Next::At(n) = lines::put_name(&mut name, 0, k) {
         io::write_all(1, &name[..n]);
     }
-    print_hex(fields::field(BASE, w, BASE, lines::line_offset(k)), b"\n");
+    print_hex(peek::field(BASE, w, BASE, lines::line_offset(k)), b"\n");
 }
 
 fn print_segments(w: &[u8]) {
@@ -48,7 +47,7 @@ fn print_segments(w: &[u8]) {
 
 // Prints segment i, if there is one, and answers whether.
 fn print_segment(w: &[u8], i: u32) -> bool {
-    let FoundSegment::Found(s) = segments::segment(BASE, w, BASE, i) else {
+    let FoundSegment::Found(s) = peek::segment(BASE, w, BASE, i) else {
         return false;
     };
     let kind = s.kind;

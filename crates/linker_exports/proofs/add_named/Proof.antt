@@ -7,14 +7,14 @@ use Rattle.linker_exports.proofs.add_named.Tie as tie
 entry-address-requires : tie.Need-entry-address-requires
 entry-address-requires c κs = search needs
 
-read32-requires : tie.Need-read32-requires
-read32-requires c κs = search needs
+word-requires : tie.Need-word-requires
+word-requires c κs = search needs
 
 wrapping-add-u32-requires : tie.Need-wrapping-add-u32-requires
 wrapping-add-u32-requires c κs = search needs
 
-read32-requires-2 : tie.Need-read32-requires-2
-read32-requires-2 c κs = search needs
+word-requires-2 : tie.Need-word-requires-2
+word-requires-2 c κs = search needs
 
 tag-to-address-requires : tie.Need-tag-to-address-requires
 tag-to-address-requires c κs = search needs
@@ -34,7 +34,7 @@ returns c =
     let b₈ = b₄ .before .before .before .before in
     let a = b₈ .before .before .args in
     λ h. passed-named (a .at) (a .w .now) (a .base) (a .i) (a .table) _ _ _ (a .before) (a .records .now) (a .names .now) _
-    (b₄ .before .before .entry-address .ensures) (b₄ .wrapping-add-u32 .ensures) (c .before .before .before .read322 .ensures)
+    (b₄ .before .before .entry-address .ensures) (b₄ .wrapping-add-u32 .ensures) (c .before .before .before .word2 .ensures)
     (c .before .before .tag-to-address .ensures) h (c .enum-told .given .1)
 
 same-length : tie.Need-same-length
@@ -52,8 +52,8 @@ returns-2 c =
     let b₁₆ = b₁₂ .before .before .before .before in
     let a = b₁₆ .before .before .args in
     λ h. added-named (a .at) (a .w .now) (a .base) (a .i) (a .table) _ _ _ (a .before) (a .records .now) (a .names .now) _
-    (b₁₂ .before .before .entry-address .ensures) (b₁₂ .wrapping-add-u32 .ensures) (b₈ .before .before .before .read322 .ensures)
-    (b₈ .before .before .tag-to-address .ensures) h _ _ _ _ _ (b₈ .address .given .1) small (b₁₂ .before .read32 .ensures)
+    (b₁₂ .before .before .entry-address .ensures) (b₁₂ .wrapping-add-u32 .ensures) (b₈ .before .before .before .word2 .ensures)
+    (b₈ .before .before .tag-to-address .ensures) h _ _ _ _ _ (b₈ .address .given .1) small (b₁₂ .before .word .ensures)
     (b₄ .put-named .ensures)
 
 pub add-named-spec : {M : Type 1} → statement M
@@ -61,9 +61,9 @@ add-named-spec =
     tie.close
     (tie.spec
     entry-address-requires
-    read32-requires
+    word-requires
     wrapping-add-u32-requires
-    read32-requires-2
+    word-requires-2
     tag-to-address-requires
     enum-told
     enum-known-address

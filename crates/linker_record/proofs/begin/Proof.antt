@@ -9,14 +9,14 @@ use Rattle.linker_record.proofs.begin.Tie as tie
 field-requires : tie.Need-field-requires
 field-requires c κs = search needs
 
-read-name-requires : tie.Need-read-name-requires
-read-name-requires c κs = search needs
+peek-name-requires : tie.Need-peek-name-requires
+peek-name-requires c κs = search needs
 
 array-share-prefix-buffer : tie.Need-array-share-prefix-buffer
-array-share-prefix-buffer c = name-fits _ _ (c .before .before .read-name .ensures)
+array-share-prefix-buffer c = name-fits _ _ (c .before .before .peek-name .ensures)
 
 slice-aggregate-begin-record : tie.Need-slice-aggregate-begin-record
-slice-aggregate-begin-record c = name-taken _ _ (c .before .before .before .read-name .ensures)
+slice-aggregate-begin-record c = name-taken _ _ (c .before .before .before .peek-name .ensures)
 
 begin-record-requires : tie.Need-begin-record-requires
 begin-record-requires c κs = search needs
@@ -34,14 +34,14 @@ returns c =
     let b₁₂ = b₈ .before .before .before .before in
     let a = b₁₂ .before .before .args in
     b₄ .begin-record .ensures ∙ ap (λ t. beginRecord (a .records .now) (a .names .now) (a .base) (a .size) (a .auto-link) t)
-    (name-is _ _ (b₈ .read-name .ensures) ∙ own-name (a .at) (a .w .now) (a .base) (b₈ .before .before .field .ensures))
+    (name-is _ _ (b₈ .peek-name .ensures) ∙ own-name (a .at) (a .w .now) (a .base) (b₈ .before .before .field .ensures))
 
 pub begin-spec : {M : Type 1} → statement M
 begin-spec =
     tie.close
     (tie.spec
     field-requires
-    read-name-requires
+    peek-name-requires
     array-share-prefix-buffer
     slice-aggregate-begin-record
     begin-record-requires

@@ -5,8 +5,8 @@ use Rattle.linker_record.proofs.Laws.{indexed-at}
 use Rattle.linker_record.proofs.indexed_address.Statement.{statement}
 use Rattle.linker_record.proofs.indexed_address.Tie as tie
 
-read32-requires : tie.Need-read32-requires
-read32-requires c κs = search needs
+word-requires : tie.Need-word-requires
+word-requires c κs = search needs
 
 tag-to-address-requires : tie.Need-tag-to-address-requires
 tag-to-address-requires c κs = search needs
@@ -21,7 +21,7 @@ returns : tie.Need-returns
 returns c =
     let b₄ = c .before .before .before .before in
     let a = b₄ .before .before .args in
-    ap addressOr0 (sym (c .before .address .given .1)) ∙ indexed-at (a .at) (a .w .now) (a .base) (a .entry) (b₄ .read32 .ensures)
+    ap addressOr0 (sym (c .before .address .given .1)) ∙ indexed-at (a .at) (a .w .now) (a .base) (a .entry) (b₄ .word .ensures)
     (c .before .before .before .tag-to-address .ensures)
 
 returns-2 : tie.Need-returns-2
@@ -29,13 +29,13 @@ returns-2 c =
     let b₄ = c .before .before .before .before in
     let a = b₄ .before .args in
     ap addressOr0 (sym (c .enum-told .given .1)) ∙ indexed-at (a .at) (a .w .now) (a .base) (a .entry)
-    (c .before .before .before .read32 .ensures) (c .before .before .tag-to-address .ensures)
+    (c .before .before .before .word .ensures) (c .before .before .tag-to-address .ensures)
 
 pub indexed-address-spec : {M : Type 1} → statement M
 indexed-address-spec =
     tie.close
     (tie.spec
-    read32-requires
+    word-requires
     tag-to-address-requires
     enum-known-address
     enum-told

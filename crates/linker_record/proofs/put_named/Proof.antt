@@ -4,14 +4,14 @@ use Rattle.linker_record.proofs.Laws.{put-kept}
 use Rattle.linker_record.proofs.put_named.Statement.{statement}
 use Rattle.linker_record.proofs.put_named.Tie as tie
 
-read-name-requires : tie.Need-read-name-requires
-read-name-requires c κs = search needs
+peek-name-requires : tie.Need-peek-name-requires
+peek-name-requires c κs = search needs
 
 array-share-prefix-buffer : tie.Need-array-share-prefix-buffer
-array-share-prefix-buffer c = name-fits _ _ (c .before .before .read-name .ensures)
+array-share-prefix-buffer c = name-fits _ _ (c .before .before .peek-name .ensures)
 
 slice-aggregate-put-export : tie.Need-slice-aggregate-put-export
-slice-aggregate-put-export c = name-taken _ _ (c .before .before .before .read-name .ensures)
+slice-aggregate-put-export c = name-taken _ _ (c .before .before .before .peek-name .ensures)
 
 put-export-requires : tie.Need-put-export-requires
 put-export-requires c κs = search needs
@@ -34,14 +34,14 @@ returns c =
     let b₂₀ = b₁₆ .before .before .before .before in
     let a = b₂₀ .args in
     put-kept (a .before) (a .records .now) (a .names .now) _ (a .address)
-    (name-is _ _ (b₁₂ .before .before .before .read-name .ensures)) (b₈ .before .before .before .put-export .ensures)
+    (name-is _ _ (b₁₂ .before .before .before .peek-name .ensures)) (b₈ .before .before .before .put-export .ensures)
     (b₄ .kept .ensures)
 
 pub put-named-spec : {M : Type 1} → statement M
 put-named-spec =
     tie.close
     (tie.spec
-    read-name-requires
+    peek-name-requires
     array-share-prefix-buffer
     slice-aggregate-put-export
     put-export-requires
