@@ -7,7 +7,9 @@ use native.Mathlib.Omega.{arith}
 use lib.ListN.{length, take}
 use lib.Dec.{eqb}
 use Rattle.window.specs.Memory.{if_then_else_}
-use Rattle.window.specs.Access.{ret, _>>=_, _>>_, run}
+use Rattle.window.specs.Access.{ret, _>>=_, _>>_}
+use Rattle.window.specs.Trace.{S, runT}
+use Rattle.window.specs.TraceRuns.{seq}
 use Rattle.register.specs.declared.words.Crs.{Crs}
 use Rattle.register.specs.declared.words.Crs.the-variants.{Unknown, Known}
 use Rattle.register.specs.declared.exports.Found.the-variants as found
@@ -21,21 +23,20 @@ use Rattle.linker.specs.Resets.{resetImporters}
 use Rattle.linker.specs.Lists.{unregister}
 use Rattle.linker.specs.Unrebase.{unrebase}
 use Rattle.linker.specs.Calls.{Answer, Done, unknown, stands, firstWithBase, unlisted, leave}
-use Rattle.linker_relocation.specs.Runs.{seq}
 use Rattle.linker_imports.specs.Modules.{modules-are}
 use Rattle.linker_resets.specs.Modules.{otherThan, gone-is}
 use Rattle.linker_calls.specs.Stored.{after-words, crs-is}
 use Rattle.linker_calls.specs.Linked.{headerCrs}
 
-pub unlisted-none : (at base : ℕ) (w : List ℕ) {c : Crs} → c ≡ Unknown → w ≡ run at (unlisted c base) w .1
-unfolding unlisted run
-unlisted-none at base w e = rw e
+pub unlisted-none : (at base : ℕ) (s : S) {c : Crs} → c ≡ Unknown → s ≡ runT at (unlisted c base) s .1
+unfolding unlisted runT
+unlisted-none at base s e = rw e
 
 pub unlisted-known
-    : (at base : ℕ) (w : List ℕ) {c : Crs} (crs : ℕ) {u : List ℕ} → c ≡ Known crs → u ≡ run at (unregister crs base) w .1
-    → u ≡ run at (unlisted c base) w .1
+    : (at base : ℕ) (s : S) {c : Crs} (crs : ℕ) {u : S} → c ≡ Known crs → u ≡ runT at (unregister crs base) s .1
+    → u ≡ runT at (unlisted c base) s .1
 unfolding unlisted
-unlisted-known at base w crs e h = rw e h
+unlisted-known at base s crs e h = rw e h
 
 -- a base that no record has
 pub no-first : (base p i : ℕ) (ms : List Module) → placeFrom p ms (hasBase base) ≡ found.Nothing → firstWithBase base ms i ≡ unknown
@@ -99,19 +100,19 @@ module _ (records names missing : List ℕ) (v : isRegister records names missin
   standing = record { missing = missing; number = number; holds = v; below = at-place .0; there = at-place .1 }
 
   pub left-is
-      : (at : ℕ) (w : List ℕ) {w₁ w₂ w₃ : List ℕ}
-      → w₁ ≡ run at (resetImporters (moduleAt records names place) (otherThan place 32 (modulesOf records names))) w .1
-      → w₂ ≡ run at (unlisted (headerCrs records) base) w₁ .1 → w₃ ≡ run at (unrebase base) w₂ .1
-      → _≡_ {A = Answer × List ℕ} (run at (leave r base (firstWithBase base (r .modules) 0)) w) (Done 1 (removed r number), w₃)
-  unfolding leave run
-  left-is at w {w₁} {w₂} {w₃} e₁ e₂ e₃ =
+      : (at : ℕ) (s : S) {s₁ s₂ s₃ : S}
+      → s₁ ≡ runT at (resetImporters (moduleAt records names place) (otherThan place 32 (modulesOf records names))) s .1
+      → s₂ ≡ runT at (unlisted (headerCrs records) base) s₁ .1 → s₃ ≡ runT at (unrebase base) s₂ .1
+      → _≡_ {A = Answer × S} (runT at (leave r base (firstWithBase base (r .modules) 0)) s) (Done 1 (removed r number), s₃)
+  unfolding leave runT
+  left-is at s {s₁} {s₂} {s₃} e₁ e₂ e₃ =
       let g : firstWithBase base (r .modules) 0 ≡ stands (moduleAt records names place) number = rw (modules-are records names missing) (gone .1 .0) in
       let h : otherThan place 32 (modulesOf records names) ≡ without (r .modules) number = rw (modules-are records names missing) (gone .1 .1) in
-      let h₁ : w₁ ≡ run at (resetImporters (moduleAt records names place) (without (r .modules) number)) w .1 =
-      e₁ ∙ ap (λ t. run at (resetImporters (moduleAt records names place) t) w .1) h in
-      let h₂ : w₂ ≡ run at (unlisted (r .crs) base) w₁ .1 =
-      e₂ ∙ ap (λ c. run at (unlisted c base) w₁ .1) (sym (crs-is records names missing)) in
-      ap (λ t. run at (leave r base t) w) g
-      ∙ sym (seq at (unrebase base) w₂ (ret (Done 1 (removed r number))) e₃
-      ∙ seq at (unlisted (r .crs) base) w₁ _ h₂
-      ∙ seq at (resetImporters (moduleAt records names place) (without (r .modules) number)) w _ h₁)
+      let h₁ : s₁ ≡ runT at (resetImporters (moduleAt records names place) (without (r .modules) number)) s .1 =
+      e₁ ∙ ap (λ t. runT at (resetImporters (moduleAt records names place) t) s .1) h in
+      let h₂ : s₂ ≡ runT at (unlisted (r .crs) base) s₁ .1 =
+      e₂ ∙ ap (λ c. runT at (unlisted c base) s₁ .1) (sym (crs-is records names missing)) in
+      ap (λ t. runT at (leave r base t) s) g
+      ∙ sym (seq at (unrebase base) s₂ (ret (Done 1 (removed r number))) e₃
+      ∙ seq at (unlisted (r .crs) base) s₁ _ h₂
+      ∙ seq at (resetImporters (moduleAt records names place) (without (r .modules) number)) s _ h₁)

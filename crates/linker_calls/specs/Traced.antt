@@ -15,6 +15,7 @@ use Rattle.linker.specs.Calls.{Answer, NoRoom, number}
 use Rattle.linker.specs.Outcome.{Bytes, Outcome, settle, outcome}
 use Rattle.linker.specs.Touches.{noTouch, touchIn, counted, touches}
 use Rattle.linker.specs.Refusals.{lentRegister, answers}
+use Rattle.linker_entry.specs.Entry.{tested}
 
 -- the call as its buffers' lengths and its register make it
 abbrev pub callOf : (ℕ → ℕ → Register → Prog Answer) → Bytes → Prog Answer
@@ -37,6 +38,21 @@ counted-ap f a x y = go (eqb (number a) (number NoRoom))
     go : (t : Bool) → f (if t then x else y) ≡ (if t then f x else f y)
     go true = refl
     go false = refl
+
+-- a call that its tests refuse makes no access
+pub refused-touches
+    : (call : ℕ → ℕ → Register → Prog Answer) (beginning : Prog (Unit {0})) (at : ℕ) (b : Bytes) {n : ℕ}
+    → n ≡ tested (goodWindow at (b .window)) (isRegister (b .records) (b .names) (b .missing)) → (n ≡ 0 → ⊥)
+    → _≡_ {A = ℕ × ℕ} (0, 0) (touches call beginning at b)
+unfolding touches tested
+refused-touches call beginning at b {n} e k = go (goodWindow at (b .window)) (isRegister (b .records) (b .names) (b .missing)) e
+  where
+    go
+        : (g v : Bool) → n ≡ tested g v
+        → _≡_ {A = ℕ × ℕ} (0, 0) (if g && v then counted (run at (callOf call b) (b .window) .0) (touchIn at beginning (b .window)) (touchIn at (callOf call b) (b .window)) else (0, 0))
+    go true true e = absurd (k e)
+    go true false e = refl
+    go false v e = refl
 
 -- an exported call that passes its tests lends a trace of which nothing is said
 module _ (call : ℕ → ℕ → Register → Prog Answer) (beginning : Prog (Unit {0})) (at : ℕ) (b : Bytes) (g : goodWindow at (b .window) ≡ true)
