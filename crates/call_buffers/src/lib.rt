@@ -12,6 +12,7 @@ pub enum Verdict {
     Same,
     Number,
     Value,
+    Touch,
     Window,
     Records,
     Names,

@@ -4,7 +4,7 @@ ghost use Prim.Native.Nat.{_/_, _≤_};
 ghost use lib.ListN.{length};
 ghost use Rattle.register.specs.Words.{wordsIn};
 ghost use Rattle.linker_calls.specs.Steps.{lent, left};
-ghost use Rattle.call_case.specs.Case.{called};
+ghost use Rattle.call_case.specs.Case.{called, touchedBy};
 use linker_calls::initialize;
 use linker_calls::load;
 use linker_calls::unload;
@@ -19,17 +19,33 @@ pub fn call(
     names: &mut [u8],
     missing: &mut [u8],
     value: &mut u32,
+    touched: &mut u32,
+    first: &mut u32,
 ) -> u32
     requires { ⌜ at ≤ length (now file) / 4 ⌝ }
     ensures { λ r. ⌜ left r (now (value .exit)) (lent (now (window .exit)) (now (records .exit)) (now (names .exit)) (now (missing .exit)))
         ≡ called (wordsIn (now (file .entry))) at
+        (lent (now (window .entry)) (now (records .entry)) (now (names .entry)) (now (missing .entry))) ⌝ }
+    ensures touches { λ _. ⌜ (now (touched .exit), now (first .exit))
+        ≡ touchedBy (wordsIn (now (file .entry))) at
         (lent (now (window .entry)) (now (records .entry)) (now (names .entry)) (now (missing .entry))) ⌝ }
 {
     let from = word(file, at + 2);
     let base = word(file, at + 7);
     let size = word(file, at + 8);
     match word(file, at + 1) {
-        1 => initialize(from, window, records, names, missing, base, size, value),
+        1 => initialize(
+            from,
+            window,
+            records,
+            names,
+            missing,
+            base,
+            size,
+            value,
+            touched,
+            first,
+        ),
         2 => load(
             from,
             window,
@@ -45,7 +61,19 @@ pub fn call(
             word(file, at + 13),
             word(file, at + 14),
             value,
+            touched,
+            first,
         ),
-        _ => unload(from, window, records, names, missing, base, value),
+        _ => unload(
+            from,
+            window,
+            records,
+            names,
+            missing,
+            base,
+            value,
+            touched,
+            first,
+        ),
     }
 }

@@ -1,7 +1,7 @@
 // Runs stored calls of the linker through its exported functions. Standard input is a file of whole words: the number of
 // cases, and the cases. A case is: its length in words, the call (1 initialize, 2 load, 3 unload), the window's address,
 // the lengths of window, records, names and missing list, the call's eight arguments (those it has not are 0), the number
-// and the value that it must give; then for each of the four buffers how many pieces stand in it before the call, how
+// and the value that it must give, its touch (1 or 0, and where it starts); then for each of the four buffers how many pieces stand in it before the call, how
 // many the call must change, and the pieces. tools/call_cases.py makes the file, and says why each case gives what it does.
 // Prints for each case `ok` or the first output that differs, and how many were ok.
 ghost use Prim.Native.Nat.{_/_, _≤_};
@@ -60,7 +60,7 @@ fn run_case(file: &[u8], at: usize) -> Verdict
     let mut records_after = [0u8; 8192];
     let mut names_after = [0u8; 8192];
     let mut missing_after = [0u8; 32900];
-    let Next::At(a) = lay(&mut window, &mut window_after, file, at + 17) else {
+    let Next::At(a) = lay(&mut window, &mut window_after, file, at + 19) else {
         return Verdict::Unreadable;
     };
     let Next::At(b) = lay(&mut records, &mut records_after, file, a) else {
@@ -86,7 +86,7 @@ fn run_case(file: &[u8], at: usize) -> Verdict
     )
 }
 
-// Makes the call and compares what it leaves; the value is 99 before.
+// Makes the call and compares what it leaves; value and touch are 99 before.
 fn judge(
     file: &[u8],
     at: usize,
@@ -102,12 +102,30 @@ fn judge(
     requires { ⌜ at ≤ length (now file) / 4 ⌝ }
 {
     let mut value: u32 = 99;
-    let number = call_lent(file, at, window, records, names, missing, &mut value);
+    let mut touched: u32 = 99;
+    let mut first: u32 = 99;
+    let number = call_lent(
+        file,
+        at,
+        window,
+        records,
+        names,
+        missing,
+        &mut value,
+        &mut touched,
+        &mut first,
+    );
     if number != word(file, at + 15) {
         return Verdict::Number;
     }
     if value != word(file, at + 16) {
         return Verdict::Value;
+    }
+    if touched != word(file, at + 17) {
+        return Verdict::Touch;
+    }
+    if first != word(file, at + 18) {
+        return Verdict::Touch;
     }
     compare(
         window,
@@ -130,6 +148,8 @@ fn call_lent(
     names: &mut [u8],
     missing: &mut [u8],
     value: &mut u32,
+    touched: &mut u32,
+    first: &mut u32,
 ) -> u32
     requires { ⌜ at ≤ length (now file) / 4 ⌝ }
 {
@@ -157,6 +177,8 @@ fn call_lent(
         &mut names[..n],
         &mut missing[..m],
         value,
+        touched,
+        first,
     )
 }
 
@@ -167,6 +189,7 @@ fn print_verdict(k: u32, verdict: Verdict) {
         Verdict::Same => io::write_all(1, b" ok\n"),
         Verdict::Number => io::write_all(1, b" number differs\n"),
         Verdict::Value => io::write_all(1, b" value differs\n"),
+        Verdict::Touch => io::write_all(1, b" touch differs\n"),
         Verdict::Window => io::write_all(1, b" window differs\n"),
         Verdict::Records => io::write_all(1, b" records differ\n"),
         Verdict::Names => io::write_all(1, b" names differ\n"),

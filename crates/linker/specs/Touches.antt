@@ -10,6 +10,8 @@ use Rattle.window.specs.Access.{Prog, ret, _>>=_, run}
 use Rattle.window.specs.Trace.{runT, touchOf}
 use Rattle.register.specs.Module.{Register}
 use Rattle.register.specs.Decode.{registerOf, isRegister}
+use Rattle.linker.specs.declared.call.Call.{Call}
+use Rattle.linker.specs.declared.call.Call.the-variants.{Initialize, Load, Unload}
 use Rattle.linker.specs.declared.rebase.Lent.{Lent}
 use Rattle.linker.specs.declared.rebase.Rebased.{Rebased}
 use Rattle.linker.specs.Relocation.{resetExternalRelocations}
@@ -54,3 +56,9 @@ loadTouches l auto level at b = touches (load l (not (eqb auto 0)) level) (upToR
 -- an unload is never 5: its beginning does not count
 unfoldable pub unloadTouches : ℕ → ℕ → Bytes → ℕ × ℕ
 unloadTouches base at b = touches (λ records names. unload base) (ret tt) at b
+
+-- of any of the three
+unfoldable pub touchesOf : Call → ℕ → Bytes → ℕ × ℕ
+touchesOf (Initialize base size) at b = initializeTouches base size at b
+touchesOf (Load l auto level) at b = loadTouches l auto level at b
+touchesOf (Unload base) at b = unloadTouches base at b

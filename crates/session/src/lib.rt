@@ -37,8 +37,19 @@ fn run_step(
     ensures { λ r. ⌜ Ran step at (lent (now (window .entry)) (now (records .entry)) (now (names .entry)) (now (missing .entry)))
         (left (r .number) (r .value) (lent (now (window .exit)) (now (records .exit)) (now (names .exit)) (now (missing .exit)))) ⌝ }
 {
+    let mut touched: u32 = 0;
+    let mut first: u32 = 0;
     match step {
-        Step::Call(call) => make_call(call, at, window, records, names, missing),
+        Step::Call(call) => make_call(
+            call,
+            at,
+            window,
+            records,
+            names,
+            missing,
+            &mut touched,
+            &mut first,
+        ),
         Step::Bad => Answered {
             number: 0,
             value: 0,

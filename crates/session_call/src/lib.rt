@@ -1,4 +1,6 @@
 // A call of a session: any of the three exported calls, by value, with demand 3 in its contract.
+ghost use mathlib.Core.Path.{_≡_};
+ghost use Rattle.linker.specs.Touches.{touchesOf};
 ghost use Rattle.linker_calls.specs.Steps.{lent, left};
 ghost use Rattle.session_call.specs.Continues.{turn, Continues};
 use linker::call::Call;
@@ -21,15 +23,30 @@ pub fn make_call(
     records: &mut [u8],
     names: &mut [u8],
     missing: &mut [u8],
+    touched: &mut u32,
+    first: &mut u32,
 ) -> Answered
     ensures { λ r. ⌜ Continues (turn call at
         (lent (now (window .entry)) (now (records .entry)) (now (names .entry)) (now (missing .entry)))
         (left (r .number) (r .value) (lent (now (window .exit)) (now (records .exit)) (now (names .exit)) (now (missing .exit))))) ⌝ }
+    ensures touches { λ _. ⌜ (now (touched .exit), now (first .exit))
+        ≡ touchesOf call at (lent (now (window .entry)) (now (records .entry)) (now (names .entry)) (now (missing .entry))) ⌝ }
 {
     let mut value: u32 = 0;
     let number = match call {
         Call::Initialize(base, size) => {
-            initialize(at, window, records, names, missing, base, size, &mut value)
+            initialize(
+                at,
+                window,
+                records,
+                names,
+                missing,
+                base,
+                size,
+                &mut value,
+                touched,
+                first,
+            )
         }
         Call::Load(l, auto_link, level) => load(
             at,
@@ -46,8 +63,20 @@ pub fn make_call(
             auto_link,
             level,
             &mut value,
+            touched,
+            first,
         ),
-        Call::Unload(base) => unload(at, window, records, names, missing, base, &mut value),
+        Call::Unload(base) => unload(
+            at,
+            window,
+            records,
+            names,
+            missing,
+            base,
+            &mut value,
+            touched,
+            first,
+        ),
     };
     Answered { number, value }
 }

@@ -56,8 +56,7 @@ loop-again c =
     let p12 = p9 .before .before .before in
     let p17 = p12 .before .before .before .before .before in
     let p22 = p17 .before .before .before .before .before in
-    let a = p22 .args in
-    (
+    let a = p22 .args in (
       omega arith,
       p4 .apply-internal-relocation .kept .1 .0 ∙ p9 .loop .inv .1,
       step-made (a .at) (applyInternalRelocation (a .base) (a .old)) (λ i. entryAt (p17 .field .result) i relocationEntrySize)

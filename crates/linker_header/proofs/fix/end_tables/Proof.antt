@@ -55,8 +55,7 @@ loop-again c =
     let p8 = p7 .before in
     let p9 = p8 .before in
     let p12 = p9 .before .before .before in
-    let a = p12 .args in
-    (
+    let a = p12 .args in (
       omega arith,
       p4 .set-field .kept .1 .0 ∙ p8 .loop .inv .1,
       step-made (a .at) (λ x. setField (a .base) x (a .end)) (λ i. a .barrier + 8 * i) (p8 .loop .i) (p9 .saturating-sub .result / 8)

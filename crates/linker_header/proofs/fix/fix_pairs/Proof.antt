@@ -39,8 +39,7 @@ loop-again c =
     let p7 = p4 .before .before .before in
     let p8 = p7 .before in
     let p11 = p8 .before .before .before in
-    let a = p11 .args in
-    (
+    let a = p11 .args in (
       omega arith,
       p4 .fix-pair .kept .1 .0 ∙ p8 .loop .inv .1,
       turn-made (a .at) (fixPair (a .base) (a .barrier)) (p8 .loop .i) 15 (p8 .loop .last) (p8 .loop .w, p8 .loop .trace) (p8 .loop .inv .2) (p7 .loop-test .taken)

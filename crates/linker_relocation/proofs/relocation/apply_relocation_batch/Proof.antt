@@ -42,8 +42,7 @@ loop-again c =
     let p7 = p2 .before .before .before .before .before in
     let p10 = p7 .before .before .before in
     let p13 = p10 .before .before .before in
-    let a = p13 .args in
-    (
+    let a = p13 .args in (
       omega arith,
       p7 .walk-entry .kept .1 .0 ∙ p10 .loop .inv .1,
       walk-on (a .at) (a .base) (a .symbol) (p10 .loop .entry) (p10 .loop .w, p10 .loop .trace) 0x1001 (p10 .loop .walked) (p10 .loop .inv .0)

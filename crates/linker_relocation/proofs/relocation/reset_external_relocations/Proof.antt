@@ -59,8 +59,7 @@ loop-again c =
     let p17 = p12 .before .before .before .before .before in
     let p22 = p17 .before .before .before .before .before in
     let p27 = p22 .before .before .before .before .before in
-    let a = p27 .args in
-    (
+    let a = p27 .args in (
       omega arith,
       p4 .reset-entry .kept .1 .0 ∙ p9 .loop .inv .1,
       step-made (a .at) (resetEntry (a .base) (p22 .unresolved-symbol .result)) (λ i. entryAt (p17 .field .result) i relocationEntrySize)
