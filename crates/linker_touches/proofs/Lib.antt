@@ -1,0 +1,2 @@
+-- What the proofs of `linker_touches` share.
+pub mod Laws
