@@ -5,10 +5,14 @@ use mathlib.Core.List.{List}
 use mathlib.Core.Option.{some}
 use mathlib.Core.Bool.{Bool, true, false, not}
 use native.Mathlib.Omega.{arith}
+use lib.ListN.{take}
 use borrow.Author.Tests.{eq-eqb, ne-eqb}
-use Rattle.window.specs.Memory.{if_then_else_, _⊕_, wordAt}
-use Rattle.window.specs.Access.{ret, _>>=_, run, run-bind}
+use Rattle.window.specs.Memory.{if_then_else_, _⊕_}
+use Rattle.window.specs.Access.{ret, _>>=_, get32}
+use Rattle.window.specs.Trace.{S, runT}
+use Rattle.window.specs.TraceRuns.{given, gives, then-it, two, on-true, on-false}
 use Rattle.window.specs.Loop.{loop}
+use Rattle.name.specs.Name.{nameAt, laidOver, name-is}
 use Rattle.layout.specs.Header.{importIndexedSymbolEntrySize}
 use Rattle.layout.specs.Format.{tagSegment, tagOffset}
 use Rattle.layout.specs.Segments.{entryAt}
@@ -17,29 +21,35 @@ use Rattle.register_read.specs.Read.{entryOf}
 use Rattle.register_read.specs.declared.Symbol.{Symbol}
 use Rattle.register_read.specs.declared.Symbol.the-variants.{At, Nothing}
 use Rattle.linker.specs.Relocation.{batchIsResolved}
-use Rattle.linker.specs.Imports.{anonymousOf, isUnresolved, resolve, importFrom, linkFrom, importsOf}
-use Rattle.linker_relocation.specs.Runs.{after-reads}
-use Rattle.linker_sources.specs.Source.{symbolOf, importTable}
+use Rattle.linker.specs.Imports.{anonymousOf, isUnresolved, resolve, importFrom, linkFrom}
+use Rattle.linker_sources.specs.Source.{symbolOf, importTable, tablesOf, linkTables}
 use Rattle.linker_sources.specs.declared.source.ImportTable.{ImportTable}
 use Rattle.linker_sources.specs.declared.source.ImportTable.the-variants.{Indexed, Anonymous}
-use Rattle.linker_sources.specs.Laws.{waiting-reads}
+use Rattle.linker_sources.specs.declared.source.ModuleTables.{ModuleTables}
+
+-- what is made of a name's bytes in a buffer is made of the name
+pub name-made
+    : {A : Type 0} (f : List ℕ → A) (at address : ℕ) (s : S) (old : List ℕ) {r : A} {n : ℕ} {buffer : List ℕ} → r ≡ f (take n buffer)
+    → (n, buffer) ≡ laidOver (runT at (nameAt address) s .0) old → r ≡ f (runT at (nameAt address) s .0)
+name-made f at address s old h e = h ∙ ap f (name-is (runT at (nameAt address) s .0) old e)
 
 -- a batch that waits
 
-module _ (at batch : ℕ) (w : List ℕ) where
-  pub no-batch : batch ≡ 0 → false ≡ run at (isUnresolved batch) w .0
-  unfolding isUnresolved run
-  no-batch e = rw (eq-eqb batch 0 e, run)
+turned : (b : Bool) → not b ≡ (if b then false else true)
+turned true = refl
+turned false = refl
 
-  turned : (b : Bool) → not b ≡ (if b then false else true)
-  turned true = refl
-  turned false = refl
+module _ (at batch : ℕ) (s : S) where
+  pub no-batch : batch ≡ 0 → (false, s) ≡ runT at (isUnresolved batch) s
+  unfolding isUnresolved
+  no-batch e = on-true at s (ret false) _ (eq-eqb batch 0 e) (given at false s)
 
-  pub batch-waits : {r : Bool} → (batch ≡ 0 → ⊥) → r ≡ run at (batchIsResolved batch) w .0 → not r ≡ run at (isUnresolved batch) w .0
-  unfolding isUnresolved run
-  batch-waits n e =
-      rw (ne-eqb batch 0 n, e)
-      (sym (ap (λ (x : Bool × List ℕ). x .0) (run-bind at (batchIsResolved batch) _ w) ∙ sym (turned (run at (batchIsResolved batch) w .0))))
+  pub batch-waits : {r : Bool} {u : S} → (batch ≡ 0 → ⊥) → (r, u) ≡ runT at (batchIsResolved batch) s → (not r, u) ≡ runT at (isUnresolved batch) s
+  unfolding isUnresolved
+  batch-waits {r} {u} n e =
+      on-false at s (ret false) _ (ne-eqb batch 0 n)
+      (ap (λ b. (b, u)) (turned r) ∙ given at (if r then false else true) u
+      ∙ gives at (batchIsResolved batch) s (λ b. ret (if b then false else true)) e)
 
 -- imports by index and by tag
 
@@ -62,40 +72,58 @@ pub symbol-anonymous : (m : Module) (x : ℕ) {k : ImportTable} {s : Symbol} →
 unfolding symbolOf
 symbol-anonymous m x e f = rw (e, symbolOf) f
 
-module _ (at base entry : ℕ) (w : List ℕ) (symbol : ℕ → Symbol) {x batch y : ℕ} {t : Bool} (ex : x ≡ wordAt at w entry) (ey : y ≡ entry ⊕ 4)
-    (eb : batch ≡ wordAt at w y) (et : t ≡ run at (isUnresolved batch) w .0) where
-  from-is : run at (importFrom symbol base entry) w ≡ run at (if t then resolve base batch (symbol x) else ret tt) w
-  unfolding importFrom run _>>=_
-  from-is =
-      let b = wordAt at w (entry ⊕ 4) in
-      rw (et, eb, ey, ex) (after-reads at (isUnresolved b) _ w (waiting-reads b))
+-- a word read at a sum that the code made first
+read-there : (at : ℕ) (s : S) {p q : ℕ} {r : ℕ × S} → p ≡ q → r ≡ runT at (get32 p) s → r ≡ runT at (get32 q) s
+read-there at s e h = h ∙ ap (λ p. runT at (get32 p) s) e
+
+module _ (at base entry : ℕ) (symbol : ℕ → Symbol) (s : S) {x batch y : ℕ} {t : Bool} {s₁ s₂ s₃ : S} (h₁ : (x, s₁) ≡ runT at (get32 entry) s)
+    (ey : y ≡ entry ⊕ 4) (h₂ : (batch, s₂) ≡ runT at (get32 y) s₁) (h₃ : (t, s₃) ≡ runT at (isUnresolved batch) s₂) where
+  from-is : {v : S} → v ≡ runT at (if t then resolve base batch (symbol x) else ret tt) s₃ .1 → v ≡ runT at (importFrom symbol base entry) s .1
+  unfolding importFrom
+  from-is h =
+      then-it at (get32 entry) s _ h₁
+      (then-it at (get32 (entry ⊕ 4)) s₁ _ (read-there at s₁ ey h₂)
+      (then-it at (isUnresolved batch) s₂ (λ t. if t then resolve base batch (symbol x) else ret tt) h₃ h))
 
   pub from-waits
-      : {s : Symbol} {v : List ℕ} → t ≡ true → s ≡ symbol x → v ≡ run at (resolve base batch s) w .1
-      → v ≡ run at (importFrom symbol base entry) w .1
-  from-waits e f h = rw (from-is, e, ← f) h
+      : {z : Symbol} {v : S} → t ≡ true → z ≡ symbol x → v ≡ runT at (resolve base batch z) s₃ .1
+      → v ≡ runT at (importFrom symbol base entry) s .1
+  from-waits e f h = from-is (rw (e, ← f) h)
 
-  pub from-passed : t ≡ false → w ≡ run at (importFrom symbol base entry) w .1
-  unfolding run
-  from-passed e = rw (from-is, e, run)
+  pub from-passed : t ≡ false → s₃ ≡ runT at (importFrom symbol base entry) s .1
+  unfolding runT
+  from-passed e = from-is (rw (e, runT))
+
+-- the imports of a table
 
 pub table-starts
-    : (at base table count : ℕ) (k : ImportTable) (m : Module) (w : List ℕ)
-    → run at (loop (λ i _. importFrom (symbolOf k m) base (entryAt table i importIndexedSymbolEntrySize)) 0 (count - 0) tt) w
-    ≡ run at (importTable k m base table count) w
+    : (at base table count : ℕ) (k : ImportTable) (m : Module) (s : S)
+    → runT at (loop (λ i _. importFrom (symbolOf k m) base (entryAt table i importIndexedSymbolEntrySize)) 0 (count - 0) tt) s
+    ≡ runT at (importTable k m base table count) s
 unfolding importTable
-table-starts at base table count k m w = let z : count - 0 ≡ count = omega arith in rw z
+table-starts at base table count k m s = let z : count - 0 ≡ count = omega arith in rw z
+
+-- a module entry's four words, and its two tables
+
+pub tables-read
+    : (at entry : ℕ) (s : S) {x₁ x₂ x₃ x₄ indexed n anonymous m : ℕ} {s₁ s₂ s₃ s₄ : S} → x₁ ≡ entry ⊕ 4 → (indexed, s₁) ≡ runT at (get32 x₁) s
+    → x₂ ≡ entry ⊕ 8 → (n, s₂) ≡ runT at (get32 x₂) s₁ → x₃ ≡ entry ⊕ 12 → (anonymous, s₃) ≡ runT at (get32 x₃) s₂ → x₄ ≡ entry ⊕ 16
+    → (m, s₄) ≡ runT at (get32 x₄) s₃
+    → (record { «indexed_table» = indexed; «indexed_count» = n; «anonymous_table» = anonymous; «anonymous_count» = m }, s₄) ≡ runT at (tablesOf entry) s
+unfolding tablesOf
+tables-read at entry s {indexed = indexed} {n} {anonymous} {m} {s₁} {s₂} {s₃} {s₄} p₁ h₁ p₂ h₂ p₃ h₃ p₄ h₄ =
+    given at (record { «indexed_table» = indexed; «indexed_count» = n; «anonymous_table» = anonymous; «anonymous_count» = m }) s₄
+    ∙ gives at (get32 (entry ⊕ 16)) s₃ _ (read-there at s₃ p₄ h₄)
+    ∙ gives at (get32 (entry ⊕ 12)) s₂ _ (read-there at s₂ p₃ h₃)
+    ∙ gives at (get32 (entry ⊕ 8)) s₁ _ (read-there at s₁ p₂ h₂)
+    ∙ gives at (get32 (entry ⊕ 4)) s _ (read-there at s p₁ h₁)
 
 pub tables-made
-    : (at base entry : ℕ) (m : Module) (w : List ℕ) {x₁ x₂ x₃ x₄ indexed n anonymous k : ℕ} {u v : List ℕ} → x₁ ≡ entry ⊕ 4 → indexed ≡ wordAt at w x₁
-    → x₂ ≡ entry ⊕ 8 → n ≡ wordAt at w x₂ → x₃ ≡ entry ⊕ 12 → anonymous ≡ wordAt at w x₃ → x₄ ≡ entry ⊕ 16 → k ≡ wordAt at w x₄
-    → u ≡ run at (importTable Indexed m base indexed n) w .1 → v ≡ run at (importTable Anonymous m base anonymous k) u .1
-    → v ≡ run at (importsOf (some m) base entry) w .1
-unfolding importsOf linkFrom importTable symbolOf run _>>=_
-tables-made at base entry m w p₁ e₁ p₂ e₂ p₃ e₃ p₄ e₄ h g =
-    let n = wordAt at w (entry ⊕ 8) in
-    let indexed = wordAt at w (entry ⊕ 4) in
-    g
-    ∙ rw (h, e₁, p₁, e₂, p₂, e₃, p₃, e₄, p₄)
-    (sym (ap (λ (x : Unit {0} × List ℕ). x .1)
-    (run-bind at (loop (λ i _. importFrom (entryOf (m .indexed)) base (entryAt indexed i importIndexedSymbolEntrySize)) 0 n tt) _ w)))
+    : (at base : ℕ) (source : Module) (t : ModuleTables) (s : S) {u v : S}
+    → u ≡ runT at (importTable Indexed source base (t .«indexed_table») (t .«indexed_count»)) s .1
+    → v ≡ runT at (importTable Anonymous source base (t .«anonymous_table») (t .«anonymous_count»)) u .1
+    → v ≡ runT at (linkTables (some source) base t) s .1
+unfolding linkFrom importTable symbolOf
+tables-made at base source t s h g =
+    two at (importTable Indexed source base (t .«indexed_table») (t .«indexed_count»)) s
+    (importTable Anonymous source base (t .«anonymous_table») (t .«anonymous_count»)) h g

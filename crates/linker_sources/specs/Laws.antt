@@ -1,31 +1,39 @@
--- A batch with or without its symbol.
+-- A batch with or without its symbol, and a module entry's imports once its words are read.
 use Prim.Native.Nat.{ℕ}
-use mathlib.Core.Path.{_≡_, sym, ap, _∙_}
-use mathlib.Core.List.{List}
+use mathlib.Core.Path.{_≡_, ap, _∙_}
 use mathlib.Core.Bool.{true}
-use lib.Dec.{eqb}
-use Rattle.window.specs.Access.{_>>=_, run, run-bind, Reads}
-use Rattle.layout.specs.Segments.{reads-if}
+use mathlib.Core.Option.{Option}
+use Rattle.window.specs.Access.{Prog, ret, _>>=_}
+use Rattle.window.specs.Trace.{S, runT}
+use Rattle.window.specs.TraceRuns.{left, gives, then-it}
+use Rattle.register.specs.Module.{Module}
 use Rattle.register_read.specs.declared.Symbol.{Symbol}
 use Rattle.register_read.specs.declared.Symbol.the-variants.{At, Nothing}
-use Rattle.linker.specs.Relocation.{applyRelocationBatch, batchIsResolved}
-use Rattle.linker.specs.Imports.{isUnresolved, resolve}
+use Rattle.linker.specs.Relocation.{applyRelocationBatch}
+use Rattle.linker.specs.Imports.{resolve, linkFrom, importsOf}
+use Rattle.linker_sources.specs.Source.{tablesOf, linkTables}
+use Rattle.linker_sources.specs.declared.source.ModuleTables.{ModuleTables}
+
+-- what a program gives beside the state that it leaves
+pub paired : {A : Type 0} (at : ℕ) (m : Prog A) (s : S) {u : S} → u ≡ runT at m s .1 → (runT at m s .0, u) ≡ runT at m s
+paired at m s e = ap (λ u. (runT at m s .0, u)) e
 
 -- a symbol for a batch
 
-module _ (at base batch : ℕ) (w : List ℕ) where
-  pub unresolved-stays : {s : Symbol} → s ≡ Nothing → w ≡ run at (resolve base batch s) w .1
-  unfolding resolve run
-  unresolved-stays e = rw (e, resolve, run)
+module _ (at base batch : ℕ) (s : S) {symbol : Symbol} where
+  pub unresolved-stays : symbol ≡ Nothing → s ≡ runT at (resolve base batch symbol) s .1
+  unfolding resolve runT
+  unresolved-stays e = rw (e, resolve, runT)
 
   pub resolved-by
-      : {s : Symbol} {a n : ℕ} {v : List ℕ} → s ≡ At a → (n, v) ≡ run at (applyRelocationBatch base batch a true) w
-      → v ≡ run at (resolve base batch s) w .1
-  unfolding resolve run
-  resolved-by {a = a} e h =
-      ap (λ (x : ℕ × List ℕ). x .1) h
-      ∙ rw (e, resolve) (sym (ap (λ (x : Unit {0} × List ℕ). x .1) (run-bind at (applyRelocationBatch base batch a true) _ w)))
+      : {a n : ℕ} {v : S} → symbol ≡ At a → (n, v) ≡ runT at (applyRelocationBatch base batch a true) s
+      → v ≡ runT at (resolve base batch symbol) s .1
+  unfolding resolve runT
+  resolved-by {a = a} {v = v} e h = rw (e, resolve) (ap left (gives at (applyRelocationBatch base batch a true) s (λ _. ret tt) h))
 
-pub waiting-reads : (batch : ℕ) → Reads (isUnresolved batch)
-unfolding isUnresolved batchIsResolved Reads _>>=_
-waiting-reads batch = reads-if (eqb batch 0) _ _ tt (λ m. tt)
+-- both tables of a module entry
+pub tables-linked
+    : (at base entry : ℕ) (source : Option Module) (s : S) {tables : ModuleTables} {u v : S} → (tables, u) ≡ runT at (tablesOf entry) s
+    → v ≡ runT at (linkTables source base tables) u .1 → v ≡ runT at (importsOf source base entry) s .1
+unfolding importsOf tablesOf _>>=_
+tables-linked at base entry source s h g = then-it at (tablesOf entry) s (linkTables source base) h g

@@ -21,8 +21,9 @@ pub fn module_by_name(
     address: u32,
 ) -> Found
     requires { ⌜ Encoded (now records) (now names) ⌝ }
-    ensures { λ r. ⌜ r ≡ placeFrom 32 (modulesOf (now (records .entry)) (now (names .entry)))
-        (hasName (run at (nameAt address) (now (w .entry)) .0)) ⌝ }
+    ensures { λ r. ⌜ (r ≡ placeFrom 32 (modulesOf (now (records .entry)) (now (names .entry)))
+        (hasName (runT at (nameAt address) (now (w .entry), now (trace .entry)) .0)))
+        × ((now (w .entry), now (trace .exit)) ≡ runT at (nameAt address) (now (w .entry), now (trace .entry)) .1) ⌝ }
 {
     let mut buffer = [0u8; 512];
     let n = read_name(at, w, trace, address, &mut buffer);
@@ -39,7 +40,8 @@ pub fn export_of(
     place: usize,
     address: u32,
 ) -> Symbol
-    ensures { λ r. ⌜ r ≡ exportOf (moduleAt (now (records .entry)) (now (names .entry)) place) (run at (nameAt address) (now (w .entry)) .0) ⌝ }
+    ensures { λ r. ⌜ (r ≡ exportOf (moduleAt (now (records .entry)) (now (names .entry)) place) (runT at (nameAt address) (now (w .entry), now (trace .entry)) .0))
+        × ((now (w .entry), now (trace .exit)) ≡ runT at (nameAt address) (now (w .entry), now (trace .entry)) .1) ⌝ }
 {
     let mut buffer = [0u8; 512];
     let n = read_name(at, w, trace, address, &mut buffer);
@@ -48,7 +50,8 @@ pub fn export_of(
 
 // Whether the name at `address` is that one.
 pub fn is_name(at: u32, w: &[u8], trace: &mut [u8], address: u32, name: &[u8]) -> bool
-    ensures { λ r. ⌜ r ≡ same (run at (nameAt address) (now (w .entry)) .0) (now (name .entry)) ⌝ }
+    ensures { λ r. ⌜ (r ≡ same (runT at (nameAt address) (now (w .entry), now (trace .entry)) .0) (now (name .entry)))
+        × ((now (w .entry), now (trace .exit)) ≡ runT at (nameAt address) (now (w .entry), now (trace .entry)) .1) ⌝ }
 {
     let mut buffer = [0u8; 512];
     let n = read_name(at, w, trace, address, &mut buffer);

@@ -5,8 +5,8 @@ ghost use mathlib.Core.Option.{some};
 ghost use Prim.Native.Nat.{ℕ};
 ghost use Rattle.window.specs.Trace.{runT};
 ghost use Rattle.register_read.specs.Read.{moduleAt};
-ghost use Rattle.linker.specs.Imports.{anonymousOf, importFrom, importsOf};
-ghost use Rattle.linker_sources.specs.Source.{symbolOf, importTable};
+ghost use Rattle.linker.specs.Imports.{anonymousOf, importFrom};
+ghost use Rattle.linker_sources.specs.Source.{symbolOf, importTable, tablesOf, linkTables};
 use super::batch::is_unresolved;
 use super::batch::resolve;
 use layout::fields::entry_address;
@@ -20,6 +20,14 @@ use register_read::segment_address;
 pub enum ImportTable {
     Indexed,
     Anonymous,
+}
+
+// What a module entry says of them.
+pub struct ModuleTables {
+    pub indexed_table: u32,
+    pub indexed_count: u32,
+    pub anonymous_table: u32,
+    pub anonymous_count: u32,
 }
 
 // An anonymous export: the segment's address and the offset, the segment's size untested.
@@ -53,8 +61,8 @@ fn import_from(
     base: u32,
     entry: u32,
 )
-    ensures { λ _. ⌜ ((names : List ℕ) → now (w .exit)
-        ≡ run at (importFrom (symbolOf kind (moduleAt (now (records .entry)) names place)) base entry) (now (w .entry)) .1) ⌝ }
+    ensures { λ _. ⌜ ((names : List ℕ) → (now (w .exit), now (trace .exit))
+        ≡ runT at (importFrom (symbolOf kind (moduleAt (now (records .entry)) names place)) base entry) (now (w .entry), now (trace .entry)) .1) ⌝ }
 {
     let number = window::read32(at, w, trace, entry);
     let batch = window::read32(at, w, trace, std::num::wrapping_add_u32(entry, 4));
@@ -82,8 +90,8 @@ fn import_table(
     table: u32,
     count: u32,
 )
-    ensures { λ _. ⌜ ((names : List ℕ) → now (w .exit)
-        ≡ run at (importTable kind (moduleAt (now (records .entry)) names place) base table count) (now (w .entry)) .1) ⌝ }
+    ensures { λ _. ⌜ ((names : List ℕ) → (now (w .exit), now (trace .exit))
+        ≡ runT at (importTable kind (moduleAt (now (records .entry)) names place) base table count) (now (w .entry), now (trace .entry)) .1) ⌝ }
 {
     for index in 0..count {
         let entry = entry_address(table, index, IMPORT_INDEXED_SYMBOL_ENTRY_SIZE);
@@ -91,23 +99,35 @@ fn import_table(
     }
 }
 
-// The imports of a module entry, from the module whose record begins at the place.
-pub fn imports_of(
+// Where the two tables of the module entry at `entry` are, and how many imports each has.
+pub fn tables_of(at: u32, w: &[u8], trace: &mut [u8], entry: u32) -> ModuleTables
+    ensures { λ r. ⌜ (r, (now (w .entry), now (trace .exit))) ≡ runT at (tablesOf entry) (now (w .entry), now (trace .entry)) ⌝ }
+{
+    let indexed_table = window::read32(at, w, trace, std::num::wrapping_add_u32(entry, 4));
+    let indexed_count = window::read32(at, w, trace, std::num::wrapping_add_u32(entry, 8));
+    let anonymous_table = window::read32(at, w, trace, std::num::wrapping_add_u32(entry, 12));
+    let anonymous_count = window::read32(at, w, trace, std::num::wrapping_add_u32(entry, 16));
+    ModuleTables {
+        indexed_table,
+        indexed_count,
+        anonymous_table,
+        anonymous_count,
+    }
+}
+
+// The imports of both tables, from the module whose record begins at the place.
+pub fn link_from(
     at: u32,
     w: &mut [u8],
     trace: &mut [u8],
     records: &[u8],
     place: usize,
     base: u32,
-    entry: u32,
+    tables: ModuleTables,
 )
-    ensures { λ _. ⌜ ((names : List ℕ) → now (w .exit)
-        ≡ run at (importsOf (some (moduleAt (now (records .entry)) names place)) base entry) (now (w .entry)) .1) ⌝ }
+    ensures { λ _. ⌜ ((names : List ℕ) → (now (w .exit), now (trace .exit))
+        ≡ runT at (linkTables (some (moduleAt (now (records .entry)) names place)) base tables) (now (w .entry), now (trace .entry)) .1) ⌝ }
 {
-    let indexed = window::read32(at, w, trace, std::num::wrapping_add_u32(entry, 4));
-    let indexed_count = window::read32(at, w, trace, std::num::wrapping_add_u32(entry, 8));
-    let anonymous = window::read32(at, w, trace, std::num::wrapping_add_u32(entry, 12));
-    let anonymous_count = window::read32(at, w, trace, std::num::wrapping_add_u32(entry, 16));
     import_table(
         at,
         w,
@@ -116,8 +136,8 @@ pub fn imports_of(
         place,
         ImportTable::Indexed,
         base,
-        indexed,
-        indexed_count,
+        tables.indexed_table,
+        tables.indexed_count,
     );
     import_table(
         at,
@@ -127,7 +147,7 @@ pub fn imports_of(
         place,
         ImportTable::Anonymous,
         base,
-        anonymous,
-        anonymous_count,
+        tables.anonymous_table,
+        tables.anonymous_count,
     );
 }

@@ -11,8 +11,9 @@ enum-told c = search needs
 
 returns : tie.Need-returns
 returns c =
-    let a = c .before .before .before .args in
-    unresolved-stays (a .at) (a .base) (a .batch) (a .w .now) (c .enum-told .given .1)
+    let p4 = c .before .before .before .before in
+    let a = p4 .args in
+    unresolved-stays (a .at) (a .base) (a .batch) (a .w .now, a .trace .now) (c .enum-told .given .1)
 
 apply-relocation-batch-requires : tie.Need-apply-relocation-batch-requires
 apply-relocation-batch-requires c κs = search needs
@@ -20,12 +21,16 @@ apply-relocation-batch-requires c κs = search needs
 same-length : tie.Need-same-length
 same-length c = search needs
 
+same-length-2 : tie.Need-same-length-2
+same-length-2 c = search needs
+
 returns-2 : tie.Need-returns-2
 returns-2 c =
-    let p2 = c .before .before in
-    let p5 = p2 .before .before .before in
-    let a = p5 .before .before .before .args in
-    resolved-by (a .at) (a .base) (a .batch) (a .w .now) (p5 .symbol .given .1) (p2 .apply-relocation-batch .ensures)
+    let p4 = c .before .before .before .before in
+    let p8 = p4 .before .before .before .before in
+    let p12 = p8 .before .before .before .before in
+    let a = p12 .args in
+    resolved-by (a .at) (a .base) (a .batch) (a .w .now, a .trace .now) (p8 .symbol .given .1) (p4 .apply-relocation-batch .ensures)
 
 pub resolve-spec : {M : Type 1} → statement M
 resolve-spec =
@@ -36,4 +41,5 @@ resolve-spec =
     returns
     apply-relocation-batch-requires
     same-length
+    same-length-2
     returns-2)

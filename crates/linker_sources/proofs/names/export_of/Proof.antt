@@ -1,7 +1,8 @@
 use borrow.Author.Needs.{needs}
-use mathlib.Core.Path.{ap, _∙_}
-use Rattle.name.specs.Name.{name-fits, name-is, name-taken}
-use Rattle.register_read.specs.Read.{exportOf}
+use Rattle.window.specs.Trace.{runT}
+use Rattle.name.specs.Name.{nameAt, name-fits, name-taken}
+use Rattle.register_read.specs.Read.{exportOf, moduleAt}
+use Rattle.linker_sources.proofs.Laws.{name-made}
 use Rattle.linker_sources.proofs.names.export_of.Statement.{statement}
 use Rattle.linker_sources.proofs.names.export_of.Tie as tie
 
@@ -9,18 +10,30 @@ read-name-requires : tie.Need-read-name-requires
 read-name-requires c κs = search needs
 
 array-share-prefix-buffer : tie.Need-array-share-prefix-buffer
-array-share-prefix-buffer c = name-fits _ _ (c .read-name .ensures)
+array-share-prefix-buffer c =
+    let p2 = c .before .before in
+    let a = p2 .before .before .before .before .before .before .before .args in
+    name-fits (runT (a .at) (nameAt (a .address)) (a .w .now, a .trace .now) .0) _ (p2 .read-name .ensures .0)
 
 slice-aggregate-export-named : tie.Need-slice-aggregate-export-named
-slice-aggregate-export-named c = name-taken _ _ (c .before .read-name .ensures)
+slice-aggregate-export-named c =
+    let p3 = c .before .before .before in
+    let a = p3 .before .before .before .before .before .before .before .args in
+    name-taken (runT (a .at) (nameAt (a .address)) (a .w .now, a .trace .now) .0) _ (p3 .read-name .ensures .0)
 
 export-named-requires : tie.Need-export-named-requires
 export-named-requires c κs = search needs
 
+same-length : tie.Need-same-length
+same-length c = search needs
+
 returns : tie.Need-returns
 returns c =
-    let p2 = c .before .before in
-    c .export-named .ensures ∙ ap (exportOf _) (name-is _ _ (p2 .read-name .ensures))
+    let p4 = c .before .before .before .before in
+    let a = p4 .before .before .before .before .before .before .before .args in (
+      name-made (exportOf (moduleAt (a .records .now) (a .names .now) (a .place))) (a .at) (a .address) (a .w .now, a .trace .now) _ (c .export-named .ensures) (p4 .read-name .ensures .0),
+      p4 .read-name .ensures .1,
+    )
 
 pub export-of-spec : {M : Type 1} → statement M
 export-of-spec =
@@ -30,4 +43,5 @@ export-of-spec =
     array-share-prefix-buffer
     slice-aggregate-export-named
     export-named-requires
+    same-length
     returns)

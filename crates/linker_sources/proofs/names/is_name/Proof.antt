@@ -1,7 +1,8 @@
 use borrow.Author.Needs.{needs}
-use mathlib.Core.Path.{ap, _∙_}
-use Rattle.name.specs.Name.{name-fits, name-is, name-taken}
+use Rattle.window.specs.Trace.{runT}
+use Rattle.name.specs.Name.{nameAt, name-fits, name-taken}
 use Rattle.register.specs.Words.{same}
+use Rattle.linker_sources.proofs.Laws.{name-made}
 use Rattle.linker_sources.proofs.names.is_name.Statement.{statement}
 use Rattle.linker_sources.proofs.names.is_name.Tie as tie
 
@@ -9,19 +10,31 @@ read-name-requires : tie.Need-read-name-requires
 read-name-requires c κs = search needs
 
 array-share-prefix-buffer : tie.Need-array-share-prefix-buffer
-array-share-prefix-buffer c = name-fits _ _ (c .read-name .ensures)
+array-share-prefix-buffer c =
+    let p2 = c .before .before in
+    let a = p2 .before .before .before .before .before .before .args in
+    name-fits (runT (a .at) (nameAt (a .address)) (a .w .now, a .trace .now) .0) _ (p2 .read-name .ensures .0)
 
 slice-aggregate-same-name : tie.Need-slice-aggregate-same-name
-slice-aggregate-same-name c = name-taken _ _ (c .before .read-name .ensures)
+slice-aggregate-same-name c =
+    let p3 = c .before .before .before in
+    let a = p3 .before .before .before .before .before .before .args in
+    name-taken (runT (a .at) (nameAt (a .address)) (a .w .now, a .trace .now) .0) _ (p3 .read-name .ensures .0)
 
 same-name-requires : tie.Need-same-name-requires
 same-name-requires c κs = search needs
 
+same-length : tie.Need-same-length
+same-length c = search needs
+
 returns : tie.Need-returns
 returns c =
-    let p2 = c .before .before in
-    let a = p2 .before .before .before .before .args in
-    c .same-name .ensures ∙ ap (λ x. same x (a .name .now)) (name-is _ _ (p2 .read-name .ensures))
+    let p4 = c .before .before .before .before in
+    let p10 = p4 .before .before .before .before .before .before in
+    let a = p10 .args in (
+      name-made (λ x. same x (a .name .now)) (a .at) (a .address) (a .w .now, a .trace .now) _ (c .same-name .ensures) (p4 .read-name .ensures .0),
+      p4 .read-name .ensures .1,
+    )
 
 pub is-name-spec : {M : Type 1} → statement M
 is-name-spec =
@@ -31,4 +44,5 @@ is-name-spec =
     array-share-prefix-buffer
     slice-aggregate-same-name
     same-name-requires
+    same-length
     returns)

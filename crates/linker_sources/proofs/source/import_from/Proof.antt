@@ -27,35 +27,41 @@ resolve-requires c κs = search needs
 same-length : tie.Need-same-length
 same-length c = search needs
 
-returns : tie.Need-returns
-returns c =
-    let p2 = c .before .before in
-    let p3 = p2 .before in
-    let p5 = p3 .before .before in
-    let p6 = p5 .before in
-    let p8 = p6 .before .before in
-    let p9 = p8 .before in
-    let p11 = p9 .before .before in
-    let p15 = p11 .before .before .before .before in
-    let a = p15 .args in
-    λ names. from-waits (a .at) (a .base) (a .entry) (a .w .now)
-    (symbolOf (a .kind) (moduleAt (a .records .now) names (a .place))) (p11 .read32 .ensures) (p9 .wrapping-add-u32 .ensures)
-    (p8 .read322 .ensures) (p6 .is-unresolved .ensures) (p5 .if1 .taken) (p3 .symbol-of .ensures names) (p2 .resolve .ensures)
-
 same-length-2 : tie.Need-same-length-2
 same-length-2 c = search needs
 
+returns : tie.Need-returns
+returns c =
+    let p4 = c .before .before .before .before in
+    let p5 = p4 .before in
+    let p8 = p5 .before .before .before in
+    let p11 = p8 .before .before .before in
+    let p16 = p11 .before .before .before .before .before in
+    let p17 = p16 .before in
+    let p22 = p17 .before .before .before .before .before in
+    let p28 = p22 .before .before .before .before .before .before in
+    let a = p28 .args in
+    λ names. from-waits (a .at) (a .base) (a .entry) (symbolOf (a .kind) (moduleAt (a .records .now) names (a .place)))
+    (a .w .now, a .trace .now) (p22 .read32 .ensures) (p17 .wrapping-add-u32 .ensures)
+    (p16 .read322 .ensures) (p11 .is-unresolved .ensures) (p8 .if1 .taken) (p5 .symbol-of .ensures names) (p4 .resolve .ensures)
+
+same-length-3 : tie.Need-same-length-3
+same-length-3 c = search needs
+
+same-length-4 : tie.Need-same-length-4
+same-length-4 c = search needs
+
 returns-2 : tie.Need-returns-2
 returns-2 c =
-    let p1 = c .before in
-    let p3 = p1 .before .before in
-    let p4 = p3 .before in
-    let p6 = p4 .before .before in
-    let p10 = p6 .before .before .before .before in
-    let a = p10 .args in
-    λ names. from-passed (a .at) (a .base) (a .entry) (a .w .now)
-    (symbolOf (a .kind) (moduleAt (a .records .now) names (a .place))) (p6 .read32 .ensures) (p4 .wrapping-add-u32 .ensures)
-    (p3 .read322 .ensures) (p1 .is-unresolved .ensures) (c .if1 .left)
+    let p3 = c .before .before .before in
+    let p8 = p3 .before .before .before .before .before in
+    let p9 = p8 .before in
+    let p14 = p9 .before .before .before .before .before in
+    let p20 = p14 .before .before .before .before .before .before in
+    let a = p20 .args in
+    λ names. from-passed (a .at) (a .base) (a .entry) (symbolOf (a .kind) (moduleAt (a .records .now) names (a .place)))
+    (a .w .now, a .trace .now) (p14 .read32 .ensures) (p9 .wrapping-add-u32 .ensures)
+    (p8 .read322 .ensures) (p3 .is-unresolved .ensures) (c .if1 .left)
 
 pub import-from-spec : {M : Type 1} → statement M
 import-from-spec =
@@ -68,6 +74,8 @@ import-from-spec =
     symbol-of-requires
     resolve-requires
     same-length
-    returns
     same-length-2
+    returns
+    same-length-3
+    same-length-4
     returns-2)
