@@ -5,12 +5,15 @@ use mathlib.Core.List.{List}
 use mathlib.Core.Bool.{Bool, true, false}
 use native.Mathlib.Omega.{arith}
 use borrow.Author.Tests.{eq-eqb, ne-eqb}
-use Rattle.window.specs.Memory.{if_then_else_, _⊕_, wordAt}
-use Rattle.window.specs.Access.{Prog, ret, read32, _>>=_, _>>_, run, run-bind, Reads}
+use Rattle.window.specs.Memory.{if_then_else_, _⊕_}
+use Rattle.window.specs.Access.{Prog, ret, _>>=_, _>>_, get32}
 use Rattle.window.specs.Loop.{loop}
-use Rattle.name.specs.Name.{nameAt, nameAt-reads}
+use Rattle.window.specs.Trace.{S, runT}
+use Rattle.window.specs.TraceRuns.{left, gives, seq, then-it, two}
+use Rattle.name.specs.Name.{nameAt}
 use Rattle.layout.specs.Header.{importNamedSymbolTableOffset, importNamedSymbolNum, importNamedSymbolEntrySize, importModuleTableOffset, importModuleNum, importModuleEntrySize, importIndexedSymbolEntrySize}
 use Rattle.layout.specs.Segments.{field, entryAt}
+use Rattle.layout.proofs.Accesses.{read-there}
 use Rattle.register.specs.Words.{same}
 use Rattle.register.specs.Module.{Module}
 use Rattle.register_read.specs.Read.{exportOf}
@@ -18,128 +21,114 @@ use Rattle.register_read.specs.declared.Symbol.{Symbol}
 use Rattle.register_read.specs.declared.Symbol.the-variants.{At, Nothing}
 use Rattle.linker.specs.Relocation.{unresolvedSymbol, applyRelocationBatch, batchIsResolved}
 use Rattle.linker.specs.Resets.{reset, resetAt, exists, resetNamed, resetModule, resetImports}
-use Rattle.linker_relocation.specs.Runs.{after-reads}
-use Rattle.linker_relocation.proofs.Laws.{handler-reads}
+use Rattle.linker_sources.specs.declared.source.ModuleTables.{ModuleTables}
+use Rattle.linker_sources.specs.Source.{tablesOf}
 use Rattle.linker_resets.specs.Tables.{resetTable, resetAllNamed, resetAllModules}
 
 -- one batch
 
-resolved-reads : (batch : ℕ) → Reads (batchIsResolved batch)
-unfolding batchIsResolved Reads _>>=_
-resolved-reads batch = λ m. tt
+module _ (at base handler batch : ℕ) (s : S) where
+  pub reset-none : batch ≡ 0 → s ≡ runT at (reset base handler batch) s .1
+  unfolding reset runT
+  reset-none e = rw (eq-eqb batch 0 e, runT)
 
-module _ (at base handler batch : ℕ) (w : List ℕ) where
-  pub reset-none : batch ≡ 0 → w ≡ run at (reset base handler batch) w .1
-  unfolding reset run
-  reset-none e = rw (eq-eqb batch 0 e, run)
-
-  module _ (n : batch ≡ 0 → ⊥) {t : Bool} (et : t ≡ run at (batchIsResolved batch) w .0) where
+  module _ (n : batch ≡ 0 → ⊥) {t : Bool} {s₁ : S} (et : (t, s₁) ≡ runT at (batchIsResolved batch) s) where
     abbrev turned : Bool → Prog (Unit {0})
     turned b = if b then applyRelocationBatch base batch handler false >> ret tt else ret tt
 
-    reset-is : run at (reset base handler batch) w ≡ run at (turned t) w
+    reset-is : runT at (reset base handler batch) s ≡ runT at (turned t) s₁
     unfolding reset
-    reset-is = rw (ne-eqb batch 0 n, et) (after-reads at (batchIsResolved batch) turned w (resolved-reads batch))
+    reset-is = rw (ne-eqb batch 0 n) (sym (gives at (batchIsResolved batch) s turned et))
 
-    pub reset-left : t ≡ false → w ≡ run at (reset base handler batch) w .1
-    unfolding run
-    reset-left e = rw (reset-is, e, run)
+    pub reset-left : t ≡ false → s₁ ≡ runT at (reset base handler batch) s .1
+    unfolding runT
+    reset-left e = rw (reset-is, e, runT)
 
     pub reset-made
-        : {k : ℕ} {v : List ℕ} → t ≡ true → (k, v) ≡ run at (applyRelocationBatch base batch handler false) w
-        → v ≡ run at (reset base handler batch) w .1
-    unfolding run
-    reset-made e h =
-        ap (λ (x : ℕ × List ℕ). x .1) h
-        ∙ rw (reset-is, e) (sym (ap (λ (x : Unit {0} × List ℕ). x .1) (run-bind at (applyRelocationBatch base batch handler false) _ w)))
+        : {k : ℕ} {v : S} → t ≡ true → (k, v) ≡ runT at (applyRelocationBatch base batch handler false) s₁ → v ≡ runT at (reset base handler batch) s .1
+    unfolding runT
+    reset-made e h = rw (reset-is, e) (ap left (seq at (applyRelocationBatch base batch handler false) s₁ (ret tt) (ap left h)))
 
 -- the batch of an entry
 
-module _ (at base handler entry : ℕ) (w : List ℕ) where
+module _ (at base handler entry : ℕ) (s : S) where
   pub reset-entry
-      : {y batch : ℕ} {v : List ℕ} → y ≡ entry ⊕ 4 → batch ≡ wordAt at w y → v ≡ run at (reset base handler batch) w .1
-      → v ≡ run at (resetAt base handler entry) w .1
-  unfolding resetAt run _>>=_
-  reset-entry y b h = h ∙ ap (λ k. run at (reset base handler k) w .1) (b ∙ ap (wordAt at w) y)
+      : {y batch : ℕ} {s₁ v : S} → y ≡ entry ⊕ 4 → (batch, s₁) ≡ runT at (get32 y) s → v ≡ runT at (reset base handler batch) s₁ .1
+      → v ≡ runT at (resetAt base handler entry) s .1
+  unfolding resetAt
+  reset-entry y b h = then-it at (get32 (entry ⊕ 4)) s (reset base handler) (read-there at s y b) h
 
-  module _ (gone : Module) {p : ℕ} (ep : p ≡ wordAt at w entry) where
-    module _ {s : Symbol} (es : s ≡ exportOf gone (run at (nameAt p) w .0)) where
-      named-is : run at (resetNamed gone base handler entry) w ≡ run at (if exists s then resetAt base handler entry else ret tt) w
-      unfolding resetNamed run _>>=_
-      named-is =
-          let q = wordAt at w entry in
-          rw (es, ep) (after-reads at (nameAt q) _ w (nameAt-reads q))
+  -- a name, and what is done with it
+  module _ {p : ℕ} {s₁ : S} (ep : (p, s₁) ≡ runT at (get32 entry) s) {s₂ : S} (en : s₂ ≡ runT at (nameAt p) s₁ .1) where
+    abbrev name : List ℕ
+    name = runT at (nameAt p) s₁ .0
 
-      pub named-kept : s ≡ Nothing → w ≡ run at (resetNamed gone base handler entry) w .1
-      unfolding run
-      named-kept e = rw (named-is, e, run)
+    named : (f : List ℕ → Prog (Unit {0})) → runT at (get32 entry >>= λ p. nameAt p >>= f) s ≡ runT at (f name) s₂
+    named f = sym (gives at (nameAt p) s₁ f {a = name} (ap (λ u. (name, u)) en) ∙ gives at (get32 entry) s (λ p. nameAt p >>= f) ep)
 
-      pub named-reset
-          : {a : ℕ} {v : List ℕ} → s ≡ At a → v ≡ run at (resetAt base handler entry) w .1 → v ≡ run at (resetNamed gone base handler entry) w .1
-      named-reset e h = rw (named-is, e) h
+    module _ (gone : Module) where
+      module _ {x : Symbol} (ex : x ≡ exportOf gone name) where
+        named-is : runT at (resetNamed gone base handler entry) s ≡ runT at (if exists x then resetAt base handler entry else ret tt) s₂
+        unfolding resetNamed
+        named-is = rw ex (named (λ n. if exists (exportOf gone n) then resetAt base handler entry else ret tt))
 
-    module _ {t : Bool} {name : List ℕ} (en : name ≡ gone .name) (et : t ≡ same (run at (nameAt p) w .0) name) where
-      abbrev two : ℕ → ℕ → ℕ → ℕ → Prog (Unit {0})
-      two indexed n anonymous m = resetTable base handler indexed n >> resetTable base handler anonymous m
+        pub named-kept : x ≡ Nothing → s₂ ≡ runT at (resetNamed gone base handler entry) s .1
+        unfolding runT
+        named-kept e = rw (named-is, e, runT)
 
-      abbrev tables : Prog (Unit {0})
-      tables = two (wordAt at w (entry ⊕ 4)) (wordAt at w (entry ⊕ 8)) (wordAt at w (entry ⊕ 12)) (wordAt at w (entry ⊕ 16))
+        pub named-reset
+            : {a : ℕ} {v : S} → x ≡ At a → v ≡ runT at (resetAt base handler entry) s₂ .1 → v ≡ runT at (resetNamed gone base handler entry) s .1
+        named-reset e h = rw (named-is, e) h
 
-      four : (b : Bool)
-          → run at
-          (if b then (read32 (entry ⊕ 4) λ i. read32 (entry ⊕ 8) λ n. read32 (entry ⊕ 12) λ a. read32 (entry ⊕ 16) λ m. two i n a m) else ret tt) w
-          ≡ run at (if b then tables else ret tt) w
-      unfolding run
-      four true = refl
-      four false = refl
+      module _ {t : Bool} {own : List ℕ} (eo : own ≡ gone .name) (et : t ≡ same name own) where
+        abbrev tables : ModuleTables → Prog (Unit {0})
+        tables x = resetTable base handler (x .«indexed_table») (x .«indexed_count») >> resetTable base handler (x .«anonymous_table») (x .«anonymous_count»)
 
-      module-is : run at (resetModule gone base handler entry) w ≡ run at (if t then tables else ret tt) w
-      unfolding resetModule resetTable run _>>=_
-      module-is =
-          let q = wordAt at w entry in
-          rw (et, en, ep) (after-reads at (nameAt q) _ w (nameAt-reads q) ∙ four (same (run at (nameAt q) w .0) (gone .name)))
+        module-is : runT at (resetModule gone base handler entry) s ≡ runT at (if t then (tablesOf entry >>= tables) else ret tt) s₂
+        unfolding resetModule resetTable tablesOf _>>=_
+        module-is = rw (et, eo) (named (λ n. if same n (gone .name) then (tablesOf entry >>= tables) else ret tt))
 
-      pub module-kept : t ≡ false → w ≡ run at (resetModule gone base handler entry) w .1
-      unfolding run
-      module-kept e = rw (module-is, e, run)
+        pub module-kept : t ≡ false → s₂ ≡ runT at (resetModule gone base handler entry) s .1
+        unfolding runT
+        module-kept e = rw (module-is, e, runT)
 
-      pub module-reset
-          : {x₁ x₂ x₃ x₄ indexed n anonymous m : ℕ} {u v : List ℕ} → t ≡ true → x₁ ≡ entry ⊕ 4 → indexed ≡ wordAt at w x₁ → x₂ ≡ entry ⊕ 8
-          → n ≡ wordAt at w x₂ → x₃ ≡ entry ⊕ 12 → anonymous ≡ wordAt at w x₃ → x₄ ≡ entry ⊕ 16 → m ≡ wordAt at w x₄
-          → u ≡ run at (resetTable base handler indexed n) w .1 → v ≡ run at (resetTable base handler anonymous m) u .1
-          → v ≡ run at (resetModule gone base handler entry) w .1
-      module-reset e p₁ e₁ p₂ e₂ p₃ e₃ p₄ e₄ h g =
-          g
-          ∙ rw (module-is, e, h, e₁, p₁, e₂, p₂, e₃, p₃, e₄, p₄)
-          (sym (ap (λ (x : Unit {0} × List ℕ). x .1)
-          (run-bind at (resetTable base handler (wordAt at w (entry ⊕ 4)) (wordAt at w (entry ⊕ 8))) _ w)))
+        pub module-reset
+            : {x : ModuleTables} {s₃ u v : S} → t ≡ true → (x, s₃) ≡ runT at (tablesOf entry) s₂
+            → u ≡ runT at (resetTable base handler (x .«indexed_table») (x .«indexed_count»)) s₃ .1
+            → v ≡ runT at (resetTable base handler (x .«anonymous_table») (x .«anonymous_count»)) u .1
+            → v ≡ runT at (resetModule gone base handler entry) s .1
+        module-reset {x} {s₃} e ex h g = rw (module-is, e) (then-it at (tablesOf entry) s₂ tables ex (two at _ s₃ _ h g))
 
 -- the loops, and both halves
 
-module _ (at base handler : ℕ) (w : List ℕ) where
+module _ (at base handler : ℕ) (s : S) where
   pub resets-start
       : (table count : ℕ)
-      → run at (loop (λ i _. resetAt base handler (entryAt table i importIndexedSymbolEntrySize)) 0 (count - 0) tt) w
-      ≡ run at (resetTable base handler table count) w
+      → runT at (loop (λ i _. resetAt base handler (entryAt table i importIndexedSymbolEntrySize)) 0 (count - 0) tt) s
+      ≡ runT at (resetTable base handler table count) s
   unfolding resetTable
   resets-start table count = let z : count - 0 ≡ count = omega arith in rw z
 
-  module _ (gone : Module) {table count : ℕ} where
+  module _ (gone : Module) {table count : ℕ} {s₁ s₂ : S} where
     pub named-start
-        : table ≡ run at (field base importNamedSymbolTableOffset) w .0 → count ≡ run at (field base importNamedSymbolNum) w .0
-        → run at (loop (λ i _. resetNamed gone base handler (entryAt table i importNamedSymbolEntrySize)) 0 (count - 0) tt) w
-        ≡ run at (resetAllNamed gone base handler) w
-    unfolding resetAllNamed field run _>>=_
-    named-start t n = let z : count - 0 ≡ count = omega arith in rw (z, t, n)
+        : (table, s₁) ≡ runT at (field base importNamedSymbolTableOffset) s → (count, s₂) ≡ runT at (field base importNamedSymbolNum) s₁
+        → runT at (loop (λ i _. resetNamed gone base handler (entryAt table i importNamedSymbolEntrySize)) 0 (count - 0) tt) s₂
+        ≡ runT at (resetAllNamed gone base handler) s
+    unfolding resetAllNamed
+    named-start t n =
+        let z : count - 0 ≡ count = omega arith in
+        rw z (gives at (field base importNamedSymbolNum) s₁ _ n ∙ gives at (field base importNamedSymbolTableOffset) s _ t)
 
     pub modules-start
-        : table ≡ run at (field base importModuleTableOffset) w .0 → count ≡ run at (field base importModuleNum) w .0
-        → run at (loop (λ i _. resetModule gone base handler (entryAt table i importModuleEntrySize)) 0 (count - 0) tt) w
-        ≡ run at (resetAllModules gone base handler) w
-    unfolding resetAllModules field run _>>=_
-    modules-start t n = let z : count - 0 ≡ count = omega arith in rw (z, t, n)
+        : (table, s₁) ≡ runT at (field base importModuleTableOffset) s → (count, s₂) ≡ runT at (field base importModuleNum) s₁
+        → runT at (loop (λ i _. resetModule gone base handler (entryAt table i importModuleEntrySize)) 0 (count - 0) tt) s₂
+        ≡ runT at (resetAllModules gone base handler) s
+    unfolding resetAllModules
+    modules-start t n =
+        let z : count - 0 ≡ count = omega arith in
+        rw z (gives at (field base importModuleNum) s₁ _ n ∙ gives at (field base importModuleTableOffset) s _ t)
 
-module _ (at base : ℕ) (w : List ℕ) (gone : Module) where
+module _ (at base : ℕ) (s : S) (gone : Module) where
   abbrev halves : ℕ → Prog (Unit {0})
   halves k = resetAllNamed gone base k >> resetAllModules gone base k
 
@@ -148,14 +137,8 @@ module _ (at base : ℕ) (w : List ℕ) (gone : Module) where
   imports-are = refl
 
   pub both-reset
-      : {handler : ℕ} {u v : List ℕ} → handler ≡ run at (unresolvedSymbol base) w .0 → u ≡ run at (resetAllNamed gone base handler) w .1
-      → v ≡ run at (resetAllModules gone base handler) u .1 → v ≡ run at (resetImports gone base) w .1
-  both-reset {handler} {u} e h g =
-      g
-      ∙ ap (λ z. run at (resetAllModules gone base handler) z .1) h
-      ∙ sym
-      (ap (λ (x : Unit {0} × List ℕ). x .1)
-      (ap (λ m. run at m w) imports-are
-      ∙ after-reads at (unresolvedSymbol base) halves w (handler-reads base)
-      ∙ ap (λ k. run at (halves k) w) (sym e)
-      ∙ run-bind at (resetAllNamed gone base handler) (λ _. resetAllModules gone base handler) w))
+      : {handler : ℕ} {s₁ u v : S} → (handler, s₁) ≡ runT at (unresolvedSymbol base) s → u ≡ runT at (resetAllNamed gone base handler) s₁ .1
+      → v ≡ runT at (resetAllModules gone base handler) u .1 → v ≡ runT at (resetImports gone base) s .1
+  both-reset {handler} {s₁} e h g =
+      rw imports-are
+      (then-it at (unresolvedSymbol base) s halves e (two at (resetAllNamed gone base handler) s₁ (resetAllModules gone base handler) h g))

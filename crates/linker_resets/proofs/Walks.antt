@@ -7,7 +7,8 @@ use lib.ListN.{getD}
 use lib.Dec.{eqb}
 use borrow.Author.Tests.{eq-eqb, ne-eqb}
 use Rattle.window.specs.Memory.{if_then_else_}
-use Rattle.window.specs.Access.{Prog, ret, _>>=_, run, run-bind}
+use Rattle.window.specs.Access.{Prog, ret, _>>=_}
+use Rattle.window.specs.Trace.{S, runT, runT-bind}
 use Rattle.register.specs.Words.{wordsIn}
 use Rattle.register.specs.Module.{Module}
 use Rattle.register.specs.Encode.{flag}
@@ -24,15 +25,15 @@ auto-flag true = refl
 auto-flag false = refl
 
 module _ (at : ℕ) (gone : Module) (place : ℕ) where
-  abbrev pub resetting : ℕ → List Module → List ℕ → Unit {0} × List ℕ
-  resetting p ms w = run at (resetImporters gone (otherThan place p ms)) w
+  abbrev pub resetting : ℕ → List Module → S → Unit {0} × S
+  resetting p ms s = runT at (resetImporters gone (otherThan place p ms)) s
 
   resetting-more
-      : (p q : ℕ) (m : Module) (ms : List Module) (w v : List ℕ) → q ≡ p + moduleBytes m
-      → v ≡ run at (if eqb p place then ret tt else (if m .auto then resetImports gone (m .base) else ret tt)) w .1
-      → resetting q ms v ≡ resetting p (m ∷ ms) w
-  unfolding otherThan resetImporters run _>>=_
-  resetting-more p q m ms w v eq e = rw eq (go (eqb p place) e)
+      : (p q : ℕ) (m : Module) (ms : List Module) (s v : S) → q ≡ p + moduleBytes m
+      → v ≡ runT at (if eqb p place then ret tt else (if m .auto then resetImports gone (m .base) else ret tt)) s .1
+      → resetting q ms v ≡ resetting p (m ∷ ms) s
+  unfolding otherThan resetImporters runT _>>=_
+  resetting-more p q m ms s v eq e = rw eq (go (eqb p place) e)
     where
       rest : List Module
       rest = otherThan place (p + moduleBytes m) ms
@@ -41,15 +42,15 @@ module _ (at : ℕ) (gone : Module) (place : ℕ) where
       one = if m .auto then resetImports gone (m .base) else ret tt
 
       go
-          : (t : Bool) → v ≡ run at (if t then ret tt else one) w .1
-          → run at (resetImporters gone rest) v ≡ run at (resetImporters gone (if t then rest else m ∷ rest)) w
+          : (t : Bool) → v ≡ runT at (if t then ret tt else one) s .1
+          → runT at (resetImporters gone rest) v ≡ runT at (resetImporters gone (if t then rest else m ∷ rest)) s
       go true e = rw e (refl)
-      go false e = rw e (sym (run-bind at one (λ _. resetImporters gone rest) w))
+      go false e = rw e (sym (runT-bind at one (λ _. resetImporters gone rest) s))
 
-  module _ (records names : List ℕ) (p seen : ℕ) (w : List ℕ) {end : Unit {0} × List ℕ} (s : Going resetting records names p seen w end) where
-    pub reset-all : getD (wordsIn records) 0 0 ≤ seen → w ≡ end .1
-    unfolding otherThan resetImporters run
-    reset-all h = ap (λ (x : Unit {0} × List ℕ). x .1) (going-ends resetting records names p seen w s h)
+  module _ (records names : List ℕ) (p seen : ℕ) (s : S) {end : Unit {0} × S} (going : Going resetting records names p seen s end) where
+    pub reset-all : getD (wordsIn records) 0 0 ≤ seen → s ≡ end .1
+    unfolding otherThan resetImporters runT
+    reset-all h = ap (λ (x : Unit {0} × S). x .1) (going-ends resetting records names p seen s going h)
 
     importer-is
         : (m : Module) {r : Record} → r ≡ recordAt records p → Stands records names p m
@@ -58,23 +59,23 @@ module _ (at : ℕ) (gone : Module) (place : ℕ) where
     importer-is m er t = rw (er ∙ t .words, auto-flag (m .auto))
 
     pub reset-next
-        : {r : Record} {next : ℕ} {v : List ℕ} → seen < getD (wordsIn records) 0 0 → r ≡ recordAt records p → next ≡ recordEnd r
-        → v ≡ run at (resetImporter gone place r) w .1 → Going resetting records names next (seen + 1) v end
+        : {r : Record} {next : ℕ} {v : S} → seen < getD (wordsIn records) 0 0 → r ≡ recordAt records p → next ≡ recordEnd r
+        → v ≡ runT at (resetImporter gone place r) s .1 → Going resetting records names next (seen + 1) v end
     reset-next {r} {next} {v} h er d e =
-        going-goes resetting records names p seen w s h er d
-        (λ m ms t c. resetting-more p (p + moduleBytes m) m ms w v refl (e ∙ ap (λ x. run at x w .1) (importer-is m er t)))
+        going-goes resetting records names p seen s going h er d
+        (λ m ms t c. resetting-more p (p + moduleBytes m) m ms s v refl (e ∙ ap (λ x. runT at x s .1) (importer-is m er t)))
 
 -- one turn's two tests
-module _ (at place : ℕ) (gone : Module) (r : Record) (w : List ℕ) where
-  pub itself : r .place ≡ place → w ≡ run at (resetImporter gone place r) w .1
-  unfolding resetImporter run
-  itself e = rw (eq-eqb (r .place) place e, run)
+module _ (at place : ℕ) (gone : Module) (r : Record) (s : S) where
+  pub itself : r .place ≡ place → s ≡ runT at (resetImporter gone place r) s .1
+  unfolding resetImporter runT
+  itself e = rw (eq-eqb (r .place) place e, runT)
 
   module _ (n : r .place ≡ place → ⊥) where
-    pub unlinked : (r .«auto_link» ≡ 1 → ⊥) → w ≡ run at (resetImporter gone place r) w .1
-    unfolding resetImporter run
-    unlinked e = rw (ne-eqb (r .place) place n, ne-eqb (r .«auto_link») 1 e, run)
+    pub unlinked : (r .«auto_link» ≡ 1 → ⊥) → s ≡ runT at (resetImporter gone place r) s .1
+    unfolding resetImporter runT
+    unlinked e = rw (ne-eqb (r .place) place n, ne-eqb (r .«auto_link») 1 e, runT)
 
-    pub linked : {v : List ℕ} → r .«auto_link» ≡ 1 → v ≡ run at (resetImports gone (r .base)) w .1 → v ≡ run at (resetImporter gone place r) w .1
+    pub linked : {v : S} → r .«auto_link» ≡ 1 → v ≡ runT at (resetImports gone (r .base)) s .1 → v ≡ runT at (resetImporter gone place r) s .1
     unfolding resetImporter
     linked e h = rw (ne-eqb (r .place) place n, eq-eqb (r .«auto_link») 1 e) h

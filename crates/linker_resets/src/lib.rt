@@ -19,6 +19,7 @@ use linker_relocation::relocation::batch_is_resolved;
 use linker_relocation::relocation::unresolved_symbol;
 use linker_sources::names::export_of;
 use linker_sources::names::is_name;
+use linker_sources::source::tables_of;
 use register_read::Record;
 use register_read::Symbol;
 use register_read::modules::module_count;
@@ -76,8 +77,8 @@ fn reset_named(
     handler: u32,
     entry: u32,
 )
-    ensures { λ _. ⌜ now (w .exit)
-        ≡ run at (resetNamed (moduleAt (now (records .entry)) (now (names .entry)) place) base handler entry) (now (w .entry)) .1 ⌝ }
+    ensures { λ _. ⌜ (now (w .exit), now (trace .exit))
+        ≡ runT at (resetNamed (moduleAt (now (records .entry)) (now (names .entry)) place) base handler entry) (now (w .entry), now (trace .entry)) .1 ⌝ }
 {
     let address = window::read32(at, w, trace, entry);
     let Symbol::At(_) = export_of(at, w, trace, records, names, place, address) else {
@@ -98,18 +99,31 @@ fn reset_module(
     handler: u32,
     entry: u32,
 )
-    ensures { λ _. ⌜ now (w .exit)
-        ≡ run at (resetModule (moduleAt (now (records .entry)) (now (names .entry)) place) base handler entry) (now (w .entry)) .1 ⌝ }
+    ensures { λ _. ⌜ (now (w .exit), now (trace .exit))
+        ≡ runT at (resetModule (moduleAt (now (records .entry)) (now (names .entry)) place) base handler entry) (now (w .entry), now (trace .entry)) .1 ⌝ }
 {
     let address = window::read32(at, w, trace, entry);
     let name = record_name(names, record_at(records, place));
     if is_name(at, w, trace, address, name) {
-        let indexed = window::read32(at, w, trace, std::num::wrapping_add_u32(entry, 4));
-        let indexed_count = window::read32(at, w, trace, std::num::wrapping_add_u32(entry, 8));
-        let anonymous = window::read32(at, w, trace, std::num::wrapping_add_u32(entry, 12));
-        let anonymous_count = window::read32(at, w, trace, std::num::wrapping_add_u32(entry, 16));
-        reset_table(at, w, trace, base, handler, indexed, indexed_count);
-        reset_table(at, w, trace, base, handler, anonymous, anonymous_count);
+        let tables = tables_of(at, w, trace, entry);
+        reset_table(
+            at,
+            w,
+            trace,
+            base,
+            handler,
+            tables.indexed_table,
+            tables.indexed_count,
+        );
+        reset_table(
+            at,
+            w,
+            trace,
+            base,
+            handler,
+            tables.anonymous_table,
+            tables.anonymous_count,
+        );
     }
 }
 
@@ -124,8 +138,8 @@ fn reset_all_named(
     base: u32,
     handler: u32,
 )
-    ensures { λ _. ⌜ now (w .exit)
-        ≡ run at (resetAllNamed (moduleAt (now (records .entry)) (now (names .entry)) place) base handler) (now (w .entry)) .1 ⌝ }
+    ensures { λ _. ⌜ (now (w .exit), now (trace .exit))
+        ≡ runT at (resetAllNamed (moduleAt (now (records .entry)) (now (names .entry)) place) base handler) (now (w .entry), now (trace .entry)) .1 ⌝ }
 {
     let table = field(at, w, trace, base, IMPORT_NAMED_SYMBOL_TABLE_OFFSET);
     let count = field(at, w, trace, base, IMPORT_NAMED_SYMBOL_NUM);
@@ -146,8 +160,8 @@ fn reset_all_modules(
     base: u32,
     handler: u32,
 )
-    ensures { λ _. ⌜ now (w .exit)
-        ≡ run at (resetAllModules (moduleAt (now (records .entry)) (now (names .entry)) place) base handler) (now (w .entry)) .1 ⌝ }
+    ensures { λ _. ⌜ (now (w .exit), now (trace .exit))
+        ≡ runT at (resetAllModules (moduleAt (now (records .entry)) (now (names .entry)) place) base handler) (now (w .entry), now (trace .entry)) .1 ⌝ }
 {
     let table = field(at, w, trace, base, IMPORT_MODULE_TABLE_OFFSET);
     let count = field(at, w, trace, base, IMPORT_MODULE_NUM);
@@ -167,8 +181,8 @@ pub fn reset_imports(
     place: usize,
     base: u32,
 )
-    ensures { λ _. ⌜ now (w .exit)
-        ≡ run at (resetImports (moduleAt (now (records .entry)) (now (names .entry)) place) base) (now (w .entry)) .1 ⌝ }
+    ensures { λ _. ⌜ (now (w .exit), now (trace .exit))
+        ≡ runT at (resetImports (moduleAt (now (records .entry)) (now (names .entry)) place) base) (now (w .entry), now (trace .entry)) .1 ⌝ }
 {
     let handler = unresolved_symbol(at, w, trace, base);
     reset_all_named(at, w, trace, records, names, place, base, handler);
@@ -185,8 +199,8 @@ fn reset_importer(
     place: usize,
     record: Record,
 )
-    ensures { λ _. ⌜ now (w .exit)
-        ≡ run at (resetImporter (moduleAt (now (records .entry)) (now (names .entry)) place) place «record») (now (w .entry)) .1 ⌝ }
+    ensures { λ _. ⌜ (now (w .exit), now (trace .exit))
+        ≡ runT at (resetImporter (moduleAt (now (records .entry)) (now (names .entry)) place) place «record») (now (w .entry), now (trace .entry)) .1 ⌝ }
 {
     if record.place == place {
         return;
@@ -206,9 +220,9 @@ pub fn reset_importers(
     place: usize,
 )
     requires { ⌜ Encoded (now records) (now names) ⌝ }
-    ensures { λ _. ⌜ now (w .exit)
-        ≡ run at (resetImporters (moduleAt (now (records .entry)) (now (names .entry)) place)
-        (otherThan place 32 (modulesOf (now (records .entry)) (now (names .entry))))) (now (w .entry)) .1 ⌝ }
+    ensures { λ _. ⌜ (now (w .exit), now (trace .exit))
+        ≡ runT at (resetImporters (moduleAt (now (records .entry)) (now (names .entry)) place)
+        (otherThan place 32 (modulesOf (now (records .entry)) (now (names .entry))))) (now (w .entry), now (trace .entry)) .1 ⌝ }
 {
     let count = module_count(records);
     let mut next: usize = 32;

@@ -1,42 +1,35 @@
--- By whose record it is, and whether it is auto-linked.
 use borrow.Author.Needs.{needs}
-use Rattle.register_read.specs.Read.{moduleAt}
-use Rattle.linker_resets.proofs.Walks.{itself, linked, unlinked}
 use Rattle.linker_resets.proofs.reset_importer.Statement.{statement}
 use Rattle.linker_resets.proofs.reset_importer.Tie as tie
+use Rattle.linker_resets.proofs.reset_importer.Reads as reads
+use Rattle.linker_resets.proofs.reset_importer.Lts as lts
+use Rattle.linker_resets.proofs.reset_imports.Reads as reset-imports-reads
 
+-- src/lib.rt:206:9
 returns : tie.Need-returns
-returns c =
-    let p5 = c .before .before .before .before .before in
-    let a = p5 .args in
-    let m = moduleAt (a .records .now) (a .names .now) (a .place) in
-    itself (a .at) (a .place) m (a .record) (a .w .now) (c .if1 .taken)
+returns c = ?
 
+-- src/lib.rt:209:9
 reset-imports-requires : tie.Need-reset-imports-requires
 reset-imports-requires c κs = search needs
 
+-- src/lib.rt:193:1
 same-length : tie.Need-same-length
 same-length c = search needs
 
-returns-2 : tie.Need-returns-2
-returns-2 c =
-    let p2 = c .before .before in
-    let p4 = p2 .before .before in
-    let p6 = p4 .before .before in
-    let p11 = p6 .before .before .before .before .before in
-    let a = p11 .args in
-    let m = moduleAt (a .records .now) (a .names .now) (a .place) in
-    linked (a .at) (a .place) m (a .record) (a .w .now) (p6 .if1 .left) (p4 .if2 .taken)
-    (p2 .reset-imports .ensures)
+-- src/lib.rt:193:1
+same-length-2 : tie.Need-same-length-2
+same-length-2 c = search needs
 
+-- src/lib.rt:193:1
+returns-2 : tie.Need-returns-2
+returns-2 c = ?
+
+-- src/lib.rt:193:1
 returns-3 : tie.Need-returns-3
-returns-3 c =
-    let p2 = c .before .before in
-    let p7 = p2 .before .before .before .before .before in
-    let a = p7 .args in
-    let m = moduleAt (a .records .now) (a .names .now) (a .place) in
-    unlinked (a .at) (a .place) m (a .record) (a .w .now) (p2 .if1 .left) (c .if2 .left)
+returns-3 c = ?
 
 pub reset-importer-spec : {M : Type 1} → statement M
 reset-importer-spec =
-    tie.close (tie.spec returns reset-imports-requires same-length returns-2 returns-3)
+    tie.close
+    (tie.spec returns reset-imports-requires same-length same-length-2 returns-2 returns-3)

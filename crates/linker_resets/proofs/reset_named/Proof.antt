@@ -20,33 +20,39 @@ enum-told-2 c = search needs
 same-length : tie.Need-same-length
 same-length c = search needs
 
+same-length-2 : tie.Need-same-length-2
+same-length-2 c = search needs
+
 returns : tie.Need-returns
 returns c =
-    let p2 = c .before .before in
-    let p4 = p2 .before .before in
+    let p4 = c .before .before .before .before in
     let p9 = p4 .before .before .before .before .before in
-    let a = p9 .args in
+    let p16 = p9 .before .before .before .before .before .before .before in
+    let a = p16 .args in
     let m = moduleAt (a .records .now) (a .names .now) (a .place) in
-    named-kept (a .at) (a .base) (a .handler) (a .entry) (a .w .now) m (p4 .read32 .ensures) (p2 .export-of .ensures)
+    named-kept (a .at) (a .base) (a .handler) (a .entry) (a .w .now, a .trace .now) (p9 .read32 .ensures) (p4 .export-of .ensures .1) m (p4 .export-of .ensures .0)
     (c .enum-told2 .given .1)
 
 reset-at-requires : tie.Need-reset-at-requires
 reset-at-requires c κs = search needs
 
-same-length-2 : tie.Need-same-length-2
-same-length-2 c = search needs
+same-length-3 : tie.Need-same-length-3
+same-length-3 c = search needs
+
+same-length-4 : tie.Need-same-length-4
+same-length-4 c = search needs
 
 returns-2 : tie.Need-returns-2
 returns-2 c =
-    let p2 = c .before .before in
-    let p4 = p2 .before .before in
-    let p6 = p4 .before .before in
-    let p8 = p6 .before .before in
-    let p13 = p8 .before .before .before .before .before in
-    let a = p13 .args in
+    let p4 = c .before .before .before .before in
+    let p7 = p4 .before .before .before in
+    let p11 = p7 .before .before .before .before in
+    let p16 = p11 .before .before .before .before .before in
+    let p23 = p16 .before .before .before .before .before .before .before in
+    let a = p23 .args in
     let m = moduleAt (a .records .now) (a .names .now) (a .place) in
-    named-reset (a .at) (a .base) (a .handler) (a .entry) (a .w .now) m (p8 .read32 .ensures) (p6 .export-of .ensures)
-    (p4 .enum-told .given .1) (p2 .reset-at .ensures)
+    named-reset (a .at) (a .base) (a .handler) (a .entry) (a .w .now, a .trace .now) (p16 .read32 .ensures) (p11 .export-of .ensures .1) m (p11 .export-of .ensures .0)
+    (p7 .enum-told .given .1) (p4 .reset-at .ensures)
 
 pub reset-named-spec : {M : Type 1} → statement M
 reset-named-spec =
@@ -57,7 +63,9 @@ reset-named-spec =
     enum-told
     enum-told-2
     same-length
+    same-length-2
     returns
     reset-at-requires
-    same-length-2
+    same-length-3
+    same-length-4
     returns-2)
