@@ -1,5 +1,6 @@
 -- By whether the entry names the module.
 use borrow.Author.Needs.{needs}
+use Rattle.window.specs.Silent.{trace-kept}
 use Rattle.register_read.specs.Read.{moduleAt}
 use Rattle.linker_sources.specs.Walks.{own-name}
 use Rattle.linker_resets.proofs.Laws.{module-kept, module-reset}
@@ -30,9 +31,6 @@ reset-table-requires-2 c κs = search needs
 same-length : tie.Need-same-length
 same-length c = search needs
 
-same-length-2 : tie.Need-same-length-2
-same-length-2 c = ?
-
 returns : tie.Need-returns
 returns c =
     let p4 = c .before .before .before .before in
@@ -49,6 +47,9 @@ returns c =
     module-reset (a .at) (a .base) (a .handler) (a .entry) (a .w .now, a .trace .now) (p29 .read32 .ensures) (p22 .is-name .ensures .1) m
     (own-name (a .records .now) (a .names .now) (a .place) (p26 .record-at .ensures) (p25 .record-name .ensures))
     (p22 .is-name .ensures .0) (p19 .if1 .taken) (p16 .tables-of .ensures) (p11 .reset-table .ensures) (p4 .reset-table2 .ensures)
+
+same-length-2 : tie.Need-same-length-2
+same-length-2 c = trace-kept _ _ _ _ (returns c)
 
 same-length-3 : tie.Need-same-length-3
 same-length-3 c = search needs
