@@ -9,18 +9,18 @@ use Rattle.window.specs.Memory.{_⊕_}
 use Rattle.window.specs.Access.{Prog, ret, _>>=_, get32, Reads, reads-bind}
 use Rattle.window.specs.Loop.{loop, loop-reads}
 use Rattle.window.specs.Trace.{S, said, runT}
-use Rattle.window.specs.TraceRuns.{left, given, gives, then-it, loopT-end, loopT-turn}
+use Rattle.window.specs.TraceRuns.{left, given, then-it, loopT-end, loopT-turn}
 use Rattle.window.specs.Silent.{silent-reads}
 use Rattle.name.specs.Name.{nameAt, nameAt-reads}
-use Rattle.layout.specs.Header.{moduleNameOffset, segmentNum}
-use Rattle.layout.specs.Segments.{field, segment, segment-reads, tagToAddress, tagToAddress-reads}
+use Rattle.layout.specs.Header.{exportNamedSymbolEntrySize, exportIndexedSymbolEntrySize, moduleNameOffset, segmentNum}
+use Rattle.layout.specs.Segments.{field, entryAt, segment, segment-reads, tagToAddress, tagToAddress-reads}
 use Rattle.layout.specs.declared.segments.Address.{Address}
 use Rattle.layout.specs.declared.segments.FoundSegment.{FoundSegment}
 use Rattle.register.specs.Module.{Export}
 use Rattle.linker.specs.Exports.{namedExport, namedExports, indexedExport, indexedExports, offsetOr0, mostSegments, readSegments, readModule}
 
 -- what goes on after m, whatever m gave
-pub then-any
+then-any
     : {A B : Type 0} (at : ℕ) (m : Prog A) (s : S) (f : A → Prog B) {u v : S} → u ≡ runT at m s .1
     → ((a : A) → v ≡ runT at (f a) u .1) → v ≡ runT at (m >>= f) s .1
 then-any at m s f h g = then-it at m s f (ap (λ (u : S). (runT at m s .0, u)) h) (g (runT at m s .0))
@@ -31,13 +31,16 @@ last-read
     → u ≡ runT at (m >>= λ a. ret (f a)) s .1
 last-read at m s f {a} {u} h = then-it at m s (λ a. ret (f a)) h (ap left (given at (f a) u))
 
--- turns that hand a value on, each at a place g of its number: some value is handed on, and what is left to make leaves r
+-- what n turns leave that hand a value on, each at a place g of its number
+abbrev pub turns : {A : Type 0} → ℕ → (ℕ → A → Prog A) → (ℕ → ℕ) → ℕ → ℕ → A → S → S
+turns at f g i n a s = runT at (loop (λ j a. f (g j) a) i n a) s .1
+
+-- some value is handed on, and what is left to touch leaves r
 abbrev pub LeftToTouch : {A : Type 0} → ℕ → (ℕ → A → Prog A) → (ℕ → ℕ) → ℕ → ℕ → S → S → Type 0
-LeftToTouch {A} at f g i n s r = (a : A) × (runT at (loop (λ j a. f (g j) a) i (n - i) a) s .1 ≡ r)
+LeftToTouch {A} at f g i n s r = (a : A) × (turns at f g i (n - i) a s ≡ r)
 
 pub none-touched
-    : {A : Type 0} (at : ℕ) (f : ℕ → A → Prog A) (g : ℕ → ℕ) (n : ℕ) (s : S) (a : A)
-    → LeftToTouch at f g 0 n s (runT at (loop (λ j a. f (g j) a) 0 n a) s .1)
+    : {A : Type 0} (at : ℕ) (f : ℕ → A → Prog A) (g : ℕ → ℕ) (n : ℕ) (s : S) (a : A) → LeftToTouch at f g 0 n s (turns at f g 0 n a s)
 none-touched at f g n s a = let z : n - 0 ≡ n = omega arith in (a, rw z)
 
 module _ {A : Type 0} (at : ℕ) (f : ℕ → A → Prog A) (g : ℕ → ℕ) (i n : ℕ) (s : S) {r : S} (rest : LeftToTouch at f g i n s r) where
@@ -45,11 +48,10 @@ module _ {A : Type 0} (at : ℕ) (f : ℕ → A → Prog A) (g : ℕ → ℕ) (i
       : {e : ℕ} {v : S} → i < n → e ≡ g i → ((a : A) → v ≡ runT at (f e a) s .1) → LeftToTouch at f g (i + 1) n v r
   turn-touched l p h =
       let a = rest .0 in
-      let b = runT at (f (g i) a) s .0 in (
+      let b = runT at (f (g i) a) s .0 in
+      let made = h a ∙ ap (λ e. runT at (f e a) s .1) p in (
         b,
-        ap (λ v. runT at (loop (λ j a. f (g j) a) (i + 1) (n - (i + 1)) b) v .1) (h a ∙ ap (λ e. runT at (f e a) s .1) p)
-            ∙ ap left (sym (loopT-turn at (λ j a. f (g j) a) i n a s l))
-            ∙ rest .1,
+        ap (turns at f g (i + 1) (n - (i + 1)) b) made ∙ ap left (sym (loopT-turn at (λ j a. f (g j) a) i n a s l)) ∙ rest .1,
       )
 
   pub turns-touched : n ≤ i → s ≡ r
@@ -58,10 +60,16 @@ module _ {A : Type 0} (at : ℕ) (f : ℕ → A → Prog A) (g : ℕ → ℕ) (i
   -- once a touch is kept, turns that only read change nothing
   pub touch-kept : ((e : ℕ) (a : A) → Reads (f e a)) → {b : Bool} → b ≡ said (s .1) → b ≡ true → s ≡ r
   touch-kept h e k =
-      sym (silent-reads at _ (s .0) (s .1) (loop-reads (λ j a. f (g j) a) i (n - i) (rest .0) (λ j a. h (g j) a)) (sym e ∙ k))
-      ∙ rest .1
+      let only = loop-reads (λ j a. f (g j) a) i (n - i) (rest .0) (λ j a. h (g j) a) in
+      sym (silent-reads at _ (s .0) (s .1) only (sym e ∙ k)) ∙ rest .1
 
 -- one entry of each table
+
+abbrev pub namedEntry : ℕ → ℕ → ℕ
+namedEntry table i = entryAt table i exportNamedSymbolEntrySize
+
+abbrev pub indexedEntry : ℕ → ℕ → ℕ
+indexedEntry table i = entryAt table i exportIndexedSymbolEntrySize
 
 module _ (at base entry : ℕ) (s : S) where
   pub named-touched
@@ -117,7 +125,7 @@ table-touched at base x y f s {table} {s₁ = s₁} h₁ h₂ h₃ =
 
 pub segments-touched
     : (at base : ℕ) (s : S) {count : ℕ} {s₁ v : S} → (count, s₁) ≡ runT at (field base segmentNum) s
-    → v ≡ runT at (loop (segmentTurn base) 0 count []) s₁ .1 → v ≡ runT at (readSegments base) s .1
+    → v ≡ turns at (segmentTurn base) (λ j. j) 0 count [] s₁ → v ≡ runT at (readSegments base) s .1
 unfolding readSegments
 segments-touched at base s {count} {s₁} {v} h₁ h₂ =
     then-it at (field base segmentNum) s _ h₁

@@ -71,11 +71,11 @@ fn touch_segments(at: u32, w: &[u8], trace: &mut [u8], base: u32)
     ensures { λ _. ⌜ (now (w .entry), now (trace .exit)) ≡ runT at (readSegments base) (now (w .entry), now (trace .entry)) .1 ⌝ }
 {
     let count = field(at, w, trace, base, header::SEGMENT_NUM);
-    for i in 0..count {
+    for index in 0..count {
         if window::said(trace) {
             return;
         }
-        segments::segment(at, w, trace, base, i);
+        segments::segment(at, w, trace, base, index);
     }
 }
 
@@ -86,6 +86,6 @@ pub fn touch_module(at: u32, w: &[u8], trace: &mut [u8], base: u32)
     touch_named(at, w, trace, base);
     touch_indexed(at, w, trace, base);
     touch_segments(at, w, trace, base);
-    let place = field(at, w, trace, base, header::MODULE_NAME_OFFSET);
-    name::touch_name(at, w, trace, place);
+    let own = field(at, w, trace, base, header::MODULE_NAME_OFFSET);
+    name::touch_name(at, w, trace, own);
 }

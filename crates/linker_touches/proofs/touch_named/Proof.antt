@@ -3,21 +3,18 @@ use Prim.Native.Nat.{_-_, _≤_}
 use mathlib.Core.List.{[]}
 use native.Mathlib.Omega.{arith}
 use borrow.Author.Needs.{needs}
-use Rattle.window.specs.Loop.{loop}
-use Rattle.window.specs.Trace.{runT}
 use Rattle.window.specs.Silent.{trace-kept}
-use Rattle.layout.specs.Header.{exportNamedSymbolTableOffset, exportNamedSymbolNum, exportNamedSymbolEntrySize}
-use Rattle.layout.specs.Segments.{entryAt}
+use Rattle.layout.specs.Header.{exportNamedSymbolTableOffset, exportNamedSymbolNum}
 use Rattle.linker.specs.Exports.{namedExport, namedExports}
-use Rattle.linker_touches.proofs.Laws.{LeftToTouch, none-touched, turn-touched, turns-touched, touch-kept, named-reads, table-touched}
+use Rattle.linker_touches.proofs.Laws.{turns, LeftToTouch, none-touched, turn-touched, turns-touched, touch-kept, namedEntry, named-reads, table-touched}
 use Rattle.linker_touches.proofs.touch_named.Statement.{statement}
 use Rattle.linker_touches.proofs.touch_named.Tie as tie
 
 abbrev Inv-loop : tie.InvT-loop
 Inv-loop at w trace₀ base table count i₀ trace i =
     (i ≤ count)
-    × LeftToTouch at (namedExport base) (λ j. entryAt table j exportNamedSymbolEntrySize) i count (w, trace)
-    (runT at (loop (λ j xs. namedExport base (entryAt table j exportNamedSymbolEntrySize) xs) 0 count []) (w, trace₀) .1)
+    × LeftToTouch at (namedExport base) (namedEntry table) i count (w, trace)
+    (turns at (namedExport base) (namedEntry table) 0 count [] (w, trace₀))
 
 abbrev μ-loop : tie.MeasureT-loop
 μ-loop at w trace₀ base table count i₀ trace i = count - i
@@ -33,7 +30,7 @@ loop-holds c =
     let p6 = c .before .before .before .before .before .before in
     let a = p6 .before .before .before .before .args in
     let t = p6 .field .result in
-    (omega arith, none-touched (a .at) (namedExport (a .base)) (λ j. entryAt t j exportNamedSymbolEntrySize) _ _ [])
+    (omega arith, none-touched (a .at) (namedExport (a .base)) (namedEntry t) _ _ [])
 
 said-requires : tie.Need-said-requires Inv-loop μ-loop
 said-requires c κs = search needs
@@ -48,13 +45,13 @@ returns c =
     let a = p11 .before .before .before .before .args in
     let l = p4 .loop in
     let t = p11 .field .result in
-    table-touched (a .at) (a .base) exportNamedSymbolTableOffset exportNamedSymbolNum _ (a .w .now, a .trace .now) (p11 .field .ensures) (p7 .field2 .ensures)
-    (touch-kept (a .at) (namedExport (a .base)) (λ j. entryAt t j exportNamedSymbolEntrySize) _ _ (a .w .now, l .trace) (l .inv .1) (named-reads (a .base)) (p1 .said .ensures) (c .if1 .taken))
+    table-touched (a .at) (a .base) exportNamedSymbolTableOffset exportNamedSymbolNum _ (a .w .now, a .trace .now)
+    (p11 .field .ensures) (p7 .field2 .ensures)
+    (touch-kept (a .at) (namedExport (a .base)) (namedEntry t) _ _ (a .w .now, l .trace) (l .inv .1)
+    (named-reads (a .base)) (p1 .said .ensures) (c .if1 .taken))
 
 same-length : tie.Need-same-length Inv-loop μ-loop
-same-length c =
-    let a = c .before .before .before .before .before .before .before .before .before .before .before .before .before .before .before .args in
-    trace-kept (a .at) (namedExports (a .base)) (a .w .now) (a .trace .now) (returns c)
+same-length c = trace-kept _ _ _ _ (returns c)
 
 entry-address-requires : tie.Need-entry-address-requires Inv-loop μ-loop
 entry-address-requires c κs = search needs
@@ -78,7 +75,9 @@ loop-again c =
     let a = p16 .before .before .before .before .args in
     let l = p9 .loop in
     let t = p16 .field .result in
-    (omega arith, turn-touched (a .at) (namedExport (a .base)) (λ j. entryAt t j exportNamedSymbolEntrySize) _ _ (a .w .now, l .trace) (l .inv .1) (p8 .loop-test .taken) (p4 .entry-address .ensures) (p2 .touch-named-export .ensures))
+    let touched = turn-touched (a .at) (namedExport (a .base)) (namedEntry t) _ _ (a .w .now, l .trace) (l .inv .1)
+    (p8 .loop-test .taken) (p4 .entry-address .ensures) (p2 .touch-named-export .ensures) in
+    (omega arith, touched)
 
 returns-2 : tie.Need-returns-2 Inv-loop μ-loop
 unfolding namedExports
@@ -89,13 +88,12 @@ returns-2 c =
     let a = p8 .before .before .before .before .args in
     let l = p1 .loop in
     let t = p8 .field .result in
-    table-touched (a .at) (a .base) exportNamedSymbolTableOffset exportNamedSymbolNum _ (a .w .now, a .trace .now) (p8 .field .ensures) (p4 .field2 .ensures)
-    (turns-touched (a .at) (namedExport (a .base)) (λ j. entryAt t j exportNamedSymbolEntrySize) _ _ (a .w .now, l .trace) (l .inv .1) (c .loop-test .left))
+    table-touched (a .at) (a .base) exportNamedSymbolTableOffset exportNamedSymbolNum _ (a .w .now, a .trace .now)
+    (p8 .field .ensures) (p4 .field2 .ensures)
+    (turns-touched (a .at) (namedExport (a .base)) (namedEntry t) _ _ (a .w .now, l .trace) (l .inv .1) (c .loop-test .left))
 
 same-length-2 : tie.Need-same-length-2 Inv-loop μ-loop
-same-length-2 c =
-    let a = c .before .before .before .before .before .before .before .before .before .before .before .before .args in
-    trace-kept (a .at) (namedExports (a .base)) (a .w .now) (a .trace .now) (returns-2 c)
+same-length-2 c = trace-kept _ _ _ _ (returns-2 c)
 
 pub touch-named-spec : {M : Type 1} → statement M
 touch-named-spec =

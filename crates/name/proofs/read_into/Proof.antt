@@ -1,11 +1,11 @@
 -- The invariant: the bytes in the buffer and the name still to be read from p on are the name; the rest of the buffer is as at entry.
 use Prim.Native.Nat.{_≤_, _<_, _-_}
-use mathlib.Core.Path.{_≡_, refl, sym, ap, _∙_}
+use mathlib.Core.Path.{_≡_, refl, ap, _∙_}
 use native.Mathlib.Omega.{arith}
 use lib.ListN.{length, take, drop, length-set}
 use borrow.Author.Needs.{needs}
 use Rattle.window.specs.Trace.{runT}
-use Rattle.name.specs.Name.{nameFrom, laidOver, name-some}
+use Rattle.name.specs.Name.{nameFrom, name-some}
 use Rattle.name.proofs.Laws.{name-nothing, name-end, name-next, name-full, behind, all-laid, laid-turn, laid-rest}
 use Rattle.name.proofs.read_into.Statement.{statement}
 use Rattle.name.proofs.read_into.Tie as tie
