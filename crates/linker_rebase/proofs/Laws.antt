@@ -9,15 +9,19 @@ use lib.ListN.{length, take, drop, getD, drop-of-length-le}
 use lib.Seq.{drop-cons}
 use lib.Dec.{eqb}
 use borrow.Author.Tests.{eq-eqb, ne-eqb, lt-ltb, le-ltb}
-use Rattle.window.specs.Memory.{if_then_else_, _⊕_, wordAt, putWord}
-use Rattle.window.specs.Access.{Prog, ret, _>>=_, _>>_, run, run-bind, Reads, reads-bind}
+use Rattle.window.specs.Memory.{if_then_else_, _⊕_}
+use Rattle.window.specs.Access.{Prog, ret, _>>=_, _>>_, get32, put32, Reads, reads-bind}
 use Rattle.window.specs.Loop.{loop, loop-reads}
+use Rattle.window.specs.Trace.{S, said, runT}
+use Rattle.window.specs.TraceRuns.{given, gives, seq, then-it, pick-then, pick-else, turn-made, left}
+use Rattle.window.specs.Silent.{silent-reads}
 use Rattle.layout.specs.Header.{magic, nameOffset, firstRebased, segmentNum}
 use Rattle.layout.specs.Tables.{pointerTables, noTable}
-use Rattle.layout.specs.Segments.{field, field-reads, entryAt, segment, segment-reads, setSegment}
+use Rattle.layout.specs.Segments.{field, entryAt, segment, segment-reads, setSegment}
 use Rattle.layout.specs.declared.format.Segment.{Segment}
 use Rattle.layout.specs.declared.format.SegmentType.{SegmentType}
 use Rattle.layout.specs.declared.format.SegmentType.the-variants.{Code, RoData, Data, Bss}
+use Rattle.layout.specs.declared.segments.FoundSegment.{FoundSegment}
 use Rattle.layout.specs.declared.segments.FoundSegment.the-variants.{Found, Missing}
 use Rattle.layout.specs.declared.tables.PointerTable.{PointerTable}
 use Rattle.layout.proofs.Laws.{difference}
@@ -28,10 +32,8 @@ use Rattle.linker.specs.declared.rebase.Moved.{Moved}
 use Rattle.linker.specs.declared.rebase.Moved.the-variants.{Bad, OldPlace}
 use Rattle.linker.specs.declared.rebase.Rebased.{Rebased}
 use Rattle.linker.specs.Rebase.{isMagic, moved, moveWord, moveHeader, at-offset, lentPlace, movedPlace, place, writeBack, moveFound, moveSegment, moveSegments, lookAtSegments, movePointers, pointersOf, moveTable, moveTables}
-use Rattle.linker.specs.Cases.{stays-bad}
 use Rattle.linker.specs.Relocation.{applyInternalRelocations}
 use Rattle.linker.specs.Calls.{relocate, rebaseWith}
-use Rattle.linker_relocation.specs.Runs.{after-reads, turn-made, seq, reads, gives, left}
 
 -- words
 
@@ -42,23 +44,25 @@ module _ (base value : ℕ) {forward : Bool} {r : ℕ} where
   pub moved-back : forward ≡ false → r < 2 ^ 32 → (r + base) % 2 ^ 32 ≡ value → r ≡ moved forward base value
   moved-back f l e = rw f (difference r value base l e)
 
-module _ (at : ℕ) (forward : Bool) (base p : ℕ) (w : List ℕ) {v : ℕ} (e : v ≡ wordAt at w p) where
-  pub word-kept : v ≡ 0 → w ≡ run at (moveWord forward base p) w .1
-  unfolding moveWord run _>>=_
-  word-kept z = rw (eq-eqb (wordAt at w p) 0 (sym e ∙ z), run)
+module _ (at : ℕ) (forward : Bool) (base p : ℕ) (s : S) {v : ℕ} {s₁ : S} (e : (v, s₁) ≡ runT at (get32 p) s) where
+  pub word-kept : v ≡ 0 → s₁ ≡ runT at (moveWord forward base p) s .1
+  unfolding moveWord
+  word-kept z = then-it at (get32 p) s _ e (pick-then at s₁ v (ret tt) (put32 p (moved forward base v)) z (ap left (given at tt s₁)))
 
   pub word-moved
-      : {m : ℕ} {u : List ℕ} → (v ≡ 0 → ⊥) → m ≡ moved forward base v → u ≡ putWord at w p m → u ≡ run at (moveWord forward base p) w .1
-  unfolding moveWord run _>>=_
-  word-moved n s h = rw (ne-eqb (wordAt at w p) 0 (λ q. n (e ∙ q)), run) (h ∙ ap (putWord at w p) (s ∙ ap (moved forward base) e))
+      : {m : ℕ} {u : S} → (v ≡ 0 → ⊥) → m ≡ moved forward base v → u ≡ runT at (put32 p m) s₁ .1 → u ≡ runT at (moveWord forward base p) s .1
+  unfolding moveWord
+  word-moved n d h =
+      then-it at (get32 p) s _ e
+      (pick-else at s₁ v (ret tt) (put32 p (moved forward base v)) n (h ∙ ap (λ m. runT at (put32 p m) s₁ .1) d))
 
 pub header-starts
-    : (at : ℕ) (forward : Bool) (base : ℕ) (w : List ℕ) {x : ℕ} {u : List ℕ} → x ≡ base ⊕ nameOffset
-    → u ≡ run at (moveWord forward base x) w .1
-    → run at (loop (λ i _. moveWord forward base (base ⊕ (firstRebased + 8 * i))) 0 17 tt) u ≡ run at (moveHeader forward base) w
+    : (at : ℕ) (forward : Bool) (base : ℕ) (s : S) {x : ℕ} {u : S} → x ≡ base ⊕ nameOffset
+    → u ≡ runT at (moveWord forward base x) s .1
+    → runT at (loop (λ i _. moveWord forward base (base ⊕ (firstRebased + 8 * i))) 0 17 tt) u ≡ runT at (moveHeader forward base) s
 unfolding moveHeader
-header-starts at forward base w e h =
-    seq at (moveWord forward base (base ⊕ nameOffset)) w _ (h ∙ ap (λ x. run at (moveWord forward base x) w .1) e)
+header-starts at forward base s e h =
+    seq at (moveWord forward base (base ⊕ nameOffset)) s _ (h ∙ ap (λ x. runT at (moveWord forward base x) s .1) e)
 
 -- where a segment goes
 
@@ -115,48 +119,79 @@ module _ (l : Lent) (s : Segment) (old : ℕ) where
 
 -- the segments of a load
 
-module _ (at base i : ℕ) (w : List ℕ) {p : Placed} where
-  pub back-refused : p ≡ Refused → (Bad, w) ≡ run at (writeBack base i p) w
-  unfolding writeBack run
-  back-refused e = rw (e, writeBack, run)
+module _ (at base i : ℕ) (s : S) {p : Placed} where
+  pub back-refused : p ≡ Refused → (Bad, s) ≡ runT at (writeBack base i p) s
+  unfolding writeBack
+  back-refused e = rw (e, writeBack) (given at Bad s)
 
   pub back-put
-      : {s : Segment} {old : ℕ} {v : List ℕ} → p ≡ Put s old → v ≡ run at (setSegment base i s) w .1
-      → (OldPlace old, v) ≡ run at (writeBack base i p) w
-  unfolding writeBack run
-  back-put {s} {old} e h = rw (e, writeBack) (ap (λ v. (OldPlace old, v)) h ∙ sym (run-bind at (setSegment base i s) (λ _. ret (OldPlace old)) w))
+      : {z : Segment} {old : ℕ} {v : S} → p ≡ Put z old → v ≡ runT at (setSegment base i z) s .1
+      → (OldPlace old, v) ≡ runT at (writeBack base i p) s
+  unfolding writeBack
+  back-put {z} {old} {v} e h = rw (e, writeBack) (given at (OldPlace old) v ∙ seq at (setSegment base i z) s (ret (OldPlace old)) h)
 
-module _ (at : ℕ) (l : Lent) (i old : ℕ) (w : List ℕ) where
-  segment-is : run at (moveSegment l i (OldPlace old)) w ≡ run at (moveFound l i old (run at (segment (l .base) i) w .0)) w
+module _ (at : ℕ) (l : Lent) (i old : ℕ) (s : S) {found : FoundSegment} {s₁ : S} (e : (found, s₁) ≡ runT at (segment (l .base) i) s) where
+  segment-is : runT at (moveFound l i old found) s₁ ≡ runT at (moveSegment l i (OldPlace old)) s
   unfolding moveSegment
-  segment-is = after-reads at (segment (l .base) i) (moveFound l i old) w (segment-reads (l .base) i)
+  segment-is = gives at (segment (l .base) i) s (moveFound l i old) e
 
-  pub segment-passed : run at (segment (l .base) i) w .0 ≡ Missing → (OldPlace old, w) ≡ run at (moveSegment l i (OldPlace old)) w
-  unfolding moveFound run
-  segment-passed e = sym (segment-is ∙ rw (e, moveFound, run))
+  pub segment-passed : found ≡ Missing → (OldPlace old, s₁) ≡ runT at (moveSegment l i (OldPlace old)) s
+  unfolding moveFound
+  segment-passed m = given at (OldPlace old) s₁ ∙ rw (m, moveFound) at segment-is
 
   pub segment-moved
-      : {s : Segment} {p : Placed} {r : Moved × List ℕ} → run at (segment (l .base) i) w .0 ≡ Found s → p ≡ place l s (s .kind) old
-      → r ≡ run at (writeBack (l .base) i p) w → r ≡ run at (moveSegment l i (OldPlace old)) w
+      : {z : Segment} {p : Placed} {r : Moved × S} → found ≡ Found z → p ≡ place l z (z .kind) old → r ≡ runT at (writeBack (l .base) i p) s₁
+      → r ≡ runT at (moveSegment l i (OldPlace old)) s
   unfolding moveFound
-  segment-moved e f h = h ∙ sym (segment-is ∙ rw (e, moveFound, ← f))
+  segment-moved m f h = h ∙ ap (λ p. runT at (writeBack (l .base) i p) s₁) f ∙ rw (m, moveFound) at segment-is
 
-module _ (at : ℕ) (l : Lent) (w : List ℕ) where
+-- what follows a refusal changes nothing more
+stays-bad : (at : ℕ) (l : Lent) (s : S) (n i : ℕ) → runT at (loop (moveSegment l) i n Bad) s ≡ (Bad, s)
+unfolding loop moveSegment runT _>>=_
+stays-bad at l s zero i = refl
+stays-bad at l s (suc n) i = stays-bad at l s n (suc i)
+
+module _ (at : ℕ) (l : Lent) (s : S) where
   pub segments-start
-      : {n : ℕ} → n ≡ run at (field (l .base) segmentNum) w .0
-      → run at (loop (moveSegment l) 0 (n - 0) (OldPlace 0)) w ≡ run at (moveSegments l) w
+      : {n : ℕ} {s₁ : S} → (n, s₁) ≡ runT at (field (l .base) segmentNum) s
+      → runT at (loop (moveSegment l) 0 (n - 0) (OldPlace 0)) s₁ ≡ runT at (moveSegments l) s
   unfolding moveSegments
   segments-start {n} e =
       let z : n - 0 ≡ n = omega arith in
-      rw z (reads at (field (l .base) segmentNum) w (λ n. loop (moveSegment l) 0 n (OldPlace 0)) (field-reads (l .base) segmentNum) e)
+      rw z (gives at (field (l .base) segmentNum) s (λ n. loop (moveSegment l) 0 n (OldPlace 0)) e)
 
-  -- what follows a refusal changes nothing more
-  pub segments-refused
-      : (i n : ℕ) (a : Moved) {m : Moved} {v : List ℕ} {r : Moved × List ℕ} → run at (loop (moveSegment l) i (n - i) a) w ≡ r → i < n
-      → (m, v) ≡ run at (moveSegment l i a) w → m ≡ Bad → (Bad, v) ≡ r
-  segments-refused i n a {m} {v} rest h t e =
-      sym (stays-bad at l v (n - (i + 1)) (i + 1))
-      ∙ turn-made at (moveSegment l) i n a w rest h (ap (λ m. (m, v)) (sym e) ∙ t)
+  module _ (i n : ℕ) (a : Moved) {m : Moved} {v : S} {r : Moved × S} (rest : runT at (loop (moveSegment l) i (n - i) a) s ≡ r) (h : i < n)
+      (t : (m, v) ≡ runT at (moveSegment l i a) s) where
+    pub segments-on : {b : Moved} → m ≡ b → runT at (loop (moveSegment l) (i + 1) (n - (i + 1)) b) v ≡ r
+    segments-on e = turn-made at (moveSegment l) i n a s rest h (ap (λ m. (m, v)) (sym e) ∙ t)
+
+    pub segments-refused : m ≡ Bad → (Bad, v) ≡ r
+    segments-refused e = sym (stays-bad at l v (n - (i + 1)) (i + 1)) ∙ segments-on e
+
+-- the lookups of an initialize
+
+abbrev pub lookAt : ℕ → ℕ → Unit {0} → Prog (Unit {0})
+lookAt base i _ = segment base i >> ret tt
+
+module _ (at base : ℕ) where
+  pub looks-start
+      : (s : S) {n : ℕ} {s₁ : S} → (n, s₁) ≡ runT at (field base segmentNum) s
+      → runT at (loop (lookAt base) 0 (n - 0) tt) s₁ ≡ runT at (lookAtSegments base) s
+  unfolding lookAtSegments
+  looks-start s {n} e =
+      let z : n - 0 ≡ n = omega arith in rw z (gives at (field base segmentNum) s (λ n. loop (lookAt base) 0 n tt) e)
+
+  pub look-made : (i : ℕ) (s : S) {x : FoundSegment} {s₁ : S} → (x, s₁) ≡ runT at (segment base i) s → (tt, s₁) ≡ runT at (lookAt base i tt) s
+  look-made i s {s₁ = s₁} e = given at tt s₁ ∙ gives at (segment base i) s (λ _. ret tt) e
+
+  -- once a touch is kept, what only reads leaves all as it is
+  pub looks-silent
+      : (i n : ℕ) (w t : List ℕ) {r : Unit {0} × S} → runT at (loop (lookAt base) i (n - i) tt) (w, t) ≡ r → said t ≡ true → _≡_ {A = S} (w, t) (r .1)
+  unfolding Reads
+  looks-silent i n w t rest e =
+      let look : Reads (loop (lookAt base) i (n - i) tt) =
+      loop-reads (lookAt base) i (n - i) tt (λ j _. reads-bind (segment base j) (λ _. ret tt) (segment-reads base j) (λ _. tt)) in
+      sym (silent-reads at (loop (lookAt base) i (n - i) tt) w t look e) ∙ ap left rest
 
 -- pointer tables
 
@@ -170,85 +205,84 @@ all-three (suc (suc (suc (suc n)))) a b c x y z = refl
 
 module _ (at : ℕ) (forward : Bool) (base entry : ℕ) where
   pointers-more
-      : (x : ℕ) (xs : List ℕ) (w : List ℕ) {y : ℕ} {u : List ℕ} → y ≡ entry ⊕ x → u ≡ run at (moveWord forward base y) w .1
-      → run at (movePointers forward base entry xs) u ≡ run at (movePointers forward base entry (x ∷ xs)) w
+      : (x : ℕ) (xs : List ℕ) (s : S) {y : ℕ} {u : S} → y ≡ entry ⊕ x → u ≡ runT at (moveWord forward base y) s .1
+      → runT at (movePointers forward base entry xs) u ≡ runT at (movePointers forward base entry (x ∷ xs)) s
   unfolding movePointers
-  pointers-more x xs w e h =
-      seq at (moveWord forward base (entry ⊕ x)) w (movePointers forward base entry xs) (h ∙ ap (λ y. run at (moveWord forward base y) w .1) e)
+  pointers-more x xs s e h =
+      seq at (moveWord forward base (entry ⊕ x)) s (movePointers forward base entry xs) (h ∙ ap (λ y. runT at (moveWord forward base y) s .1) e)
 
-  module _ (w : List ℕ) (t : PointerTable) where
-    pub pointers-0 : t .pointers ≡ 0 → w ≡ run at (movePointers forward base entry (pointersOf t)) w .1
-    unfolding movePointers run
-    pointers-0 e = rw (e, movePointers, run)
+  module _ (s : S) (t : PointerTable) where
+    pub pointers-0 : t .pointers ≡ 0 → s ≡ runT at (movePointers forward base entry (pointersOf t)) s .1
+    unfolding movePointers runT
+    pointers-0 e = rw (e, movePointers, runT)
 
-    module _ {x : ℕ} {w₁ : List ℕ} (e₁ : x ≡ entry ⊕ t .first) (h₁ : w₁ ≡ run at (moveWord forward base x) w .1) where
-      pub pointers-1 : t .pointers ≡ 1 → w₁ ≡ run at (movePointers forward base entry (pointersOf t)) w .1
-      unfolding movePointers run
-      pointers-1 e = rw e (ap left (pointers-more (t .first) [] w e₁ h₁))
+    module _ {x : ℕ} {s₁ : S} (e₁ : x ≡ entry ⊕ t .first) (h₁ : s₁ ≡ runT at (moveWord forward base x) s .1) where
+      pub pointers-1 : t .pointers ≡ 1 → s₁ ≡ runT at (movePointers forward base entry (pointersOf t)) s .1
+      unfolding movePointers runT
+      pointers-1 e = rw e (ap left (pointers-more (t .first) [] s e₁ h₁))
 
-      module _ {y : ℕ} {w₂ : List ℕ} (e₂ : y ≡ entry ⊕ t .second) (h₂ : w₂ ≡ run at (moveWord forward base y) w₁ .1) where
-        pub pointers-2 : t .pointers ≡ 2 → w₂ ≡ run at (movePointers forward base entry (pointersOf t)) w .1
-        unfolding movePointers run
+      module _ {y : ℕ} {s₂ : S} (e₂ : y ≡ entry ⊕ t .second) (h₂ : s₂ ≡ runT at (moveWord forward base y) s₁ .1) where
+        pub pointers-2 : t .pointers ≡ 2 → s₂ ≡ runT at (movePointers forward base entry (pointersOf t)) s .1
+        unfolding movePointers runT
         pointers-2 e =
-            rw e (ap left (pointers-more (t .second) [] w₁ e₂ h₂ ∙ pointers-more (t .first) (t .second ∷ []) w e₁ h₁))
+            rw e (ap left (pointers-more (t .second) [] s₁ e₂ h₂ ∙ pointers-more (t .first) (t .second ∷ []) s e₁ h₁))
 
         pub pointers-3
-            : {z : ℕ} {w₃ : List ℕ} → (t .pointers ≡ 0 → ⊥) → (t .pointers ≡ 1 → ⊥) → (t .pointers ≡ 2 → ⊥) → z ≡ entry ⊕ t .third
-            → w₃ ≡ run at (moveWord forward base z) w₂ .1 → w₃ ≡ run at (movePointers forward base entry (pointersOf t)) w .1
-        unfolding movePointers run
+            : {z : ℕ} {s₃ : S} → (t .pointers ≡ 0 → ⊥) → (t .pointers ≡ 1 → ⊥) → (t .pointers ≡ 2 → ⊥) → z ≡ entry ⊕ t .third
+            → s₃ ≡ runT at (moveWord forward base z) s₂ .1 → s₃ ≡ runT at (movePointers forward base entry (pointersOf t)) s .1
+        unfolding movePointers runT
         pointers-3 n₀ n₁ n₂ e h =
             rw (all-three (t .pointers) (t .first) (t .second) (t .third) n₀ n₁ n₂)
-            (ap left (pointers-more (t .third) [] w₂ e h ∙ pointers-more (t .second) (t .third ∷ []) w₁ e₂ h₂
-            ∙ pointers-more (t .first) (t .second ∷ t .third ∷ []) w e₁ h₁))
+            (ap left (pointers-more (t .third) [] s₂ e h ∙ pointers-more (t .second) (t .third ∷ []) s₁ e₂ h₂
+            ∙ pointers-more (t .first) (t .second ∷ t .third ∷ []) s e₁ h₁))
 
-  -- one table
+-- one table
 
-  module _ (w : List ℕ) (t : PointerTable) {table count : ℕ} (et : table ≡ run at (field base (t .table)) w .0)
-      (ec : count ≡ run at (field base (t .count)) w .0) where
-    table-is
-        : run at (if eqb table 0 then ret tt
-        else loop (λ i _. movePointers forward base (entryAt table i (t .«entry_size»)) (pointersOf t)) 0 count tt) w
-        ≡ run at (moveTable forward base t) w
-    unfolding moveTable
-    table-is =
-        reads at (field base (t .count)) w
-        (λ count. if eqb table 0 then ret tt
-        else loop (λ i _. movePointers forward base (entryAt table i (t .«entry_size»)) (pointersOf t)) 0 count tt)
-        (field-reads base (t .count)) ec
-        ∙ reads at (field base (t .table)) w _ (field-reads base (t .table)) et
+module _ (at : ℕ) (forward : Bool) (base : ℕ) (s : S) (t : PointerTable) {table count : ℕ} {s₁ s₂ : S}
+    (et : (table, s₁) ≡ runT at (field base (t .table)) s) (ec : (count, s₂) ≡ runT at (field base (t .count)) s₁) where
+  table-is
+      : runT at (if eqb table 0 then ret tt
+      else loop (λ i _. movePointers forward base (entryAt table i (t .«entry_size»)) (pointersOf t)) 0 count tt) s₂
+      ≡ runT at (moveTable forward base t) s
+  unfolding moveTable
+  table-is =
+      gives at (field base (t .count)) s₁
+      (λ count. if eqb table 0 then ret tt
+      else loop (λ i _. movePointers forward base (entryAt table i (t .«entry_size»)) (pointersOf t)) 0 count tt) ec
+      ∙ gives at (field base (t .table)) s _ et
 
-    pub table-none : table ≡ 0 → w ≡ run at (moveTable forward base t) w .1
-    unfolding run
-    table-none z = ap left (rw (eq-eqb table 0 z, run) at table-is)
+  pub table-none : table ≡ 0 → s₂ ≡ runT at (moveTable forward base t) s .1
+  unfolding runT
+  table-none z = ap left (rw (eq-eqb table 0 z, runT) at table-is)
 
-    pub table-starts
-        : (table ≡ 0 → ⊥)
-        → run at (loop (λ i _. movePointers forward base (entryAt table i (t .«entry_size»)) (pointersOf t)) 0 (count - 0) tt) w
-        ≡ run at (moveTable forward base t) w
-    table-starts n = let z : count - 0 ≡ count = omega arith in rw z (rw (ne-eqb table 0 n) at table-is)
+  pub table-starts
+      : (table ≡ 0 → ⊥)
+      → runT at (loop (λ i _. movePointers forward base (entryAt table i (t .«entry_size»)) (pointersOf t)) 0 (count - 0) tt) s₂
+      ≡ runT at (moveTable forward base t) s
+  table-starts n = let z : count - 0 ≡ count = omega arith in rw z (rw (ne-eqb table 0 n) at table-is)
 
 -- the tables, i of them moved
 tables-more
-    : (at : ℕ) (forward : Bool) (base : ℕ) (ts : List PointerTable) (i : ℕ) (w : List ℕ) {v : List ℕ} → i < length ts
-    → v ≡ run at (moveTable forward base (getD ts i noTable)) w .1
-    → run at (moveTables forward base (drop (suc i) ts)) v ≡ run at (moveTables forward base (drop i ts)) w
+    : (at : ℕ) (forward : Bool) (base : ℕ) (ts : List PointerTable) (i : ℕ) (s : S) {v : S} → i < length ts
+    → v ≡ runT at (moveTable forward base (getD ts i noTable)) s .1
+    → runT at (moveTables forward base (drop (suc i) ts)) v ≡ runT at (moveTables forward base (drop i ts)) s
 unfolding moveTables
-tables-more at forward base ts i w l h =
-    rw (drop-cons ts i noTable l) (seq at (moveTable forward base (getD ts i noTable)) w (moveTables forward base (drop (suc i) ts)) h)
+tables-more at forward base ts i s l h =
+    rw (drop-cons ts i noTable l) (seq at (moveTable forward base (getD ts i noTable)) s (moveTables forward base (drop (suc i) ts)) h)
 
 pub tables-turn
-    : (at : ℕ) (forward : Bool) (base i : ℕ) (w : List ℕ) {t : PointerTable} {v : List ℕ} {r : Unit {0} × List ℕ}
-    → run at (moveTables forward base (drop i pointerTables)) w ≡ r → i < 5 → t ≡ getD pointerTables i noTable
-    → v ≡ run at (moveTable forward base t) w .1 → run at (moveTables forward base (drop (i + 1) pointerTables)) v ≡ r
+    : (at : ℕ) (forward : Bool) (base i : ℕ) (s : S) {t : PointerTable} {v : S} {r : Unit {0} × S}
+    → runT at (moveTables forward base (drop i pointerTables)) s ≡ r → i < 5 → t ≡ getD pointerTables i noTable
+    → v ≡ runT at (moveTable forward base t) s .1 → runT at (moveTables forward base (drop (i + 1) pointerTables)) v ≡ r
 unfolding pointerTables
-tables-turn at forward base i w rest l e h =
-    rw (add-one i) (tables-more at forward base pointerTables i w l (h ∙ ap (λ t. run at (moveTable forward base t) w .1) e) ∙ rest)
+tables-turn at forward base i s rest l e h =
+    rw (add-one i) (tables-more at forward base pointerTables i s l (h ∙ ap (λ t. runT at (moveTable forward base t) s .1) e) ∙ rest)
 
 pub tables-over
-    : (at : ℕ) (forward : Bool) (base i : ℕ) (w : List ℕ) {r : Unit {0} × List ℕ} → run at (moveTables forward base (drop i pointerTables)) w ≡ r
-    → 5 ≤ i → w ≡ r .1
-unfolding pointerTables moveTables run
-tables-over at forward base i w rest l = ap left (rw (drop-of-length-le pointerTables l, moveTables, run) at rest)
+    : (at : ℕ) (forward : Bool) (base i : ℕ) (s : S) {r : Unit {0} × S} → runT at (moveTables forward base (drop i pointerTables)) s ≡ r
+    → 5 ≤ i → s ≡ r .1
+unfolding pointerTables moveTables runT
+tables-over at forward base i s rest l = ap left (rw (drop-of-length-le pointerTables l, moveTables, runT) at rest)
 
 -- how a rebase goes on
 
@@ -261,49 +295,48 @@ unfolding isMagic
 is-magic-second word n = rw (ne-eqb word 0x304f5243 n)
 
 pub relocated
-    : (at base old : ℕ) (w : List ℕ) {u v : List ℕ} → u ≡ run at (moveTables true base pointerTables) w .1
-    → v ≡ run at (applyInternalRelocations base old) u .1 → (Rebased.Done, v) ≡ run at (relocate base (OldPlace old)) w
-unfolding relocate run
-relocated at base old w {u} h g =
-    seq at (applyInternalRelocations base old) u (ret Rebased.Done) g
-    ∙ seq at (moveTables true base pointerTables) w (applyInternalRelocations base old >> ret Rebased.Done) h
+    : (at base old : ℕ) (s : S) {u v : S} → u ≡ runT at (moveTables true base pointerTables) s .1
+    → v ≡ runT at (applyInternalRelocations base old) u .1 → (Rebased.Done, v) ≡ runT at (relocate base (OldPlace old)) s
+unfolding relocate
+relocated at base old s {u} {v} h g =
+    given at Rebased.Done v
+    ∙ seq at (applyInternalRelocations base old) u (ret Rebased.Done) g
+    ∙ seq at (moveTables true base pointerTables) s (applyInternalRelocations base old >> ret Rebased.Done) h
 
 not-not : (b c : Bool) → not b ≡ c → b ≡ not c
 not-not true c e = ap not e
 not-not false c e = ap not e
 
-module _ (at base : ℕ) (segments : Prog Moved) (w : List ℕ) {word : ℕ} {m : Bool} (e : word ≡ run at (field base magic) w .0)
+module _ (at base : ℕ) (segments : Prog Moved) (s : S) {word : ℕ} {m : Bool} {s₁ : S} (e : (word, s₁) ≡ runT at (field base magic) s)
     (d : m ≡ isMagic word) where
   rebase-is
-      : run at (if m then moveHeader true base >> (segments >>= relocate base) else ret Rebased.NotACro) w ≡ run at (rebaseWith base segments) w
-  unfolding rebaseWith field run _>>=_
-  rebase-is = rw (d, e)
+      : runT at (if m then moveHeader true base >> (segments >>= relocate base) else ret Rebased.NotACro) s₁ ≡ runT at (rebaseWith base segments) s
+  unfolding rebaseWith field
+  rebase-is =
+      rw d (gives at (get32 (base ⊕ magic)) s
+      (λ word. if isMagic word then moveHeader true base >> (segments >>= relocate base) else ret Rebased.NotACro) e)
 
-  pub rebase-not : not m ≡ true → (Rebased.NotACro, w) ≡ run at (rebaseWith base segments) w
-  unfolding run
-  rebase-not f = rw (not-not m true f, run) at rebase-is
+  pub rebase-not : not m ≡ true → (Rebased.NotACro, s₁) ≡ runT at (rebaseWith base segments) s
+  unfolding runT
+  rebase-not f = rw (not-not m true f, runT) at rebase-is
 
-  module _ (f : not m ≡ false) {u v : List ℕ} {x : Moved} (h : u ≡ run at (moveHeader true base) w .1) (s : (x, v) ≡ run at segments u) where
-    rebase-on : run at (relocate base x) v ≡ run at (rebaseWith base segments) w
+  module _ (f : not m ≡ false) {u v : S} {x : Moved} (h : u ≡ runT at (moveHeader true base) s₁ .1) (g : (x, v) ≡ runT at segments u) where
+    rebase-on : runT at (relocate base x) v ≡ runT at (rebaseWith base segments) s
     rebase-on =
-        gives at segments u (relocate base) s
-        ∙ seq at (moveHeader true base) w (segments >>= relocate base) h
+        gives at segments u (relocate base) g
+        ∙ seq at (moveHeader true base) s₁ (segments >>= relocate base) h
         ∙ rw (not-not m false f) at rebase-is
 
-    pub rebase-bad : x ≡ Bad → (Rebased.BadSegment, v) ≡ run at (rebaseWith base segments) w
-    unfolding relocate run
-    rebase-bad b = rw (b, relocate, run) at rebase-on
+    pub rebase-bad : x ≡ Bad → (Rebased.BadSegment, v) ≡ runT at (rebaseWith base segments) s
+    unfolding relocate runT
+    rebase-bad b = rw (b, relocate, runT) at rebase-on
 
     pub rebase-good
-        : {old : ℕ} {r : Rebased × List ℕ} → x ≡ OldPlace old → r ≡ run at (relocate base (OldPlace old)) v
-        → r ≡ run at (rebaseWith base segments) w
-    rebase-good b g = g ∙ ap (λ x. run at (relocate base x) v) (sym b) ∙ rebase-on
+        : {old : ℕ} {r : Rebased × S} → x ≡ OldPlace old → r ≡ runT at (relocate base (OldPlace old)) v
+        → r ≡ runT at (rebaseWith base segments) s
+    rebase-good b k = k ∙ ap (λ x. runT at (relocate base x) v) (sym b) ∙ rebase-on
 
--- the lookups of an initialize leave the window as it is
-pub looked-at : (at base : ℕ) (w : List ℕ) → (OldPlace 0, w) ≡ run at (lookAtSegments base >> ret (OldPlace 0)) w
-unfolding lookAtSegments Reads run
-looked-at at base w =
-    let look : Reads (lookAtSegments base) =
-    reads-bind (field base segmentNum) _ (field-reads base segmentNum)
-    (λ n. loop-reads _ 0 n tt (λ j _. reads-bind (segment base j) (λ _. ret tt) (segment-reads base j) (λ _. tt))) in
-    sym (after-reads at (lookAtSegments base) (λ _. ret (OldPlace 0)) w look)
+-- an initialize's segments: looked up, and the old place counts from 0
+pub looked-at
+    : (at base : ℕ) (s : S) {u : S} → u ≡ runT at (lookAtSegments base) s .1 → (OldPlace 0, u) ≡ runT at (lookAtSegments base >> ret (OldPlace 0)) s
+looked-at at base s {u} h = given at (OldPlace 0) u ∙ seq at (lookAtSegments base) s (ret (OldPlace 0)) h

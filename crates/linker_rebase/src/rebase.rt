@@ -4,6 +4,7 @@ ghost use Rattle.window.specs.Trace.{runT};
 ghost use Rattle.linker.specs.declared.rebase.Moved.the-variants.{OldPlace};
 ghost use Rattle.linker.specs.Rebase.{isMagic};
 ghost use Rattle.linker.specs.Calls.{relocate, rebase, rebaseStatic};
+use super::segments::look_at_segments;
 use super::segments::move_segments;
 use super::tables::move_tables;
 use super::words::move_header;
@@ -48,7 +49,7 @@ pub fn rebase(at: u32, w: &mut [u8], trace: &mut [u8], lent: Lent) -> Rebased
     relocate(at, w, trace, base, old)
 }
 
-// Prepares the static module: its segments are the main program's, already addresses, and stay as they are.
+// Prepares the static module: its segments are the main program's, already addresses, and are only looked up.
 pub fn rebase_static(at: u32, w: &mut [u8], trace: &mut [u8], base: u32) -> Rebased
     ensures { λ r. ⌜ (r, (now (w .exit), now (trace .exit))) ≡ runT at (rebaseStatic base) (now (w .entry), now (trace .entry)) ⌝ }
 {
@@ -56,5 +57,6 @@ pub fn rebase_static(at: u32, w: &mut [u8], trace: &mut [u8], base: u32) -> Reba
         return Rebased::NotACro;
     }
     move_header(at, w, trace, true, base);
+    look_at_segments(at, w, trace, base);
     relocate(at, w, trace, base, 0)
 }

@@ -2,7 +2,7 @@
 ghost use mathlib.Core.Path.{_≡_};
 ghost use Rattle.window.specs.Trace.{runT};
 ghost use Rattle.linker.specs.declared.rebase.Moved.the-variants.{OldPlace};
-ghost use Rattle.linker.specs.Rebase.{at-offset, lentPlace, movedPlace, place, writeBack, moveSegment, moveSegments};
+ghost use Rattle.linker.specs.Rebase.{at-offset, lentPlace, movedPlace, place, writeBack, moveSegment, moveSegments, lookAtSegments};
 use layout::fields::field;
 use layout::format::Segment;
 use layout::format::SegmentType;
@@ -117,4 +117,17 @@ pub fn move_segments(at: u32, w: &mut [u8], trace: &mut [u8], lent: Lent) -> Mov
         old = next;
     }
     Moved::OldPlace(old)
+}
+
+// Looks every segment up and changes none. Once a touch is kept the lookups left cannot add one, however many a false count asks for.
+pub fn look_at_segments(at: u32, w: &[u8], trace: &mut [u8], base: u32)
+    ensures { λ _. ⌜ (now (w .entry), now (trace .exit)) ≡ runT at (lookAtSegments base) (now (w .entry), now (trace .entry)) .1 ⌝ }
+{
+    let count = field(at, w, trace, base, SEGMENT_NUM);
+    for i in 0..count {
+        if window::said(trace) {
+            return;
+        }
+        segment(at, w, trace, base, i);
+    }
 }

@@ -1,23 +1,24 @@
 -- From the code's calls and branches to the programs of `Unrebase`.
 use Prim.Native.Nat.{ℕ, _+_, _-_, _%_, _^_, _<_}
-use mathlib.Core.Path.{_≡_, sym, ap, _∙_}
-use mathlib.Core.List.{List}
+use mathlib.Core.Path.{_≡_, ap, _∙_}
 use mathlib.Core.Bool.{false}
 use native.Mathlib.Omega.{arith}
 use borrow.Author.Tests.{eq-eqb, ne-eqb}
-use Rattle.window.specs.Access.{_>>_, run}
+use Rattle.window.specs.Access.{_>>_}
 use Rattle.window.specs.Loop.{loop}
+use Rattle.window.specs.Trace.{S, runT}
+use Rattle.window.specs.TraceRuns.{given, gives, then-it, two, left}
 use Rattle.layout.specs.Header.{segmentNum, fixedSize}
 use Rattle.layout.specs.Tables.{pointerTables}
-use Rattle.layout.specs.Segments.{field, field-reads, setField, segment, segment-reads, setSegment}
+use Rattle.layout.specs.Segments.{field, setField, segment, setSegment}
 use Rattle.layout.specs.declared.format.Segment.{Segment}
 use Rattle.layout.specs.declared.format.SegmentType.{SegmentType}
 use Rattle.layout.specs.declared.format.SegmentType.the-variants.{Code, RoData, Data, Bss}
+use Rattle.layout.specs.declared.segments.FoundSegment.{FoundSegment}
 use Rattle.layout.specs.declared.segments.FoundSegment.the-variants.{Found, Missing}
 use Rattle.layout.proofs.Laws.{difference}
 use Rattle.linker.specs.Rebase.{moveHeader, at-offset, moveTables}
 use Rattle.linker.specs.Unrebase.{offsetBack, leavesAs, unmoveFound, unmoveSegment, unmoveSegments, unrebase}
-use Rattle.linker_relocation.specs.Runs.{after-reads, seq, reads, left}
 
 module _ (base x : ℕ) where
   pub back-none : x ≡ 0 → 0 ≡ offsetBack base x
@@ -46,36 +47,35 @@ module _ (base : ℕ) (s : Segment) {k : SegmentType} {z : Segment} where
   unfolding leavesAs
   leaves-bss h c = rw c h
 
-module _ (at base i : ℕ) (w : List ℕ) where
-  unmove-is : run at (unmoveSegment base i) w ≡ run at (unmoveFound base i (run at (segment base i) w .0)) w
+module _ (at base i : ℕ) (s : S) {found : FoundSegment} {s₁ : S} (e : (found, s₁) ≡ runT at (segment base i) s) where
+  unmove-is : {v : S} → v ≡ runT at (unmoveFound base i found) s₁ .1 → v ≡ runT at (unmoveSegment base i) s .1
   unfolding unmoveSegment
-  unmove-is = after-reads at (segment base i) (unmoveFound base i) w (segment-reads base i)
+  unmove-is h = then-it at (segment base i) s (unmoveFound base i) e h
 
-  pub unmove-passed : run at (segment base i) w .0 ≡ Missing → w ≡ run at (unmoveSegment base i) w .1
-  unfolding unmoveFound run
-  unmove-passed e = ap left (sym (unmove-is ∙ rw (e, unmoveFound, run)))
+  pub unmove-passed : found ≡ Missing → s₁ ≡ runT at (unmoveSegment base i) s .1
+  unfolding unmoveFound
+  unmove-passed m = unmove-is (rw (m, unmoveFound) (ap left (given at tt s₁)))
 
   pub unmoved
-      : {s z : Segment} {v : List ℕ} → run at (segment base i) w .0 ≡ Found s → z ≡ leavesAs base s (s .kind)
-      → v ≡ run at (setSegment base i z) w .1 → v ≡ run at (unmoveSegment base i) w .1
+      : {z y : Segment} {v : S} → found ≡ Found z → y ≡ leavesAs base z (z .kind) → v ≡ runT at (setSegment base i y) s₁ .1
+      → v ≡ runT at (unmoveSegment base i) s .1
   unfolding unmoveFound
-  unmoved e l h = h ∙ ap left (sym (unmove-is ∙ rw (e, unmoveFound, ← l)))
+  unmoved m l h = unmove-is (rw (m, unmoveFound, ← l) h)
 
 pub unmove-starts
-    : (at base : ℕ) (w : List ℕ) {n : ℕ} → n ≡ run at (field base segmentNum) w .0
-    → run at (loop (λ i _. unmoveSegment base i) 0 (n - 0) tt) w ≡ run at (unmoveSegments base) w
+    : (at base : ℕ) (s : S) {n : ℕ} {s₁ : S} → (n, s₁) ≡ runT at (field base segmentNum) s
+    → runT at (loop (λ i _. unmoveSegment base i) 0 (n - 0) tt) s₁ ≡ runT at (unmoveSegments base) s
 unfolding unmoveSegments
-unmove-starts at base w {n} e =
-    let z : n - 0 ≡ n = omega arith in
-    rw z (reads at (field base segmentNum) w (λ n. loop (λ i _. unmoveSegment base i) 0 n tt) (field-reads base segmentNum) e)
+unmove-starts at base s {n} e =
+    let z : n - 0 ≡ n = omega arith in rw z (gives at (field base segmentNum) s (λ n. loop (λ i _. unmoveSegment base i) 0 n tt) e)
 
 pub unrebased
-    : (at base : ℕ) (w : List ℕ) {w₁ w₂ w₃ v : List ℕ} → w₁ ≡ run at (moveTables false base pointerTables) w .1
-    → w₂ ≡ run at (unmoveSegments base) w₁ .1 → w₃ ≡ run at (moveHeader false base) w₂ .1 → v ≡ run at (setField base fixedSize 0) w₃ .1
-    → v ≡ run at (unrebase base) w .1
+    : (at base : ℕ) (s : S) {s₁ s₂ s₃ v : S} → s₁ ≡ runT at (moveTables false base pointerTables) s .1
+    → s₂ ≡ runT at (unmoveSegments base) s₁ .1 → s₃ ≡ runT at (moveHeader false base) s₂ .1 → v ≡ runT at (setField base fixedSize 0) s₃ .1
+    → v ≡ runT at (unrebase base) s .1
 unfolding unrebase
-unrebased at base w {w₁} {w₂} {w₃} a b c d =
+unrebased at base s {s₁} {s₂} {s₃} a b c d =
     let last = setField base fixedSize 0 in
     let header = moveHeader false base >> last in
-    d ∙ ap left (seq at (moveHeader false base) w₂ last c ∙ seq at (unmoveSegments base) w₁ header b
-    ∙ seq at (moveTables false base pointerTables) w (unmoveSegments base >> header) a)
+    two at (moveTables false base pointerTables) s (unmoveSegments base >> header) a
+    (two at (unmoveSegments base) s₁ header b (two at (moveHeader false base) s₂ last c d))

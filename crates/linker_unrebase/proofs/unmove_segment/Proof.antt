@@ -1,5 +1,4 @@
 -- No such segment, or its offset back.
-use mathlib.Core.Path.{sym, _∙_}
 use borrow.Author.Needs.{needs}
 use Rattle.linker_unrebase.proofs.Laws.{unmove-passed, unmoved}
 use Rattle.linker_unrebase.proofs.unmove_segment.Statement.{statement}
@@ -17,12 +16,15 @@ enum-told c = search needs
 same-length : tie.Need-same-length
 same-length c = search needs
 
+same-length-2 : tie.Need-same-length-2
+same-length-2 c = search needs
+
 returns : tie.Need-returns
 returns c =
-    let p2 = c .before .before in
-    let p5 = p2 .before .before .before in
-    let a = p5 .args in
-    unmove-passed (a .at) (a .base) (a .index) (a .w .now) (sym (p2 .segment .ensures) ∙ c .enum-told .given .1)
+    let p4 = c .before .before .before .before in
+    let p9 = p4 .before .before .before .before .before in
+    let a = p9 .args in
+    unmove-passed (a .at) (a .base) (a .index) (a .w .now, a .trace .now) (p4 .segment .ensures) (c .enum-told .given .1)
 
 leaves-as-requires : tie.Need-leaves-as-requires
 leaves-as-requires c κs = search needs
@@ -30,19 +32,22 @@ leaves-as-requires c κs = search needs
 set-segment-requires : tie.Need-set-segment-requires
 set-segment-requires c κs = search needs
 
-same-length-2 : tie.Need-same-length-2
-same-length-2 c = search needs
+same-length-3 : tie.Need-same-length-3
+same-length-3 c = search needs
+
+same-length-4 : tie.Need-same-length-4
+same-length-4 c = search needs
 
 returns-2 : tie.Need-returns-2
 returns-2 c =
-    let p2 = c .before .before in
-    let p3 = p2 .before in
-    let p6 = p3 .before .before .before in
-    let p8 = p6 .before .before in
-    let p11 = p8 .before .before .before in
-    let a = p11 .args in
-    unmoved (a .at) (a .base) (a .index) (a .w .now) (sym (p8 .segment .ensures) ∙ p6 .s .given .1) (p3 .leaves-as .ensures)
-    (p2 .set-segment .ensures)
+    let p4 = c .before .before .before .before in
+    let p5 = p4 .before in
+    let p9 = p5 .before .before .before .before in
+    let p13 = p9 .before .before .before .before in
+    let p18 = p13 .before .before .before .before .before in
+    let a = p18 .args in
+    unmoved (a .at) (a .base) (a .index) (a .w .now, a .trace .now) (p13 .segment .ensures) (p9 .s .given .1)
+    (p5 .leaves-as .ensures) (p4 .set-segment .ensures)
 
 pub unmove-segment-spec : {M : Type 1} → statement M
 unmove-segment-spec =
@@ -52,8 +57,10 @@ unmove-segment-spec =
     enum-known-s
     enum-told
     same-length
+    same-length-2
     returns
     leaves-as-requires
     set-segment-requires
-    same-length-2
+    same-length-3
+    same-length-4
     returns-2)

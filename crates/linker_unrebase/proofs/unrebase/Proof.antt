@@ -19,16 +19,19 @@ set-field-requires c κs = search needs
 same-length : tie.Need-same-length
 same-length c = search needs
 
+same-length-2 : tie.Need-same-length-2
+same-length-2 c = search needs
+
 returns : tie.Need-returns
 returns c =
-    let p2 = c .before .before in
-    let p6 = p2 .before .before .before .before in
-    let p10 = p6 .before .before .before .before in
-    let p14 = p10 .before .before .before .before in
-    let p17 = p14 .before .before .before in
-    let a = p17 .args in
-    unrebased (a .at) (a .base) (a .w .now) (p14 .move-tables .ensures) (p10 .unmove-segments .ensures) (p6 .move-header .ensures)
-    (p2 .set-field .ensures)
+    let p4 = c .before .before .before .before in
+    let p11 = p4 .before .before .before .before .before .before .before in
+    let p18 = p11 .before .before .before .before .before .before .before in
+    let p25 = p18 .before .before .before .before .before .before .before in
+    let p30 = p25 .before .before .before .before .before in
+    let a = p30 .args in
+    unrebased (a .at) (a .base) (a .w .now, a .trace .now) (p25 .move-tables .ensures) (p18 .unmove-segments .ensures) (p11 .move-header .ensures)
+    (p4 .set-field .ensures)
 
 pub unrebase-spec : {M : Type 1} → statement M
 unrebase-spec =
@@ -39,4 +42,5 @@ unrebase-spec =
     move-header-requires
     set-field-requires
     same-length
+    same-length-2
     returns)

@@ -18,38 +18,48 @@ is-magic-requires c κs = search needs
 same-length : tie.Need-same-length
 same-length c = search needs
 
+same-length-2 : tie.Need-same-length-2
+same-length-2 c = search needs
+
 returns : tie.Need-returns
 unfolding rebaseStatic
 returns c =
     let p1 = c .before in
-    let p2 = p1 .before in
-    let p5 = p2 .before .before .before in
-    let a = p5 .args in
-    rebase-not (a .at) (a .base) (lookAtSegments (a .base) >> ret (OldPlace 0)) (a .w .now) (p2 .field .ensures) (p1 .is-magic .ensures)
+    let p4 = p1 .before .before .before in
+    let p9 = p4 .before .before .before .before .before in
+    let a = p9 .args in
+    rebase-not (a .at) (a .base) (lookAtSegments (a .base) >> ret (OldPlace 0)) (a .w .now, a .trace .now) (p4 .field .ensures) (p1 .is-magic .ensures)
     (c .if1 .taken)
 
 move-header-requires : tie.Need-move-header-requires
 move-header-requires c κs = search needs
 
+look-at-segments-requires : tie.Need-look-at-segments-requires
+look-at-segments-requires c κs = search needs
+
 relocate-requires : tie.Need-relocate-requires
 relocate-requires c κs = search needs
 
-same-length-2 : tie.Need-same-length-2
-same-length-2 c = search needs
+same-length-3 : tie.Need-same-length-3
+same-length-3 c = search needs
+
+same-length-4 : tie.Need-same-length-4
+same-length-4 c = search needs
 
 returns-2 : tie.Need-returns-2
 unfolding rebaseStatic
 returns-2 c =
-    let p2 = c .before .before in
-    let p6 = p2 .before .before .before .before in
-    let p8 = p6 .before .before in
-    let p9 = p8 .before in
-    let p10 = p9 .before in
-    let p13 = p10 .before .before .before in
-    let a = p13 .args in
-    rebase-good (a .at) (a .base) (lookAtSegments (a .base) >> ret (OldPlace 0)) (a .w .now) (p10 .field .ensures) (p9 .is-magic .ensures)
-    (p8 .if1 .left)
-    (p6 .move-header .ensures) (looked-at (a .at) (a .base) _) refl (p2 .relocate .ensures)
+    let p4 = c .before .before .before .before in
+    let p9 = p4 .before .before .before .before .before in
+    let p16 = p9 .before .before .before .before .before .before .before in
+    let p19 = p16 .before .before .before in
+    let p20 = p19 .before in
+    let p23 = p20 .before .before .before in
+    let p28 = p23 .before .before .before .before .before in
+    let a = p28 .args in
+    rebase-good (a .at) (a .base) (lookAtSegments (a .base) >> ret (OldPlace 0)) (a .w .now, a .trace .now)
+    (p23 .field .ensures) (p20 .is-magic .ensures) (p19 .if1 .left) (p16 .move-header .ensures)
+    (looked-at (a .at) (a .base) _ (p9 .look-at-segments .ensures)) refl (p4 .relocate .ensures)
 
 pub rebase-static-spec : {M : Type 1} → statement M
 rebase-static-spec =
@@ -58,8 +68,11 @@ rebase-static-spec =
     field-requires
     is-magic-requires
     same-length
+    same-length-2
     returns
     move-header-requires
+    look-at-segments-requires
     relocate-requires
-    same-length-2
+    same-length-3
+    same-length-4
     returns-2)

@@ -13,15 +13,23 @@ apply-internal-relocations-requires c κs = search needs
 same-length : tie.Need-same-length
 same-length c = search needs
 
+same-length-2 : tie.Need-same-length-2
+same-length-2 c = search needs
+
 returns : tie.Need-returns
 returns c =
-    let p2 = c .before .before in
-    let p6 = p2 .before .before .before .before in
-    let p9 = p6 .before .before .before in
-    let a = p9 .args in
-    relocated (a .at) (a .base) (a .old) (a .w .now) (p6 .move-tables .ensures) (p2 .apply-internal-relocations .ensures)
+    let p4 = c .before .before .before .before in
+    let p11 = p4 .before .before .before .before .before .before .before in
+    let p16 = p11 .before .before .before .before .before in
+    let a = p16 .args in
+    relocated (a .at) (a .base) (a .old) (a .w .now, a .trace .now) (p11 .move-tables .ensures) (p4 .apply-internal-relocations .ensures)
 
 pub relocate-spec : {M : Type 1} → statement M
 relocate-spec =
     tie.close
-    (tie.spec move-tables-requires apply-internal-relocations-requires same-length returns)
+    (tie.spec
+    move-tables-requires
+    apply-internal-relocations-requires
+    same-length
+    same-length-2
+    returns)

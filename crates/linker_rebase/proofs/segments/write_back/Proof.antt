@@ -12,9 +12,9 @@ enum-told c = search needs
 
 returns : tie.Need-returns
 returns c =
-    let p3 = c .before .before .before in
-    let a = p3 .args in
-    back-refused (a .at) (a .base) (a .index) (a .w .now) (c .enum-told .given .1)
+    let p4 = c .before .before .before .before in
+    let a = p4 .args in
+    back-refused (a .at) (a .base) (a .index) (a .w .now, a .trace .now) (c .enum-told .given .1)
 
 set-segment-requires : tie.Need-set-segment-requires
 set-segment-requires c κs = search needs
@@ -22,15 +22,25 @@ set-segment-requires c κs = search needs
 same-length : tie.Need-same-length
 same-length c = search needs
 
+same-length-2 : tie.Need-same-length-2
+same-length-2 c = search needs
+
 returns-2 : tie.Need-returns-2
 returns-2 c =
-    let p2 = c .before .before in
-    let p5 = p2 .before .before .before in
-    let p8 = p5 .before .before .before in
-    let a = p8 .args in
-    back-put (a .at) (a .base) (a .index) (a .w .now) (p5 .placed .given .1) (p2 .set-segment .ensures)
+    let p4 = c .before .before .before .before in
+    let p8 = p4 .before .before .before .before in
+    let p12 = p8 .before .before .before .before in
+    let a = p12 .args in
+    back-put (a .at) (a .base) (a .index) (a .w .now, a .trace .now) (p8 .placed .given .1) (p4 .set-segment .ensures)
 
 pub write-back-spec : {M : Type 1} → statement M
 write-back-spec =
     tie.close
-    (tie.spec enum-known-placed enum-told returns set-segment-requires same-length returns-2)
+    (tie.spec
+    enum-known-placed
+    enum-told
+    returns
+    set-segment-requires
+    same-length
+    same-length-2
+    returns-2)

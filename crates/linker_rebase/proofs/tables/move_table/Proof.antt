@@ -1,27 +1,28 @@
 -- No table, or a counted loop over it: `table-none`, `table-starts`, `step-made`, `steps-over`.
 use Prim.Native.Nat.{_-_, _≤_}
-use mathlib.Core.Path.{_≡_, refl, _∙_}
+use mathlib.Core.Path.{_≡_, refl, _∙_, ap}
 use native.Mathlib.Omega.{arith}
 use lib.ListN.{length}
 use borrow.Author.Needs.{needs}
-use Rattle.window.specs.Access.{run}
+use Rattle.window.specs.Trace.{runT}
 use Rattle.window.specs.Loop.{loop}
 use Rattle.layout.specs.Segments.{entryAt}
-use Rattle.linker.specs.Rebase.{movePointers, pointersOf, moveTable}
-use Rattle.linker_relocation.specs.Runs.{step-made, steps-over}
+use Rattle.linker.specs.Rebase.{movePointers, pointersOf}
+use Rattle.window.specs.TraceRuns.{step-made, steps-over, left}
 use Rattle.linker_rebase.proofs.Laws.{table-none, table-starts}
 use Rattle.linker_rebase.proofs.tables.move_table.Statement.{statement}
 use Rattle.linker_rebase.proofs.tables.move_table.Tie as tie
 
 abbrev Inv-loop : tie.InvT-loop
-Inv-loop at w₀ forward base t table count index₀ w index =
+Inv-loop at w₀ trace₀ forward base t table count index₀ w trace index =
     (index ≤ count)
     × (length w ≡ length w₀)
-    × (run at (loop (λ i _. movePointers forward base (entryAt table i (t .«entry_size»)) (pointersOf t)) index (count - index) tt) w
-    ≡ run at (moveTable forward base t) w₀)
+    × (runT at (loop (λ i _. movePointers forward base (entryAt table i (t .«entry_size»)) (pointersOf t)) index (count - index) tt) (w, trace)
+    ≡ runT at (loop (λ i _. movePointers forward base (entryAt table i (t .«entry_size»)) (pointersOf t)) 0 (count - 0) tt) (w₀, trace₀))
+    × (length trace ≡ length trace₀)
 
 abbrev μ-loop : tie.MeasureT-loop
-μ-loop at w₀ forward base t table count index₀ w index = count - index
+μ-loop at w₀ trace₀ forward base t table count index₀ w trace index = count - index
 
 field-requires : tie.Need-field-requires Inv-loop μ-loop
 field-requires c κs = search needs
@@ -32,24 +33,20 @@ field-requires-2 c κs = search needs
 same-length : tie.Need-same-length Inv-loop μ-loop
 same-length c = search needs
 
+same-length-2 : tie.Need-same-length-2 Inv-loop μ-loop
+same-length-2 c = search needs
+
 returns : tie.Need-returns Inv-loop μ-loop
 returns c =
-    let p1 = c .before in
-    let p3 = p1 .before .before in
-    let p6 = p3 .before .before .before in
-    let a = p6 .args in
-    table-none (a .at) (a .forward) (a .base) (a .base) (a .w .now) (a .t) (p3 .field .ensures) (p1 .field2 .ensures) (c .if1 .taken)
+    let p3 = c .before .before .before in
+    let p8 = p3 .before .before .before .before .before in
+    let p13 = p8 .before .before .before .before .before in
+    let a = p13 .args in
+    table-none (a .at) (a .forward) (a .base) (a .w .now, a .trace .now) (a .t) (p8 .field .ensures) (p3 .field2 .ensures)
+    (c .if1 .taken)
 
 loop-holds : tie.Need-loop-holds Inv-loop μ-loop
-loop-holds c =
-    let p1 = c .before in
-    let p3 = p1 .before .before in
-    let p6 = p3 .before .before .before in
-    let a = p6 .args in (
-      omega arith,
-      refl,
-      table-starts (a .at) (a .forward) (a .base) (a .base) (a .w .now) (a .t) (p3 .field .ensures) (p1 .field2 .ensures) (c .if1 .left),
-    )
+loop-holds c = (omega arith, refl, refl, refl)
 
 entry-address-requires : tie.Need-entry-address-requires Inv-loop μ-loop
 entry-address-requires c κs = search needs
@@ -65,36 +62,48 @@ loop-less c = omega arith
 
 loop-again : tie.Need-loop-again Inv-loop μ-loop
 loop-again c =
-    let p2 = c .before .before in
-    let p4 = p2 .before .before in
-    let p5 = p4 .before in
-    let p6 = p5 .before in
-    let p8 = p6 .before .before in
-    let p10 = p8 .before .before in
-    let p13 = p10 .before .before .before in
-    let a = p13 .args in (
+    let p4 = c .before .before .before .before in
+    let p7 = p4 .before .before .before in
+    let p8 = p7 .before in
+    let p9 = p8 .before in
+    let p13 = p9 .before .before .before .before in
+    let p18 = p13 .before .before .before .before .before in
+    let p23 = p18 .before .before .before .before .before in
+    let a = p23 .args in (
       omega arith,
-      p2 .move-pointers .kept .1 .0 ∙ p6 .loop .inv .1,
-      step-made (a .at) (λ e. movePointers (a .forward) (a .base) e (pointersOf (a .t))) (λ i. entryAt (p10 .field .result) i
-          (a .t .«entry_size»))
-          (p6 .loop .index) (p8 .field2 .result) (p6 .loop .w) (p6 .loop .inv .2) (p5 .loop-test .taken) (p4 .entry-address .ensures)
-          (p2 .move-pointers .ensures),
+      p4 .move-pointers .kept .1 .0 ∙ p9 .loop .inv .1,
+      step-made (a .at) (λ e. movePointers (a .forward) (a .base) e (pointersOf (a .t)))
+          (λ i. entryAt (p18 .field .result) i (a .t .«entry_size»))
+          (p9 .loop .index) (p13 .field2 .result) (p9 .loop .w, p9 .loop .trace) (p9 .loop .inv .2) (p8 .loop-test .taken) (p7 .entry-address .ensures)
+          (p4 .move-pointers .ensures),
+      p4 .move-pointers .kept .1 .1 .0 ∙ p9 .loop .inv .3,
     )
 
-same-length-2 : tie.Need-same-length-2 Inv-loop μ-loop
-same-length-2 c =
+same-length-3 : tie.Need-same-length-3 Inv-loop μ-loop
+same-length-3 c =
     let p1 = c .before in
     p1 .loop .inv .1
+
+same-length-4 : tie.Need-same-length-4 Inv-loop μ-loop
+same-length-4 c =
+    let p1 = c .before in
+    let p5 = p1 .before .before .before .before in
+    let p10 = p5 .before .before .before .before .before in
+    p1 .loop .inv .3 ∙ p5 .field2 .kept .1 .1 .0 ∙ p10 .field .kept .1 .1 .0
 
 returns-2 : tie.Need-returns-2 Inv-loop μ-loop
 returns-2 c =
     let p1 = c .before in
-    let p3 = p1 .before .before in
-    let p5 = p3 .before .before in
-    let p8 = p5 .before .before .before in
-    let a = p8 .args in
-    steps-over (a .at) (λ e. movePointers (a .forward) (a .base) e (pointersOf (a .t))) (λ i. entryAt (p5 .field .result) i (a .t .«entry_size»))
-    (p1 .loop .index) (p3 .field2 .result) (p1 .loop .w) (p1 .loop .inv .2) (c .loop-test .left)
+    let p2 = p1 .before in
+    let p5 = p2 .before .before .before in
+    let p10 = p5 .before .before .before .before .before in
+    let p15 = p10 .before .before .before .before .before in
+    let a = p15 .args in
+    steps-over (a .at) (λ e. movePointers (a .forward) (a .base) e (pointersOf (a .t)))
+    (λ i. entryAt (p10 .field .result) i (a .t .«entry_size»))
+    (p1 .loop .index) (p5 .field2 .result) (p1 .loop .w, p1 .loop .trace) (p1 .loop .inv .2) (c .loop-test .left)
+    ∙ ap left (table-starts (a .at) (a .forward) (a .base) (a .w .now, a .trace .now) (a .t) (p10 .field .ensures)
+    (p5 .field2 .ensures) (p2 .if1 .left))
 
 pub move-table-spec : {M : Type 1} → statement M
 move-table-spec =
@@ -105,6 +114,7 @@ move-table-spec =
     field-requires
     field-requires-2
     same-length
+    same-length-2
     returns
     loop-holds
     entry-address-requires
@@ -112,5 +122,6 @@ move-table-spec =
     add-index
     loop-less
     loop-again
-    same-length-2
+    same-length-3
+    same-length-4
     returns-2)

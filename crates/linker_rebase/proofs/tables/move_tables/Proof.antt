@@ -4,7 +4,7 @@ use mathlib.Core.Path.{_≡_, refl, _∙_}
 use native.Mathlib.Omega.{arith}
 use lib.ListN.{length, drop}
 use borrow.Author.Needs.{needs}
-use Rattle.window.specs.Access.{run}
+use Rattle.window.specs.Trace.{runT}
 use Rattle.layout.specs.Tables.{pointerTables}
 use Rattle.linker.specs.Rebase.{moveTables}
 use Rattle.linker_rebase.proofs.Laws.{tables-turn, tables-over}
@@ -12,16 +12,17 @@ use Rattle.linker_rebase.proofs.tables.move_tables.Statement.{statement
 use Rattle.linker_rebase.proofs.tables.move_tables.Tie as tie
 
 abbrev Inv-loop : tie.InvT-loop
-Inv-loop at w₀ forward base i₀ w i =
+Inv-loop at w₀ trace₀ forward base i₀ w trace i =
     (i ≤ 5)
     × (length w ≡ length w₀)
-    × (run at (moveTables forward base (drop i pointerTables)) w ≡ run at (moveTables forward base pointerTables) w₀)
+    × (runT at (moveTables forward base (drop i pointerTables)) (w, trace) ≡ runT at (moveTables forward base pointerTables) (w₀, trace₀))
+    × (length trace ≡ length trace₀)
 
 abbrev μ-loop : tie.MeasureT-loop
-μ-loop at w₀ forward base i₀ w i = 5 - i
+μ-loop at w₀ trace₀ forward base i₀ w trace i = 5 - i
 
 loop-holds : tie.Need-loop-holds Inv-loop μ-loop
-loop-holds c = (omega arith, refl, refl)
+loop-holds c = (omega arith, refl, refl, refl)
 
 pointer-table-requires : tie.Need-pointer-table-requires Inv-loop μ-loop
 pointer-table-requires c κs = search needs
@@ -37,16 +38,17 @@ loop-less c = omega arith
 
 loop-again : tie.Need-loop-again Inv-loop μ-loop
 loop-again c =
-    let p2 = c .before .before in
-    let p3 = p2 .before in
-    let p5 = p3 .before .before in
-    let p6 = p5 .before in
-    let p8 = p6 .before .before in
-    let a = p8 .args in (
+    let p4 = c .before .before .before .before in
+    let p5 = p4 .before in
+    let p8 = p5 .before .before .before in
+    let p9 = p8 .before in
+    let p12 = p9 .before .before .before in
+    let a = p12 .args in (
       omega arith,
-      p2 .move-table .kept .1 .0 ∙ p6 .loop .inv .1,
-      tables-turn (a .at) (a .forward) (a .base) (p6 .loop .i) (p6 .loop .w) (p6 .loop .inv .2) (p5 .loop-test .taken)
-          (p3 .pointer-table .ensures) (p2 .move-table .ensures),
+      p4 .move-table .kept .1 .0 ∙ p9 .loop .inv .1,
+      tables-turn (a .at) (a .forward) (a .base) (p9 .loop .i) (p9 .loop .w, p9 .loop .trace) (p9 .loop .inv .2) (p8 .loop-test .taken)
+          (p5 .pointer-table .ensures) (p4 .move-table .ensures),
+      p4 .move-table .kept .1 .1 .0 ∙ p9 .loop .inv .3,
     )
 
 same-length : tie.Need-same-length Inv-loop μ-loop
@@ -54,12 +56,17 @@ same-length c =
     let p1 = c .before in
     p1 .loop .inv .1
 
+same-length-2 : tie.Need-same-length-2 Inv-loop μ-loop
+same-length-2 c =
+    let p1 = c .before in
+    p1 .loop .inv .3
+
 returns : tie.Need-returns Inv-loop μ-loop
 returns c =
     let p1 = c .before in
-    let p3 = p1 .before .before in
-    let a = p3 .args in
-    tables-over (a .at) (a .forward) (a .base) (p1 .loop .i) (p1 .loop .w) (p1 .loop .inv .2) (c .loop-test .left)
+    let p4 = p1 .before .before .before in
+    let a = p4 .args in
+    tables-over (a .at) (a .forward) (a .base) (p1 .loop .i) (p1 .loop .w, p1 .loop .trace) (p1 .loop .inv .2) (c .loop-test .left)
 
 pub move-tables-spec : {M : Type 1} → statement M
 move-tables-spec =
@@ -74,4 +81,5 @@ move-tables-spec =
     loop-less
     loop-again
     same-length
+    same-length-2
     returns)

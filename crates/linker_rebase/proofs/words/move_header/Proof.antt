@@ -5,24 +5,25 @@ use native.Mathlib.Omega.{arith}
 use lib.ListN.{length}
 use borrow.Author.Needs.{needs}
 use Rattle.window.specs.Memory.{_⊕_}
-use Rattle.window.specs.Access.{run}
+use Rattle.window.specs.Trace.{runT}
 use Rattle.window.specs.Loop.{loop}
 use Rattle.layout.specs.Header.{firstRebased}
 use Rattle.linker.specs.Rebase.{moveWord}
-use Rattle.linker_relocation.specs.Runs.{step-made, steps-over, left}
+use Rattle.window.specs.TraceRuns.{step-made, steps-over, left}
 use Rattle.linker_rebase.proofs.Laws.{header-starts}
 use Rattle.linker_rebase.proofs.words.move_header.Statement.{statement}
 use Rattle.linker_rebase.proofs.words.move_header.Tie as tie
 
 abbrev Inv-loop : tie.InvT-loop
-Inv-loop at w₀ forward base i₀ w i =
+Inv-loop at w₀ trace₀ forward base i₀ w trace i =
     (i ≤ 17)
     × (length w ≡ length w₀)
-    × (run at (loop (λ i _. moveWord forward base (base ⊕ (firstRebased + 8 * i))) i (17 - i) tt) w
-    ≡ run at (loop (λ i _. moveWord forward base (base ⊕ (firstRebased + 8 * i))) 0 17 tt) w₀)
+    × (runT at (loop (λ i _. moveWord forward base (base ⊕ (firstRebased + 8 * i))) i (17 - i) tt) (w, trace)
+    ≡ runT at (loop (λ i _. moveWord forward base (base ⊕ (firstRebased + 8 * i))) 0 17 tt) (w₀, trace₀))
+    × (length trace ≡ length trace₀)
 
 abbrev μ-loop : tie.MeasureT-loop
-μ-loop at w₀ forward base i₀ w i = 17 - i
+μ-loop at w₀ trace₀ forward base i₀ w trace i = 17 - i
 
 wrapping-add-u32-requires : tie.Need-wrapping-add-u32-requires Inv-loop μ-loop
 wrapping-add-u32-requires c κs = search needs
@@ -31,7 +32,7 @@ move-word-requires : tie.Need-move-word-requires Inv-loop μ-loop
 move-word-requires c κs = search needs
 
 loop-holds : tie.Need-loop-holds Inv-loop μ-loop
-loop-holds c = (omega arith, refl, refl)
+loop-holds c = (omega arith, refl, refl, refl)
 
 mul-wrapping-add-u32 : tie.Need-mul-wrapping-add-u32 Inv-loop μ-loop
 mul-wrapping-add-u32 c = omega arith
@@ -53,34 +54,41 @@ loop-less c = omega arith
 
 loop-again : tie.Need-loop-again Inv-loop μ-loop
 loop-again c =
-    let p2 = c .before .before in
-    let p4 = p2 .before .before in
-    let p5 = p4 .before in
-    let p6 = p5 .before in
-    let p13 = p6 .before .before .before .before .before .before .before in
-    let a = p13 .args in (
+    let p4 = c .before .before .before .before in
+    let p7 = p4 .before .before .before in
+    let p8 = p7 .before in
+    let p9 = p8 .before in
+    let p20 = p9 .before .before .before .before .before .before .before .before .before .before .before in
+    let a = p20 .args in (
       omega arith,
-      p2 .move-word2 .kept .1 .0 ∙ p6 .loop .inv .1,
-      step-made (a .at) (moveWord (a .forward) (a .base)) (λ i. a .base ⊕ (firstRebased + 8 * i)) (p6 .loop .i) 17 (p6 .loop .w)
-          (p6 .loop .inv .2) (p5 .loop-test .taken) (p4 .wrapping-add-u322 .ensures) (p2 .move-word2 .ensures),
+      p4 .move-word2 .kept .1 .0 ∙ p9 .loop .inv .1,
+      step-made (a .at) (moveWord (a .forward) (a .base)) (λ i. a .base ⊕ (firstRebased + 8 * i)) (p9 .loop .i) 17
+          (p9 .loop .w, p9 .loop .trace) (p9 .loop .inv .2) (p8 .loop-test .taken) (p7 .wrapping-add-u322 .ensures) (p4 .move-word2 .ensures),
+      p4 .move-word2 .kept .1 .1 .0 ∙ p9 .loop .inv .3,
     )
 
 same-length : tie.Need-same-length Inv-loop μ-loop
 same-length c =
     let p1 = c .before in
-    let p4 = p1 .before .before .before in
-    p1 .loop .inv .1 ∙ p4 .move-word .kept .1 .0
+    let p6 = p1 .before .before .before .before .before in
+    p1 .loop .inv .1 ∙ p6 .move-word .kept .1 .0
+
+same-length-2 : tie.Need-same-length-2 Inv-loop μ-loop
+same-length-2 c =
+    let p1 = c .before in
+    let p6 = p1 .before .before .before .before .before in
+    p1 .loop .inv .3 ∙ p6 .move-word .kept .1 .1 .0
 
 returns : tie.Need-returns Inv-loop μ-loop
 returns c =
     let p1 = c .before in
-    let p4 = p1 .before .before .before in
-    let p5 = p4 .before in
-    let p8 = p5 .before .before .before in
-    let a = p8 .args in
-    steps-over (a .at) (moveWord (a .forward) (a .base)) (λ i. a .base ⊕ (firstRebased + 8 * i)) (p1 .loop .i) 17 (p1 .loop .w)
+    let p6 = p1 .before .before .before .before .before in
+    let p7 = p6 .before in
+    let p12 = p7 .before .before .before .before .before in
+    let a = p12 .args in
+    steps-over (a .at) (moveWord (a .forward) (a .base)) (λ i. a .base ⊕ (firstRebased + 8 * i)) (p1 .loop .i) 17 (p1 .loop .w, p1 .loop .trace)
     (p1 .loop .inv .2) (c .loop-test .left)
-    ∙ ap left (header-starts (a .at) (a .forward) (a .base) (a .w .now) (p5 .wrapping-add-u32 .ensures) (p4 .move-word .ensures))
+    ∙ ap left (header-starts (a .at) (a .forward) (a .base) (a .w .now, a .trace .now) (p7 .wrapping-add-u32 .ensures) (p6 .move-word .ensures))
 
 pub move-header-spec : {M : Type 1} → statement M
 move-header-spec =
@@ -99,4 +107,5 @@ move-header-spec =
     loop-less
     loop-again
     same-length
+    same-length-2
     returns)
