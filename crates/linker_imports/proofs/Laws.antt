@@ -2,15 +2,16 @@
 use Prim.Native.Nat.{ℕ, _+_, _-_}
 use mathlib.Core.Path.{_≡_, refl, sym, ap, _∙_}
 use mathlib.Core.List.{List, [], _∷_, _++_}
-use mathlib.Core.Option.{some, none}
+use mathlib.Core.Option.{Option, some, none}
 use mathlib.Core.Bool.{Bool, true, false}
 use native.Mathlib.Omega.{arith}
-use Rattle.window.specs.Memory.{if_then_else_, _⊕_, wordAt}
-use Rattle.window.specs.Access.{Prog, ret, read32, _>>=_, run, run-bind}
+use Rattle.window.specs.Memory.{if_then_else_, _⊕_}
+use Rattle.window.specs.Access.{Prog, ret, _>>=_, get32}
+use Rattle.window.specs.Trace.{S, runT}
+use Rattle.window.specs.TraceRuns.{gives, then-it, two}
 use Rattle.window.specs.Loop.{loop}
-use Rattle.name.specs.Name.{nameAt, nameAt-reads}
-use Rattle.layout.specs.Header.{importNamedSymbolTableOffset, importNamedSymbolNum, importNamedSymbolEntrySize, importModuleTableOffset, importModuleNum, importModuleEntrySize}
-use Rattle.layout.specs.Segments.{field, entryAt}
+use Rattle.name.specs.Name.{nameAt}
+use Rattle.layout.specs.Segments.{field}
 use Rattle.register.specs.Words.{same}
 use Rattle.register.specs.Module.{Module}
 use Rattle.register.specs.declared.exports.Found.{Found}
@@ -18,93 +19,78 @@ use Rattle.register.specs.declared.exports.Found.the-variants as found
 use Rattle.register_read.specs.Encoded.{first-placed}
 use Rattle.register_read.specs.Read.{Encoded, modulesOf, moduleBytes, placeFrom, hasName, exportOf, moduleAt}
 use Rattle.register_read.specs.declared.Symbol.{Symbol}
-use Rattle.register_read.specs.declared.Symbol.the-variants.{At, Nothing}
-use Rattle.linker.specs.Imports.{isUnresolved, resolve, linkFrom, importsOf, moduleByName, importModule, applyModuleImports, serveNamed, serveModule, serve}
-use Rattle.linker_relocation.specs.Runs.{after-reads}
-use Rattle.linker_sources.specs.Laws.{waiting-reads}
+use Rattle.linker.specs.Imports.{isUnresolved, resolve, linkFrom, importsOf, moduleByName, importModule, serveNamed, serveModule, serve}
+use Rattle.linker_sources.specs.Source.{tablesOf, linkTables}
+use Rattle.linker_sources.specs.declared.source.ModuleTables.{ModuleTables}
+use Rattle.linker_sources.specs.Laws.{read-there, paired, tables-linked}
 use Rattle.linker_imports.specs.Served.{serveAllNamed, serveAllModules}
 
--- a read in one arm of a test
-pub first-read
-    : {A : Type 0} (at p : ℕ) (t : Bool) (f : ℕ → Prog A) (g : Prog A) (w : List ℕ)
-    → run at (if t then read32 p f else g) w ≡ run at (if t then f (wordAt at w p) else g) w
-unfolding run
-first-read at p true f g w = refl
-first-read at p false f g w = refl
+-- a table's place and count read, then the loop over its entries
+pub table-starts
+    : {A : Type 0} (at base x y : ℕ) (turn : ℕ → ℕ → A → Prog A) (a : A) (s : S) {table count : ℕ} {s₁ s₂ : S}
+    → (table, s₁) ≡ runT at (field base x) s → (count, s₂) ≡ runT at (field base y) s₁
+    → runT at (loop (turn table) 0 (count - 0) a) s₂ ≡ runT at (field base x >>= λ table. field base y >>= λ count. loop (turn table) 0 count a) s
+table-starts at base x y turn a s {table} {count} {s₁} h₁ h₂ =
+    let z : count - 0 ≡ count = omega arith in
+    rw z
+    (gives at (field base y) s₁ (λ count. loop (turn table) 0 count a) h₂
+    ∙ gives at (field base x) s (λ table. field base y >>= λ count. loop (turn table) 0 count a) h₁)
 
 -- the imports of the modules that stand
 
-module _ (at base entry : ℕ) (w : List ℕ) (new : Module) {y batch : ℕ} {t : Bool} (ey : y ≡ entry ⊕ 4) (eb : batch ≡ wordAt at w y)
-    (et : t ≡ run at (isUnresolved batch) w .0) where
+module _ (at base entry : ℕ) (new : Module) (s : S) {y batch : ℕ} {t : Bool} {s₁ s₂ : S} (ey : y ≡ entry ⊕ 4)
+    (h₁ : (batch, s₁) ≡ runT at (get32 y) s) (h₂ : (t, s₂) ≡ runT at (isUnresolved batch) s₁) where
   serve-is
-      : run at (serveNamed new base entry) w
-      ≡ run at (if t then (nameAt (wordAt at w entry) >>= λ name. resolve base batch (exportOf new name)) else ret tt) w
-  unfolding serveNamed run _>>=_
-  serve-is =
-      let b = wordAt at w (entry ⊕ 4) in
-      rw (et, eb, ey)
-      (after-reads at (isUnresolved b) _ w (waiting-reads b)
-      ∙ first-read at entry (run at (isUnresolved b) w .0) (λ p. nameAt p >>= λ name. resolve base b (exportOf new name)) (ret tt) w)
+      : {v : S}
+      → v ≡ runT at (if t then (get32 entry >>= λ p. nameAt p >>= λ name. resolve base batch (exportOf new name)) else ret tt) s₂ .1
+      → v ≡ runT at (serveNamed new base entry) s .1
+  unfolding serveNamed
+  serve-is h =
+      then-it at (get32 (entry ⊕ 4)) s _ (read-there at s ey h₁)
+      (then-it at (isUnresolved batch) s₁
+      (λ t. if t then (get32 entry >>= λ p. nameAt p >>= λ name. resolve base batch (exportOf new name)) else ret tt) h₂ h)
 
   pub serve-waits
-      : {p : ℕ} {s : Symbol} {v : List ℕ} → t ≡ true → p ≡ wordAt at w entry → s ≡ exportOf new (run at (nameAt p) w .0)
-      → v ≡ run at (resolve base batch s) w .1 → v ≡ run at (serveNamed new base entry) w .1
-  serve-waits e p f h =
-      let q = wordAt at w entry in
-      rw (serve-is, e, after-reads at (nameAt q) (λ name. resolve base batch (exportOf new name)) w (nameAt-reads q), ← p, ← f) h
+      : {p : ℕ} {z : Symbol} {s₃ s₄ v : S} → t ≡ true → (p, s₃) ≡ runT at (get32 entry) s₂
+      → (z ≡ exportOf new (runT at (nameAt p) s₃ .0)) × (s₄ ≡ runT at (nameAt p) s₃ .1) → v ≡ runT at (resolve base batch z) s₄ .1
+      → v ≡ runT at (serveNamed new base entry) s .1
+  serve-waits {p} {s₃ = s₃} e h₃ h₄ g =
+      let q : (name : List ℕ) → Prog (Unit {0}) = λ name. resolve base batch (exportOf new name) in
+      serve-is
+      (rw e
+      (then-it at (get32 entry) s₂ (λ p. nameAt p >>= q) h₃
+      (then-it at (nameAt p) s₃ q (paired at (nameAt p) s₃ (h₄ .1)) (rw (← h₄ .0) g))))
 
-  pub serve-passed : t ≡ false → w ≡ run at (serveNamed new base entry) w .1
-  unfolding run
-  serve-passed e = rw (serve-is, e, run)
+  pub serve-passed : t ≡ false → s₂ ≡ runT at (serveNamed new base entry) s .1
+  unfolding runT
+  serve-passed e = serve-is (rw (e, runT))
 
-module _ (at base entry : ℕ) (w : List ℕ) (new : Module) {p : ℕ} {t : Bool} {name : List ℕ} (ep : p ≡ wordAt at w entry) (en : name ≡ new .name)
-    (et : t ≡ same (run at (nameAt p) w .0) name) where
-  entry-is : run at (serveModule new base entry) w ≡ run at (if t then importsOf (some new) base entry else ret tt) w
-  unfolding serveModule run _>>=_
-  entry-is =
-      let q = wordAt at w entry in
-      rw (et, en, ep) (after-reads at (nameAt q) _ w (nameAt-reads q))
+module _ (at base entry : ℕ) (new : Module) (s : S) {p : ℕ} {t : Bool} {name : List ℕ} {s₁ s₂ : S} (h₁ : (p, s₁) ≡ runT at (get32 entry) s)
+    (en : name ≡ new .name) (h₂ : (t ≡ same (runT at (nameAt p) s₁ .0) name) × (s₂ ≡ runT at (nameAt p) s₁ .1)) where
+  entry-is
+      : {v : S} → v ≡ runT at (if t then importsOf (some new) base entry else ret tt) s₂ .1 → v ≡ runT at (serveModule new base entry) s .1
+  unfolding serveModule
+  entry-is h =
+      let e : t ≡ same (runT at (nameAt p) s₁ .0) (new .name) = h₂ .0 ∙ ap (same (runT at (nameAt p) s₁ .0)) en in
+      then-it at (get32 entry) s _ h₁
+      (then-it at (nameAt p) s₁ (λ name. if same name (new .name) then importsOf (some new) base entry else ret tt)
+      (paired at (nameAt p) s₁ (h₂ .1))
+      (rw (← e) h))
 
-  pub entry-served : {v : List ℕ} → t ≡ true → v ≡ run at (importsOf (some new) base entry) w .1 → v ≡ run at (serveModule new base entry) w .1
-  entry-served e h = rw (entry-is, e) h
+  pub entry-served
+      : {tables : ModuleTables} {s₃ v : S} → t ≡ true → (tables, s₃) ≡ runT at (tablesOf entry) s₂
+      → v ≡ runT at (linkTables (some new) base tables) s₃ .1 → v ≡ runT at (serveModule new base entry) s .1
+  entry-served e h g = entry-is (rw e (tables-linked at base entry (some new) s₂ h g))
 
-  pub entry-passed : t ≡ false → w ≡ run at (serveModule new base entry) w .1
-  unfolding run
-  entry-passed e = rw (entry-is, e, run)
-
-module _ (at base : ℕ) (w : List ℕ) {table count : ℕ} where
-  pub named-starts
-      : (new : Module) → table ≡ run at (field base importNamedSymbolTableOffset) w .0 → count ≡ run at (field base importNamedSymbolNum) w .0
-      → run at (loop (λ i _. serveNamed new base (entryAt table i importNamedSymbolEntrySize)) 0 (count - 0) tt) w
-      ≡ run at (serveAllNamed new base) w
-  unfolding serveAllNamed field run _>>=_
-  named-starts new t n = let z : count - 0 ≡ count = omega arith in rw (z, t, n)
-
-  pub entries-start
-      : (new : Module) → table ≡ run at (field base importModuleTableOffset) w .0 → count ≡ run at (field base importModuleNum) w .0
-      → run at (loop (λ i _. serveModule new base (entryAt table i importModuleEntrySize)) 0 (count - 0) tt) w
-      ≡ run at (serveAllModules new base) w
-  unfolding serveAllModules field run _>>=_
-  entries-start new t n = let z : count - 0 ≡ count = omega arith in rw (z, t, n)
-
-  pub imports-start
-      : (ms : List Module) → table ≡ run at (field base importModuleTableOffset) w .0 → count ≡ run at (field base importModuleNum) w .0
-      → run at (loop (λ i _. importModule ms base (entryAt table i importModuleEntrySize)) 0 (count - 0) tt) w
-      ≡ run at (applyModuleImports ms base) w
-  unfolding applyModuleImports field run _>>=_
-  imports-start ms t n = let z : count - 0 ≡ count = omega arith in rw (z, t, n)
+  pub entry-passed : t ≡ false → s₂ ≡ runT at (serveModule new base entry) s .1
+  unfolding runT
+  entry-passed e = entry-is (rw (e, runT))
 
 pub both-served
-    : (at base : ℕ) (w : List ℕ) (new : Module) {u v : List ℕ} → u ≡ run at (serveAllNamed new base) w .1 → v ≡ run at (serveAllModules new base) u .1
-    → v ≡ run at (serve new base) w .1
-unfolding serve serveAllNamed serveAllModules field run _>>=_
-both-served at base w new h g =
-    let table = wordAt at w (base ⊕ importNamedSymbolTableOffset) in
-    let count = wordAt at w (base ⊕ importNamedSymbolNum) in
-    g
-    ∙ rw h
-    (sym (ap (λ (x : Unit {0} × List ℕ). x .1)
-    (run-bind at (loop (λ i _. serveNamed new base (entryAt table i importNamedSymbolEntrySize)) 0 count tt) _ w)))
+    : (at base : ℕ) (new : Module) (s : S) {u v : S} → u ≡ runT at (serveAllNamed new base) s .1 → v ≡ runT at (serveAllModules new base) u .1
+    → v ≡ runT at (serve new base) s .1
+unfolding serve serveAllNamed serveAllModules field _>>=_
+both-served at base new s h g = two at (serveAllNamed new base) s (serveAllModules new base) h g
 
 -- the module that an entry names
 
@@ -135,28 +121,35 @@ first-named place (b ∷ before) m after name e h =
     go true e g = let z : _≡_ {A = ℕ} 0 1 = cc in absurd (omega arith)
     go false e g = g e
 
-module _ (records names : List ℕ) (at base entry : ℕ) (w : List ℕ) {p : ℕ} {f : Found} (ep : p ≡ wordAt at w entry)
-    (ef : f ≡ placeFrom 32 (modulesOf records names) (hasName (run at (nameAt p) w .0))) where
+module _ (records names : List ℕ) (at base entry : ℕ) (s : S) {p : ℕ} {f : Found} {tables : ModuleTables} {s₁ s₂ s₃ : S}
+    (h₁ : (p, s₁) ≡ runT at (get32 entry) s)
+    (h₂ : (f ≡ placeFrom 32 (modulesOf records names) (hasName (runT at (nameAt p) s₁ .0))) × (s₂ ≡ runT at (nameAt p) s₁ .1))
+    (h₃ : (tables, s₃) ≡ runT at (tablesOf entry) s₂) where
   abbrev ms : List Module
   ms = modulesOf records names
 
-  module-is : run at (importModule ms base entry) w ≡ run at (importsOf (moduleByName ms (run at (nameAt p) w .0)) base entry) w
-  unfolding importModule run _>>=_
-  module-is =
-      let q = wordAt at w entry in
-      rw ep (after-reads at (nameAt q) (λ name. importsOf (moduleByName ms name) base entry) w (nameAt-reads q))
+  abbrev name : List ℕ
+  name = runT at (nameAt p) s₁ .0
 
-  pub module-missing : f ≡ found.Nothing → w ≡ run at (importModule ms base entry) w .1
-  unfolding importsOf linkFrom run _>>=_
-  module-missing e = rw (module-is, none-named 32 ms (run at (nameAt p) w .0) (sym ef ∙ e), run)
+  module-is
+      : {source : Option Module} {v : S} → moduleByName ms name ≡ source → v ≡ runT at (linkTables source base tables) s₃ .1
+      → v ≡ runT at (importModule ms base entry) s .1
+  unfolding importModule
+  module-is {source} e g =
+      then-it at (get32 entry) s _ h₁
+      (then-it at (nameAt p) s₁ (λ name. importsOf (moduleByName ms name) base entry) (paired at (nameAt p) s₁ (h₂ .1))
+      (rw e (tables-linked at base entry source s₂ h₃ g)))
+
+  pub module-missing : f ≡ found.Nothing → s₃ ≡ runT at (importModule ms base entry) s .1
+  unfolding linkFrom runT
+  module-missing e = module-is (none-named 32 ms name (sym (h₂ .0) ∙ e)) refl
 
   pub module-found
-      : {place : ℕ} {v : List ℕ} → Encoded records names → f ≡ found.At place
-      → v ≡ run at (importsOf (some (moduleAt records names place)) base entry) w .1 → v ≡ run at (importModule ms base entry) w .1
+      : {place : ℕ} {v : S} → Encoded records names → f ≡ found.At place
+      → v ≡ runT at (linkTables (some (moduleAt records names place)) base tables) s₃ .1 → v ≡ runT at (importModule ms base entry) s .1
   module-found {place} c e h =
-      let name = run at (nameAt p) w .0 in
-      let d = first-placed records names (hasName name) c (sym ef ∙ e) in
+      let d = first-placed records names (hasName name) c (sym (h₂ .0) ∙ e) in
       let k : moduleByName ms name ≡ some (moduleAt records names place) =
       ap (λ l. moduleByName l name) (d .split) ∙ first-named 32 (d .before) (d .found) (d .after) name (d .first) (d .passes)
       ∙ ap some (sym (d .stands .back)) in
-      rw (module-is, k) h
+      module-is k h

@@ -5,14 +5,15 @@ use mathlib.Core.List.{List}
 use mathlib.Core.Bool.{true}
 use lib.ListN.{length}
 use Rattle.window.specs.Word.{setWordIn}
+use Rattle.window.specs.Trace.{S}
 use Rattle.register.specs.Module.{Register}
 use Rattle.register.specs.Decode.{registerOf, isRegister}
 use Rattle.register.specs.Buffers.{encodeMissing}
 use Rattle.linker.specs.Calls.{missingNow}
 
--- the window, the records and the missing list after a program that gave missing names and a window: header word 5 counts the
+-- window and trace, the records and the missing list after a program that gave missing names and a state: header word 5 counts the
 -- names, and all other record bytes stay; word 3 too, which is 0 or 32 where no module stands
-abbrev pub imported : Register → List ℕ → List (List ℕ) × List ℕ → List ℕ × List ℕ × List ℕ
+abbrev pub imported : Register → List ℕ → List (List ℕ) × S → S × List ℕ × List ℕ
 imported r records x = (x .1, setWordIn records 20 (length (x .0)), encodeMissing (missingNow r (x .0)))
 
 -- the bytes are r with those missing names

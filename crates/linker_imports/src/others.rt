@@ -17,7 +17,8 @@ use linker_sources::batch::is_unresolved;
 use linker_sources::batch::resolve;
 use linker_sources::names::export_of;
 use linker_sources::names::is_name;
-use linker_sources::source::imports_of;
+use linker_sources::source::link_from;
+use linker_sources::source::tables_of;
 use register_read::modules::module_count;
 use register_read::record_at;
 use register_read::record_end;
@@ -34,8 +35,8 @@ fn serve_named(
     base: u32,
     entry: u32,
 )
-    ensures { λ _. ⌜ now (w .exit)
-        ≡ run at (serveNamed (moduleAt (now (records .entry)) (now (names .entry)) place) base entry) (now (w .entry)) .1 ⌝ }
+    ensures { λ _. ⌜ (now (w .exit), now (trace .exit))
+        ≡ runT at (serveNamed (moduleAt (now (records .entry)) (now (names .entry)) place) base entry) (now (w .entry), now (trace .entry)) .1 ⌝ }
 {
     let batch = window::read32(at, w, trace, std::num::wrapping_add_u32(entry, 4));
     if is_unresolved(at, w, trace, batch) {
@@ -56,13 +57,14 @@ fn serve_module(
     base: u32,
     entry: u32,
 )
-    ensures { λ _. ⌜ now (w .exit)
-        ≡ run at (serveModule (moduleAt (now (records .entry)) (now (names .entry)) place) base entry) (now (w .entry)) .1 ⌝ }
+    ensures { λ _. ⌜ (now (w .exit), now (trace .exit))
+        ≡ runT at (serveModule (moduleAt (now (records .entry)) (now (names .entry)) place) base entry) (now (w .entry), now (trace .entry)) .1 ⌝ }
 {
     let address = window::read32(at, w, trace, entry);
     let name = record_name(names, record_at(records, place));
     if is_name(at, w, trace, address, name) {
-        imports_of(at, w, trace, records, place, base, entry);
+        let tables = tables_of(at, w, trace, entry);
+        link_from(at, w, trace, records, place, base, tables);
     }
 }
 
@@ -76,8 +78,8 @@ fn serve_all_named(
     place: usize,
     base: u32,
 )
-    ensures { λ _. ⌜ now (w .exit)
-        ≡ run at (serveAllNamed (moduleAt (now (records .entry)) (now (names .entry)) place) base) (now (w .entry)) .1 ⌝ }
+    ensures { λ _. ⌜ (now (w .exit), now (trace .exit))
+        ≡ runT at (serveAllNamed (moduleAt (now (records .entry)) (now (names .entry)) place) base) (now (w .entry), now (trace .entry)) .1 ⌝ }
 {
     let table = field(at, w, trace, base, IMPORT_NAMED_SYMBOL_TABLE_OFFSET);
     let count = field(at, w, trace, base, IMPORT_NAMED_SYMBOL_NUM);
@@ -97,8 +99,8 @@ fn serve_all_modules(
     place: usize,
     base: u32,
 )
-    ensures { λ _. ⌜ now (w .exit)
-        ≡ run at (serveAllModules (moduleAt (now (records .entry)) (now (names .entry)) place) base) (now (w .entry)) .1 ⌝ }
+    ensures { λ _. ⌜ (now (w .exit), now (trace .exit))
+        ≡ runT at (serveAllModules (moduleAt (now (records .entry)) (now (names .entry)) place) base) (now (w .entry), now (trace .entry)) .1 ⌝ }
 {
     let table = field(at, w, trace, base, IMPORT_MODULE_TABLE_OFFSET);
     let count = field(at, w, trace, base, IMPORT_MODULE_NUM);
@@ -118,8 +120,8 @@ pub fn serve(
     place: usize,
     base: u32,
 )
-    ensures { λ _. ⌜ now (w .exit)
-        ≡ run at (serve (moduleAt (now (records .entry)) (now (names .entry)) place) base) (now (w .entry)) .1 ⌝ }
+    ensures { λ _. ⌜ (now (w .exit), now (trace .exit))
+        ≡ runT at (serve (moduleAt (now (records .entry)) (now (names .entry)) place) base) (now (w .entry), now (trace .entry)) .1 ⌝ }
 {
     serve_all_named(at, w, trace, records, names, place, base);
     serve_all_modules(at, w, trace, records, names, place, base);
@@ -135,9 +137,9 @@ pub fn apply_exports_to_loaded(
     place: usize,
 )
     requires { ⌜ Encoded (now records) (now names) ⌝ }
-    ensures { λ _. ⌜ now (w .exit)
-        ≡ run at (applyExportsToLoaded (moduleAt (now (records .entry)) (now (names .entry)) place)
-        (butLast (modulesOf (now (records .entry)) (now (names .entry))))) (now (w .entry)) .1 ⌝ }
+    ensures { λ _. ⌜ (now (w .exit), now (trace .exit))
+        ≡ runT at (applyExportsToLoaded (moduleAt (now (records .entry)) (now (names .entry)) place)
+        (butLast (modulesOf (now (records .entry)) (now (names .entry))))) (now (w .entry), now (trace .entry)) .1 ⌝ }
 {
     let count = module_count(records);
     let mut next: usize = 32;

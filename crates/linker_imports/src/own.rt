@@ -17,7 +17,8 @@ use layout::header::IMPORT_NAMED_SYMBOL_TABLE_OFFSET;
 use linker_relocation::relocation::apply_relocation_batch;
 use linker_sources::batch::is_unresolved;
 use linker_sources::names::module_by_name;
-use linker_sources::source::imports_of;
+use linker_sources::source::link_from;
+use linker_sources::source::tables_of;
 use name::read_name;
 use register::exports::Found;
 use register_header::missing::push_missing;
@@ -37,8 +38,8 @@ fn import_named(
 )
     requires { ⌜ isRegister (now records) (now names) (now missing) ≡ true ⌝ }
     ensures { λ _. ⌜ (let r = registerOf (now (records .entry)) (now (names .entry)) (now (missing .entry)) in
-        let x = run at (importNamed (r .modules) base entry (r .missing)) (now (w .entry)) in
-        ((now (w .exit), now (records .exit), now (missing .exit)) ≡ imported r (now (records .entry)) x)
+        let x = runT at (importNamed (r .modules) base entry (r .missing)) (now (w .entry), now (trace .entry)) in
+        (((now (w .exit), now (trace .exit)), now (records .exit), now (missing .exit)) ≡ imported r (now (records .entry)) x)
         × Noted r (now (records .exit)) (now (names .entry)) (now (missing .exit)) (x .0)) ⌝ }
 {
     let batch = window::read32(at, w, trace, std::num::wrapping_add_u32(entry, 4));
@@ -69,8 +70,8 @@ pub fn apply_import_named_symbols(
 )
     requires { ⌜ isRegister (now records) (now names) (now missing) ≡ true ⌝ }
     ensures { λ _. ⌜ (let r = registerOf (now (records .entry)) (now (names .entry)) (now (missing .entry)) in
-        let x = run at (applyImportNamedSymbols (r .modules) base (r .missing)) (now (w .entry)) in
-        ((now (w .exit), now (records .exit), now (missing .exit)) ≡ imported r (now (records .entry)) x)
+        let x = runT at (applyImportNamedSymbols (r .modules) base (r .missing)) (now (w .entry), now (trace .entry)) in
+        (((now (w .exit), now (trace .exit)), now (records .exit), now (missing .exit)) ≡ imported r (now (records .entry)) x)
         × Noted r (now (records .exit)) (now (names .entry)) (now (missing .exit)) (x .0)) ⌝ }
 {
     let table = field(at, w, trace, base, IMPORT_NAMED_SYMBOL_TABLE_OFFSET);
@@ -81,7 +82,7 @@ pub fn apply_import_named_symbols(
     }
 }
 
-// The imports of one module entry, from the first module of that name.
+// The imports of one module entry, from the first module of that name; its tables are read even if there is none.
 fn import_module(
     at: u32,
     w: &mut [u8],
@@ -95,10 +96,12 @@ fn import_module(
     ensures { λ _. ⌜ (now (w .exit), now (trace .exit)) ≡ runT at (importModule (modulesOf (now (records .entry)) (now (names .entry))) base entry) (now (w .entry), now (trace .entry)) .1 ⌝ }
 {
     let address = window::read32(at, w, trace, entry);
-    let Found::At(place) = module_by_name(at, w, trace, records, names, address) else {
+    let found = module_by_name(at, w, trace, records, names, address);
+    let tables = tables_of(at, w, trace, entry);
+    let Found::At(place) = found else {
         return;
     };
-    imports_of(at, w, trace, records, place, base, entry);
+    link_from(at, w, trace, records, place, base, tables);
 }
 
 // Resolves the indexed and anonymous symbols that a module imports from the modules that it names.

@@ -22,6 +22,7 @@ use Rattle.register_read.specs.declared.Symbol.{Symbol}
 use Rattle.register_read.specs.declared.Symbol.the-variants.{At, Nothing}
 use Rattle.linker.specs.Relocation.{batchIsResolved}
 use Rattle.linker.specs.Imports.{anonymousOf, isUnresolved, resolve, importFrom, linkFrom}
+use Rattle.linker_sources.specs.Laws.{read-there}
 use Rattle.linker_sources.specs.Source.{symbolOf, importTable, tablesOf, linkTables}
 use Rattle.linker_sources.specs.declared.source.ImportTable.{ImportTable}
 use Rattle.linker_sources.specs.declared.source.ImportTable.the-variants.{Indexed, Anonymous}
@@ -71,10 +72,6 @@ symbol-indexed m x e f = rw (e, symbolOf) f
 pub symbol-anonymous : (m : Module) (x : ℕ) {k : ImportTable} {s : Symbol} → k ≡ Anonymous → s ≡ anonymousOf m x → s ≡ symbolOf k m x
 unfolding symbolOf
 symbol-anonymous m x e f = rw (e, symbolOf) f
-
--- a word read at a sum that the code made first
-read-there : (at : ℕ) (s : S) {p q : ℕ} {r : ℕ × S} → p ≡ q → r ≡ runT at (get32 p) s → r ≡ runT at (get32 q) s
-read-there at s e h = h ∙ ap (λ p. runT at (get32 p) s) e
 
 module _ (at base entry : ℕ) (symbol : ℕ → Symbol) (s : S) {x batch y : ℕ} {t : Bool} {s₁ s₂ s₃ : S} (h₁ : (x, s₁) ≡ runT at (get32 entry) s)
     (ey : y ≡ entry ⊕ 4) (h₂ : (batch, s₂) ≡ runT at (get32 y) s₁) (h₃ : (t, s₃) ≡ runT at (isUnresolved batch) s₂) where

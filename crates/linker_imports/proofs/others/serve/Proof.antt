@@ -14,15 +14,24 @@ serve-all-modules-requires c κs = search needs
 same-length : tie.Need-same-length
 same-length c = search needs
 
+same-length-2 : tie.Need-same-length-2
+same-length-2 c = search needs
+
 returns : tie.Need-returns
 returns c =
-    let p2 = c .before .before in
-    let p6 = p2 .before .before .before .before in
-    let p11 = p6 .before .before .before .before .before in
-    let a = p11 .args in
+    let p4 = c .before .before .before .before in
+    let p11 = p4 .before .before .before .before .before .before .before in
+    let p18 = p11 .before .before .before .before .before .before .before in
+    let a = p18 .args in
     let m = moduleAt (a .records .now) (a .names .now) (a .place) in
-    both-served (a .at) (a .base) (a .w .now) m (p6 .serve-all-named .ensures) (p2 .serve-all-modules .ensures)
+    both-served (a .at) (a .base) m (a .w .now, a .trace .now) (p11 .serve-all-named .ensures) (p4 .serve-all-modules .ensures)
 
 pub serve-spec : {M : Type 1} → statement M
 serve-spec =
-    tie.close (tie.spec serve-all-named-requires serve-all-modules-requires same-length returns)
+    tie.close
+    (tie.spec
+    serve-all-named-requires
+    serve-all-modules-requires
+    same-length
+    same-length-2
+    returns)

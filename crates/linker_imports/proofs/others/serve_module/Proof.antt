@@ -18,42 +18,52 @@ record-name-requires c κs = search needs
 is-name-requires : tie.Need-is-name-requires
 is-name-requires c κs = search needs
 
-imports-of-requires : tie.Need-imports-of-requires
-imports-of-requires c κs = search needs
+tables-of-requires : tie.Need-tables-of-requires
+tables-of-requires c κs = search needs
+
+link-from-requires : tie.Need-link-from-requires
+link-from-requires c κs = search needs
 
 same-length : tie.Need-same-length
 same-length c = search needs
 
-returns : tie.Need-returns
-returns c =
-    let p2 = c .before .before in
-    let p4 = p2 .before .before in
-    let p5 = p4 .before in
-    let p7 = p5 .before .before in
-    let p8 = p7 .before in
-    let p9 = p8 .before in
-    let p14 = p9 .before .before .before .before .before in
-    let a = p14 .args in
-    let m = moduleAt (a .records .now) (a .names .now) (a .place) in
-    entry-served (a .at) (a .base) (a .entry) (a .w .now) m (p9 .read32 .ensures)
-    (own-name (a .records .now) (a .names .now) (a .place) (p8 .record-at .ensures) (p7 .record-name .ensures))
-    (p5 .is-name .ensures) (p4 .if1 .taken) (p2 .imports-of .ensures (a .names .now))
-
 same-length-2 : tie.Need-same-length-2
 same-length-2 c = search needs
 
+returns : tie.Need-returns
+returns c =
+    let p4 = c .before .before .before .before in
+    let p9 = p4 .before .before .before .before .before in
+    let p12 = p9 .before .before .before in
+    let p15 = p12 .before .before .before in
+    let p18 = p15 .before .before .before in
+    let p19 = p18 .before in
+    let p22 = p19 .before .before .before in
+    let p29 = p22 .before .before .before .before .before .before .before in
+    let a = p29 .args in
+    let m = moduleAt (a .records .now) (a .names .now) (a .place) in
+    entry-served (a .at) (a .base) (a .entry) m (a .w .now, a .trace .now) (p22 .read32 .ensures)
+    (own-name (a .records .now) (a .names .now) (a .place) (p19 .record-at .ensures) (p18 .record-name .ensures))
+    (p15 .is-name .ensures) (p12 .if1 .taken) (p9 .tables-of .ensures) (p4 .link-from .ensures (a .names .now))
+
+same-length-3 : tie.Need-same-length-3
+same-length-3 c = search needs
+
+same-length-4 : tie.Need-same-length-4
+same-length-4 c = search needs
+
 returns-2 : tie.Need-returns-2
 returns-2 c =
-    let p1 = c .before in
-    let p3 = p1 .before .before in
-    let p4 = p3 .before in
-    let p5 = p4 .before in
-    let p10 = p5 .before .before .before .before .before in
-    let a = p10 .args in
+    let p3 = c .before .before .before in
+    let p6 = p3 .before .before .before in
+    let p7 = p6 .before in
+    let p10 = p7 .before .before .before in
+    let p17 = p10 .before .before .before .before .before .before .before in
+    let a = p17 .args in
     let m = moduleAt (a .records .now) (a .names .now) (a .place) in
-    entry-passed (a .at) (a .base) (a .entry) (a .w .now) m (p5 .read32 .ensures)
-    (own-name (a .records .now) (a .names .now) (a .place) (p4 .record-at .ensures) (p3 .record-name .ensures))
-    (p1 .is-name .ensures) (c .if1 .left)
+    entry-passed (a .at) (a .base) (a .entry) m (a .w .now, a .trace .now) (p10 .read32 .ensures)
+    (own-name (a .records .now) (a .names .now) (a .place) (p7 .record-at .ensures) (p6 .record-name .ensures))
+    (p3 .is-name .ensures) (c .if1 .left)
 
 pub serve-module-spec : {M : Type 1} → statement M
 serve-module-spec =
@@ -63,8 +73,11 @@ serve-module-spec =
     record-at-requires
     record-name-requires
     is-name-requires
-    imports-of-requires
+    tables-of-requires
+    link-from-requires
     same-length
-    returns
     same-length-2
+    returns
+    same-length-3
+    same-length-4
     returns-2)

@@ -26,36 +26,42 @@ resolve-requires c κs = search needs
 same-length : tie.Need-same-length
 same-length c = search needs
 
-returns : tie.Need-returns
-returns c =
-    let p2 = c .before .before in
-    let p4 = p2 .before .before in
-    let p6 = p4 .before .before in
-    let p8 = p6 .before .before in
-    let p9 = p8 .before in
-    let p11 = p9 .before .before in
-    let p12 = p11 .before in
-    let p17 = p12 .before .before .before .before .before in
-    let a = p17 .args in
-    let m = moduleAt (a .records .now) (a .names .now) (a .place) in
-    serve-waits (a .at) (a .base) (a .entry) (a .w .now) m
-    (p12 .wrapping-add-u32 .ensures) (p11 .read32 .ensures) (p9 .is-unresolved .ensures) (p8 .if1 .taken) (p6 .read322 .ensures)
-    (p4 .export-of .ensures)
-    (p2 .resolve .ensures)
-
 same-length-2 : tie.Need-same-length-2
 same-length-2 c = search needs
 
+returns : tie.Need-returns
+returns c =
+    let p4 = c .before .before .before .before in
+    let p9 = p4 .before .before .before .before .before in
+    let p14 = p9 .before .before .before .before .before in
+    let p17 = p14 .before .before .before in
+    let p20 = p17 .before .before .before in
+    let p25 = p20 .before .before .before .before .before in
+    let p26 = p25 .before in
+    let p33 = p26 .before .before .before .before .before .before .before in
+    let a = p33 .args in
+    let m = moduleAt (a .records .now) (a .names .now) (a .place) in
+    serve-waits (a .at) (a .base) (a .entry) m (a .w .now, a .trace .now)
+    (p26 .wrapping-add-u32 .ensures) (p25 .read32 .ensures) (p20 .is-unresolved .ensures) (p17 .if1 .taken) (p14 .read322 .ensures)
+    (p9 .export-of .ensures)
+    (p4 .resolve .ensures)
+
+same-length-3 : tie.Need-same-length-3
+same-length-3 c = search needs
+
+same-length-4 : tie.Need-same-length-4
+same-length-4 c = search needs
+
 returns-2 : tie.Need-returns-2
 returns-2 c =
-    let p1 = c .before in
-    let p3 = p1 .before .before in
-    let p4 = p3 .before in
-    let p9 = p4 .before .before .before .before .before in
-    let a = p9 .args in
+    let p3 = c .before .before .before in
+    let p8 = p3 .before .before .before .before .before in
+    let p9 = p8 .before in
+    let p16 = p9 .before .before .before .before .before .before .before in
+    let a = p16 .args in
     let m = moduleAt (a .records .now) (a .names .now) (a .place) in
-    serve-passed (a .at) (a .base) (a .entry) (a .w .now) m
-    (p4 .wrapping-add-u32 .ensures) (p3 .read32 .ensures) (p1 .is-unresolved .ensures) (c .if1 .left)
+    serve-passed (a .at) (a .base) (a .entry) m (a .w .now, a .trace .now)
+    (p9 .wrapping-add-u32 .ensures) (p8 .read32 .ensures) (p3 .is-unresolved .ensures) (c .if1 .left)
 
 pub serve-named-spec : {M : Type 1} → statement M
 serve-named-spec =
@@ -68,6 +74,8 @@ serve-named-spec =
     export-of-requires
     resolve-requires
     same-length
-    returns
     same-length-2
+    returns
+    same-length-3
+    same-length-4
     returns-2)

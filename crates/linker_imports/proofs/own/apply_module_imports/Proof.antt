@@ -1,29 +1,30 @@
--- A counted loop over the table: `imports-start`, `step-made`, `steps-over`.
+-- A counted loop over the table: `table-starts`, `step-made`, `steps-over`.
 use Prim.Native.Nat.{_-_, _≤_}
-use mathlib.Core.Path.{_≡_, refl, _∙_}
+use mathlib.Core.Path.{_≡_, refl, ap, _∙_}
 use native.Mathlib.Omega.{arith}
 use lib.ListN.{length}
 use borrow.Author.Needs.{needs}
-use Rattle.window.specs.Access.{run}
+use Rattle.window.specs.Trace.{runT}
 use Rattle.window.specs.Loop.{loop}
-use Rattle.layout.specs.Header.{importModuleEntrySize}
+use Rattle.layout.specs.Header.{importModuleTableOffset, importModuleNum, importModuleEntrySize}
 use Rattle.layout.specs.Segments.{entryAt}
 use Rattle.register_read.specs.Read.{modulesOf}
 use Rattle.linker.specs.Imports.{importModule, applyModuleImports}
-use Rattle.linker_relocation.specs.Runs.{step-made, steps-over}
-use Rattle.linker_imports.proofs.Laws.{imports-start}
+use Rattle.window.specs.TraceRuns.{left, step-made, steps-over}
+use Rattle.linker_imports.proofs.Laws.{table-starts}
 use Rattle.linker_imports.proofs.own.apply_module_imports.Statement.{statement}
 use Rattle.linker_imports.proofs.own.apply_module_imports.Tie as tie
 
 abbrev Inv-loop : tie.InvT-loop
-Inv-loop at w₀ records names base table count index₀ w index =
+Inv-loop at w₀ trace₀ records names base table count index₀ w trace index =
     (index ≤ count)
     × (length w ≡ length w₀)
-    × (run at (loop (λ i _. importModule (modulesOf records names) base (entryAt table i importModuleEntrySize)) index (count - index) tt) w
-    ≡ run at (applyModuleImports (modulesOf records names) base) w₀)
+    × (runT at (loop (λ i _. importModule (modulesOf records names) base (entryAt table i importModuleEntrySize)) index (count - index) tt) (w, trace)
+    ≡ runT at (loop (λ i _. importModule (modulesOf records names) base (entryAt table i importModuleEntrySize)) 0 (count - 0) tt) (w₀, trace₀))
+    × (length trace ≡ length trace₀)
 
 abbrev μ-loop : tie.MeasureT-loop
-μ-loop at w₀ records names base table count index₀ w index = count - index
+μ-loop at w₀ trace₀ records names base table count index₀ w trace index = count - index
 
 field-requires : tie.Need-field-requires Inv-loop μ-loop
 field-requires c κs = search needs
@@ -32,15 +33,7 @@ field-requires-2 : tie.Need-field-requires-2 Inv-loop μ-loop
 field-requires-2 c κs = search needs
 
 loop-holds : tie.Need-loop-holds Inv-loop μ-loop
-loop-holds c =
-    let p2 = c .before .before in
-    let p7 = p2 .before .before .before .before .before in
-    let a = p7 .args in (
-      omega arith,
-      refl,
-      imports-start (a .at) (a .base) (a .w .now) (modulesOf (a .records .now) (a .names .now)) (p2 .field .ensures)
-          (c .field2 .ensures),
-    )
+loop-holds c = (omega arith, refl, refl, refl)
 
 entry-address-requires : tie.Need-entry-address-requires Inv-loop μ-loop
 entry-address-requires c κs = search needs
@@ -56,36 +49,46 @@ loop-less c = omega arith
 
 loop-again : tie.Need-loop-again Inv-loop μ-loop
 loop-again c =
-    let p2 = c .before .before in
-    let p4 = p2 .before .before in
-    let p5 = p4 .before in
-    let p6 = p5 .before in
-    let p7 = p6 .before in
-    let p9 = p7 .before .before in
-    let p14 = p9 .before .before .before .before .before in
-    let a = p14 .args in (
+    let p4 = c .before .before .before .before in
+    let p7 = p4 .before .before .before in
+    let p8 = p7 .before in
+    let p9 = p8 .before in
+    let p12 = p9 .before .before .before in
+    let p17 = p12 .before .before .before .before .before in
+    let p24 = p17 .before .before .before .before .before .before .before in
+    let a = p24 .args in (
       omega arith,
-      p2 .import-module .kept .1 .0 ∙ p6 .loop .inv .1,
+      p4 .import-module .kept .1 .0 ∙ p9 .loop .inv .1,
       step-made (a .at) (importModule (modulesOf (a .records .now) (a .names .now)) (a .base))
-          (λ i. entryAt (p9 .field .result) i importModuleEntrySize) (p6 .loop .index)
-          (p7 .field2 .result) (p6 .loop .w) (p6 .loop .inv .2) (p5 .loop-test .taken) (p4 .entry-address .ensures) (p2 .import-module .ensures),
+          (λ i. entryAt (p17 .field .result) i importModuleEntrySize) (p9 .loop .index)
+          (p12 .field2 .result) (p9 .loop .w, p9 .loop .trace) (p9 .loop .inv .2) (p8 .loop-test .taken) (p7 .entry-address .ensures) (p4 .import-module .ensures),
+      p4 .import-module .kept .1 .1 .0 ∙ p9 .loop .inv .3,
     )
 
 same-length : tie.Need-same-length Inv-loop μ-loop
-same-length c =
+same-length c = c .before .loop .inv .1
+
+same-length-2 : tie.Need-same-length-2 Inv-loop μ-loop
+same-length-2 c =
     let p1 = c .before in
-    p1 .loop .inv .1
+    let p4 = p1 .before .before .before in
+    let p9 = p4 .before .before .before .before .before in
+    p1 .loop .inv .3 ∙ p4 .field2 .kept .1 .1 .0 ∙ p9 .field .kept .1 .1 .0
 
 returns : tie.Need-returns Inv-loop μ-loop
+unfolding applyModuleImports
 returns c =
     let p1 = c .before in
-    let p2 = p1 .before in
-    let p4 = p2 .before .before in
+    let p4 = p1 .before .before .before in
     let p9 = p4 .before .before .before .before .before in
-    let a = p9 .args in
+    let p16 = p9 .before .before .before .before .before .before .before in
+    let a = p16 .args in
     steps-over (a .at) (importModule (modulesOf (a .records .now) (a .names .now)) (a .base))
-    (λ i. entryAt (p4 .field .result) i importModuleEntrySize) (p1 .loop .index)
-    (p2 .field2 .result) (p1 .loop .w) (p1 .loop .inv .2) (c .loop-test .left)
+    (λ i. entryAt (p9 .field .result) i importModuleEntrySize) (p1 .loop .index)
+    (p4 .field2 .result) (p1 .loop .w, p1 .loop .trace) (p1 .loop .inv .2) (c .loop-test .left)
+    ∙ ap left
+    (table-starts (a .at) (a .base) importModuleTableOffset importModuleNum (λ table i _. importModule (modulesOf (a .records .now) (a .names .now)) (a .base) (entryAt table i importModuleEntrySize)) tt
+    (a .w .now, a .trace .now) (p9 .field .ensures) (p4 .field2 .ensures))
 
 pub apply-module-imports-spec : {M : Type 1} → statement M
 apply-module-imports-spec =
@@ -102,4 +105,5 @@ apply-module-imports-spec =
     loop-less
     loop-again
     same-length
+    same-length-2
     returns)
