@@ -1,0 +1,75 @@
+-- A call's touches by its program: what they depend on, and that the first touch stands.
+use Prim.Native.Nat.{ℕ}
+use mathlib.Core.Path.{_≡_, refl, sym, ap, _∙_}
+use mathlib.Core.Logic.{_≢_}
+use mathlib.Core.List.{List}
+use mathlib.Core.Bool.{true}
+use lib.ListN.{length}
+use borrow.Author.Tests.{ne-eqb}
+use Rattle.window.specs.Memory.{place, byteAt, wordAt}
+use Rattle.window.specs.Access.{Prog, ret, _>>=_}
+use Rattle.window.specs.Trace.{S, said, touchOf, runT, runT-bind}
+use Rattle.window.specs.Silent.{quiet, silent, erase}
+use Rattle.register.specs.Decode.{isRegister}
+use Rattle.linker.specs.declared.call.Call.{Call}
+use Rattle.linker.specs.declared.call.Call.the-variants.{Initialize, Load, Unload}
+use Rattle.linker.specs.Calls.{number, rebase, rebaseStatic}
+use Rattle.linker.specs.Outcome.{Bytes}
+use Rattle.linker.specs.Refusals.{lentRegister}
+use Rattle.linker.specs.Touches.{noTouch, touchIn, upToReset, counted, touches, initializeTouches, loadTouches, unloadTouches, touchesOf}
+use Rattle.history.specs.Windows.{program}
+use Rattle.history_sessions.specs.Answers.{programOf, Performed}
+
+-- what a call begins with: its touches alone count with number 5
+unfoldable pub beginning : Call → Prog (Unit {0})
+beginning (Initialize base size) = upToReset (rebaseStatic base) base
+beginning (Load l auto level) = upToReset (rebase l) (l .base)
+beginning (Unload base) = ret tt
+
+pub touches-program : (c : Call) (at : ℕ) (b : Bytes) → touchesOf c at b ≡ touches (program c) (beginning c) at b
+unfolding touchesOf initializeTouches loadTouches unloadTouches touches program beginning
+touches-program (Initialize base size) at b = refl
+touches-program (Load l auto level) at b = refl
+touches-program (Unload base) at b = refl
+
+-- with number 0 the whole program's touch counts
+pub whole-counts : (c : Call) (at : ℕ) (b : Bytes) → Performed c at b → touchesOf c at b ≡ touchIn at (programOf c b) (b .window)
+unfolding touches counted number
+whole-counts c at b p = touches-program c at b ∙ rw (p .good, p .valid, p .zero) refl
+
+-- all that the touches of a call are read from, beside its arguments and the window's address
+pub record SameLent (b c : Bytes) : Type 0 where
+  pub window : b .window ≡ c .window
+  pub records : length (b .records) ≡ length (c .records)
+  pub names : length (b .names) ≡ length (c .names)
+  pub valid : isRegister (b .records) (b .names) (b .missing) ≡ isRegister (c .records) (c .names) (c .missing)
+  pub register : lentRegister b ≡ lentRegister c
+
+pub touches-same : (call : Call) (at : ℕ) (b c : Bytes) → SameLent b c → touchesOf call at b ≡ touchesOf call at c
+unfolding touches
+touches-same call at b c e =
+    touches-program call at b
+    ∙ rw (e .window, e .records, e .names, e .valid, e .register) refl
+    ∙ sym (touches-program call at c)
+
+-- nothing is said yet, and no log is kept
+pub no-log : quiet noTouch
+unfolding wordAt byteAt place
+no-log = refl
+
+pub none-said : touchOf noTouch ≡ (0, 0)
+unfolding touchOf wordAt byteAt place
+none-said = refl
+
+touched-said : (t : List ℕ) → touchOf t .0 ≢ 0 → said t ≡ true
+unfolding touchOf said
+touched-said t n = rw (ne-eqb (wordAt 0 t 4) 0 n) refl
+
+-- a program's touch stands, whatever follows
+pub first-stands
+    : {A B : Type 0} (at : ℕ) (m : Prog A) (f : A → Prog B) (w : List ℕ) → touchIn at m w .0 ≢ 0 → touchIn at (m >>= f) w ≡ touchIn at m w
+unfolding touchIn
+first-stands {A} {B} at m f w n =
+    let r = runT at m (w, noTouch) in
+    ap (λ (x : B × S). touchOf (x .1 .1)) (runT-bind at m f (w, noTouch))
+    ∙ ap touchOf (silent at (f (r .0)) (r .1 .0) (r .1 .1) (erase at m w noTouch no-log .1) (touched-said (r .1 .1) n))
