@@ -1,19 +1,21 @@
--- A call's touches by its program: what they depend on, and that the first touch stands.
+-- A call's touches by its program: what they depend on, that each is a yes or a no, and that the first touch stands.
 use Prim.Native.Nat.{ℕ}
-use mathlib.Core.Path.{_≡_, refl, sym, ap, _∙_}
-use mathlib.Core.Logic.{_≢_}
+use mathlib.Core.Path.{_≡_, refl, sym, ap, _∙_, subst}
+use mathlib.Core.Logic.{_≢_, inl}
 use mathlib.Core.List.{List}
-use mathlib.Core.Bool.{true}
+use mathlib.Core.Bool.{Bool, true, false, _&&_}
+use native.Mathlib.Omega.{arith}
 use lib.ListN.{length}
+use lib.Dec.{eqb}
 use borrow.Author.Tests.{ne-eqb}
-use Rattle.window.specs.Memory.{place, byteAt, wordAt}
-use Rattle.window.specs.Access.{Prog, ret, _>>=_}
+use Rattle.window.specs.Memory.{if_then_else_, place, byteAt, wordAt, goodWindow}
+use Rattle.window.specs.Access.{Prog, ret, _>>=_, run}
 use Rattle.window.specs.Trace.{S, said, touchOf, runT, runT-bind}
-use Rattle.window.specs.Silent.{quiet, silent, erase}
+use Rattle.window.specs.Silent.{quiet, YesOrNo, silent, erase, yes-or-no}
 use Rattle.register.specs.Decode.{isRegister}
 use Rattle.linker.specs.declared.call.Call.{Call}
 use Rattle.linker.specs.declared.call.Call.the-variants.{Initialize, Load, Unload}
-use Rattle.linker.specs.Calls.{number, rebase, rebaseStatic}
+use Rattle.linker.specs.Calls.{NoRoom, number, rebase, rebaseStatic}
 use Rattle.linker.specs.Outcome.{Bytes}
 use Rattle.linker.specs.Refusals.{lentRegister}
 use Rattle.linker.specs.Touches.{noTouch, touchIn, upToReset, counted, touches, initializeTouches, loadTouches, unloadTouches, touchesOf}
@@ -60,6 +62,25 @@ no-log = refl
 pub none-said : touchOf noTouch ≡ (0, 0)
 unfolding touchOf wordAt byteAt place
 none-said = refl
+
+touch-is : {A : Type 0} (at : ℕ) (m : Prog A) (w : List ℕ) → YesOrNo (touchIn at m w)
+unfolding touchIn
+touch-is at m w = yes-or-no at m w noTouch no-log (omega arith) (inl none-said)
+
+-- yes and where, or no and 0
+pub touched-or-not : (c : Call) (at : ℕ) (b : Bytes) → YesOrNo (touchesOf c at b)
+unfolding touches counted
+touched-or-not c at b =
+    subst YesOrNo (sym (touches-program c at b))
+    (go (goodWindow at (b .window) && isRegister (b .records) (b .names) (b .missing))
+    (eqb (number (run at (programOf c b) (b .window) .0)) (number NoRoom)))
+  where
+    go
+        : (fit full : Bool)
+        → YesOrNo (if fit then (if full then touchIn at (beginning c) (b .window) else touchIn at (programOf c b) (b .window)) else (0, 0))
+    go true true = touch-is at (beginning c) (b .window)
+    go true false = touch-is at (programOf c b) (b .window)
+    go false full = inl refl
 
 touched-said : (t : List ℕ) → touchOf t .0 ≢ 0 → said t ≡ true
 unfolding touchOf said

@@ -1,6 +1,7 @@
 -- What a run keeps of window and trace: lengths, the first touch, and all of the trace where every access lies inside.
 use Prim.Native.Nat.{ℕ, zero, suc, _+_, _/_, _≤_, _<_, _^_}
 use mathlib.Core.Path.{_≡_, refl, sym, ap, _∙_}
+use mathlib.Core.Logic.{_⊎_, inr}
 use mathlib.Core.List.{List}
 use mathlib.Core.Bool.{Bool, true, false, not, _||_}
 use native.Mathlib.Omega.{arith}
@@ -8,14 +9,18 @@ use lib.ListN.{length}
 use lib.Dec.{ltb, eqb, lit<}
 use borrow.Author.Tests.{lt-ltb}
 use Rattle.window.specs.Memory.{if_then_else_, place, inside, byteAt, wordAt, putByte, putBytes, putWord, putUpward, putPrivileged}
-use Rattle.window.specs.Bytes.{length-putByte, putBytes-keeps, putUpward-keeps, wordAt-apart}
+use Rattle.window.specs.Bytes.{length-putByte, putBytes-keeps, putUpward-keeps, Whole, wordAt-same, wordAt-apart}
 use Rattle.window.specs.Access.{Prog, ret, read8, read32, write8, write32, writePrivileged, run, Reads}
 use Rattle.window.specs.Within.{Within, Lies, Four}
-use Rattle.window.specs.Trace.{S, outside, said, noted, saw, seen, storeT, storesT, upwardT, rd8, rd32, wr8, wr32, wrP, runT, wr32-put, wrP-put}
+use Rattle.window.specs.Trace.{S, outside, said, noted, saw, seen, storeT, storesT, upwardT, rd8, rd32, wr8, wr32, wrP, runT, touchOf, wr32-put, wrP-put}
 
 -- no log is kept
 abbrev pub quiet : List ℕ → Type 0
 quiet t = wordAt 0 t 0 ≡ 0
+
+-- a yes is 1, beside an address; "0 stands beside a no"
+abbrev pub YesOrNo : ℕ × ℕ → Type 0
+YesOrNo touch = (touch ≡ (0, 0)) ⊎ ((touch .0 ≡ 1) × (touch .1 < 2 ^ 32))
 
 if-keeps : {A : Type 0} (P : A → Type 0) (b : Bool) {x y : A} → P x → P y → P (if b then x else y)
 if-keeps P true h g = h
@@ -113,6 +118,31 @@ module _ (at : ℕ) where
             (wordAt-apart 0 (putWord 0 (u .1) 4 1) 8 x 0 (p .0) (p .1) ∙ wordAt-apart 0 (u .1) 4 1 0 (q .0) (q .1) ∙ h))
             (λ u x v h. h) m (w, t) o,
       )
+
+  noted-yes
+      : (t : List ℕ) (x : ℕ) → 12 ≤ length t
+      → (12 ≤ length (putWord 0 (putWord 0 t 4 1) 8 x)) × YesOrNo (touchOf (putWord 0 (putWord 0 t 4 1) 8 x))
+  unfolding touchOf place
+  noted-yes t x l =
+      let u = putWord 0 t 4 1 in
+      let n : length u ≡ length t = length-word t 4 1 in
+      let yes-whole : Whole 0 t 4 = λ k i. omega arith in
+      let start-whole : Whole 0 u 8 = λ k i. omega (arith, n) in (
+        rw (length-word u 8 x, n) l,
+        inr (
+          wordAt-apart 0 u 8 x 4 (omega arith) (omega arith) ∙ wordAt-same 0 t 4 1 yes-whole,
+          rw (wordAt-same 0 u 8 x start-whole) (omega arith),
+        ),
+      )
+
+  -- what is said is a yes or a no, in a trace that holds both words
+  pub yes-or-no
+      : {A : Type 0} (m : Prog A) (w t : List ℕ) → quiet t → 12 ≤ length t → YesOrNo (touchOf t) → YesOrNo (touchOf (runT at m (w, t) .1 .1))
+  unfolding storeT
+  yes-or-no m w t q l h =
+      runT-keeps (λ u. (12 ≤ length (u .1)) × YesOrNo (touchOf (u .1)))
+      (λ u x k g. saw-keeps (λ v. (12 ≤ length v) × YesOrNo (touchOf v)) (length (u .0)) x k (u .1) g (noted-yes (u .1) x (g .0)))
+      (λ u x v g. g) m (w, t) (l, h) .1
 
   -- what only reads gives what `run` gives and leaves the window, log or not
   pub reads-runT : {A : Type 0} (m : Prog A) (s : S) → Reads m → (runT at m s .0 ≡ run at m (s .0) .0) × (runT at m s .1 .0 ≡ s .0)
