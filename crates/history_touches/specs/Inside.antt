@@ -19,7 +19,7 @@ use Rattle.register.specs.Module.{Register}
 use Rattle.linker.specs.declared.rebase.Lent.{Lent}
 use Rattle.linker.specs.Calls as calls
 use Rattle.linker.specs.Calls.{Answer, Kept, unknown, firstWithBase, leave}
-use Rattle.linker.specs.Touches.{noTouch, touchIn}
+use Rattle.linker.specs.Touches.{noTouch, no-log, none-said, touchIn}
 use Rattle.history.specs.Arrival.{Coming, initialized, loaded, Image, Arrival, imageOf, baseOf, sizeOf, Area}
 use Rattle.history.specs.WellLaid.{WellLaid}
 use Rattle.history_steps.specs.Wp.{Memory, WithinM, Does}
@@ -31,7 +31,6 @@ use Rattle.history_sessions.specs.Unique.{noArrival, imageAt}
 use Rattle.history_sessions.specs.Registers.{last-at}
 use Rattle.history_theorem.specs.Invariant.{castOf, Resting, more-length, more-at}
 use Rattle.history_theorem.specs.Calls.{Fine, in-lies, fine-unlike, fine-once, cut-fresh}
-use Rattle.history_touches.specs.Programs.{no-log, none-said}
 
 -- accesses that lie in X on plain bytes lie there in a window that agrees with them
 module _ (X : ℕ → Type 0) (at n : ℕ) (fit : Lies X at n) where

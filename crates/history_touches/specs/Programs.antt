@@ -7,18 +7,17 @@ use mathlib.Core.Bool.{Bool, true, false, _&&_}
 use native.Mathlib.Omega.{arith}
 use lib.ListN.{length}
 use lib.Dec.{eqb}
-use borrow.Author.Tests.{ne-eqb}
-use Rattle.window.specs.Memory.{if_then_else_, place, byteAt, wordAt, goodWindow}
+use Rattle.window.specs.Memory.{if_then_else_, goodWindow}
 use Rattle.window.specs.Access.{Prog, ret, _>>=_, run}
-use Rattle.window.specs.Trace.{S, said, touchOf, runT, runT-bind}
-use Rattle.window.specs.Silent.{quiet, YesOrNo, silent, erase, yes-or-no}
+use Rattle.window.specs.Trace.{S, touchOf, runT, runT-bind}
+use Rattle.window.specs.Silent.{YesOrNo, touched-said, silent, erase, yes-or-no}
 use Rattle.register.specs.Decode.{isRegister}
 use Rattle.linker.specs.declared.call.Call.{Call}
 use Rattle.linker.specs.declared.call.Call.the-variants.{Initialize, Load, Unload}
 use Rattle.linker.specs.Calls.{NoRoom, number, rebase, rebaseStatic}
 use Rattle.linker.specs.Outcome.{Bytes}
 use Rattle.linker.specs.Refusals.{lentRegister}
-use Rattle.linker.specs.Touches.{noTouch, touchIn, upToReset, counted, touches, initializeTouches, loadTouches, unloadTouches, touchesOf}
+use Rattle.linker.specs.Touches.{noTouch, no-log, none-said, touchIn, upToReset, counted, touches, initializeTouches, loadTouches, unloadTouches, touchesOf}
 use Rattle.history.specs.Windows.{program}
 use Rattle.history_sessions.specs.Answers.{programOf, Performed}
 
@@ -54,15 +53,6 @@ touches-same call at b c e =
     ∙ rw (e .window, e .records, e .names, e .valid, e .register) refl
     ∙ sym (touches-program call at c)
 
--- nothing is said yet, and no log is kept
-pub no-log : quiet noTouch
-unfolding wordAt byteAt place
-no-log = refl
-
-pub none-said : touchOf noTouch ≡ (0, 0)
-unfolding touchOf wordAt byteAt place
-none-said = refl
-
 touch-is : {A : Type 0} (at : ℕ) (m : Prog A) (w : List ℕ) → YesOrNo (touchIn at m w)
 unfolding touchIn
 touch-is at m w = yes-or-no at m w noTouch no-log (omega arith) (inl none-said)
@@ -81,10 +71,6 @@ touched-or-not c at b =
     go true true = touch-is at (beginning c) (b .window)
     go true false = touch-is at (programOf c b) (b .window)
     go false full = inl refl
-
-touched-said : (t : List ℕ) → touchOf t .0 ≢ 0 → said t ≡ true
-unfolding touchOf said
-touched-said t n = rw (ne-eqb (wordAt 0 t 4) 0 n) refl
 
 -- a program's touch stands, whatever follows
 pub first-stands

@@ -1,13 +1,15 @@
 -- Touches of a call: whether one of its accesses had a byte outside the window, and where the first such access started.
 -- They are those of the very programs of accesses that give the call's outcome.
 use Prim.Native.Nat.{ℕ}
+use mathlib.Core.Path.{_≡_, refl}
 use mathlib.Core.List.{List}
 use mathlib.Core.Bool.{Bool, true, false, not, _&&_}
 use lib.ListN.{length, replicate}
 use lib.Dec.{eqb}
-use Rattle.window.specs.Memory.{if_then_else_, goodWindow}
+use Rattle.window.specs.Memory.{if_then_else_, place, byteAt, wordAt, goodWindow}
 use Rattle.window.specs.Access.{Prog, ret, _>>=_, run}
 use Rattle.window.specs.Trace.{runT, touchOf}
+use Rattle.window.specs.Silent.{quiet}
 use Rattle.register.specs.Module.{Register}
 use Rattle.register.specs.Decode.{registerOf, isRegister}
 use Rattle.linker.specs.declared.call.Call.{Call}
@@ -21,6 +23,14 @@ use Rattle.linker.specs.Outcome.{Bytes}
 -- a trace of which nothing is said yet, and which keeps no log
 abbrev pub noTouch : List ℕ
 noTouch = replicate 16 0
+
+pub no-log : quiet noTouch
+unfolding wordAt byteAt place
+no-log = refl
+
+pub none-said : touchOf noTouch ≡ (0, 0)
+unfolding touchOf wordAt byteAt place
+none-said = refl
 
 -- the touch that a program leaves, a yes or no (1 or 0) and a starting address; "0 stands beside a no"
 unfoldable pub touchIn : {A : Type 0} → ℕ → Prog A → List ℕ → ℕ × ℕ

@@ -5,15 +5,15 @@ use mathlib.Core.List.{List}
 use mathlib.Core.Bool.{Bool, true, false, _&&_}
 use lib.ListN.{length, replicate}
 use lib.Dec.{eqb}
-use Rattle.window.specs.Memory.{if_then_else_, place, byteAt, wordAt, goodWindow}
+use Rattle.window.specs.Memory.{if_then_else_, goodWindow}
 use Rattle.window.specs.Access.{Prog, run}
 use Rattle.window.specs.Trace.{S, runT, touchOf}
-use Rattle.window.specs.Silent.{quiet, erase}
+use Rattle.window.specs.Silent.{erase}
 use Rattle.register.specs.Module.{Register}
 use Rattle.register.specs.Decode.{isRegister}
 use Rattle.linker.specs.Calls.{Answer, NoRoom, number}
 use Rattle.linker.specs.Outcome.{Bytes, Outcome, settle, outcome}
-use Rattle.linker.specs.Touches.{noTouch, touchIn, counted, touches}
+use Rattle.linker.specs.Touches.{noTouch, no-log, touchIn, counted, touches}
 use Rattle.linker.specs.Refusals.{lentRegister, answers}
 use Rattle.linker_entry.specs.Entry.{tested}
 
@@ -26,10 +26,6 @@ unfoldable pub traced : (ℕ → ℕ → Register → Prog Answer) → Prog (Uni
 traced call beginning at b t =
     let x = runT at (callOf call b) (b .window, t) in
     (settle b (x .0, x .1 .0), counted (x .0) (runT at beginning (b .window, t) .1 .1) (x .1 .1))
-
-no-log : quiet noTouch
-unfolding wordAt byteAt place
-no-log = refl
 
 counted-ap : {A B : Type 0} (f : A → B) (a : Answer) (x y : A) → f (counted a x y) ≡ counted a (f x) (f y)
 unfolding counted
