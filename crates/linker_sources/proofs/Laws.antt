@@ -1,6 +1,6 @@
 -- From the code's calls and branches to the programs of `Imports` for one batch, one import and the imports of an entry.
 use Prim.Native.Nat.{ℕ, _-_}
-use mathlib.Core.Path.{_≡_, refl, sym, ap, _∙_}
+use mathlib.Core.Path.{_≡_, refl, ap, _∙_}
 use mathlib.Core.List.{List}
 use mathlib.Core.Option.{some}
 use mathlib.Core.Bool.{Bool, true, false, not}
@@ -8,7 +8,7 @@ use native.Mathlib.Omega.{arith}
 use lib.ListN.{take}
 use borrow.Author.Tests.{eq-eqb, ne-eqb}
 use Rattle.window.specs.Memory.{if_then_else_, _⊕_}
-use Rattle.window.specs.Access.{ret, _>>=_, get32}
+use Rattle.window.specs.Access.{ret, get32}
 use Rattle.window.specs.Trace.{S, runT}
 use Rattle.window.specs.TraceRuns.{given, gives, then-it, two, on-true, on-false}
 use Rattle.window.specs.Loop.{loop}

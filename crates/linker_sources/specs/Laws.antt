@@ -10,7 +10,7 @@ use Rattle.register.specs.Module.{Module}
 use Rattle.register_read.specs.declared.Symbol.{Symbol}
 use Rattle.register_read.specs.declared.Symbol.the-variants.{At, Nothing}
 use Rattle.linker.specs.Relocation.{applyRelocationBatch}
-use Rattle.linker.specs.Imports.{resolve, linkFrom, importsOf}
+use Rattle.linker.specs.Imports.{resolve, importsOf}
 use Rattle.linker_sources.specs.Source.{tablesOf, linkTables}
 use Rattle.linker_sources.specs.declared.source.ModuleTables.{ModuleTables}
 
@@ -33,7 +33,7 @@ module _ (at base batch : ℕ) (s : S) {symbol : Symbol} where
       : {a n : ℕ} {v : S} → symbol ≡ At a → (n, v) ≡ runT at (applyRelocationBatch base batch a true) s
       → v ≡ runT at (resolve base batch symbol) s .1
   unfolding resolve runT
-  resolved-by {a = a} {v = v} e h = rw (e, resolve) (ap left (gives at (applyRelocationBatch base batch a true) s (λ _. ret tt) h))
+  resolved-by {a = a} e h = rw (e, resolve) (ap left (gives at (applyRelocationBatch base batch a true) s (λ _. ret tt) h))
 
 -- both tables of a module entry
 pub tables-linked

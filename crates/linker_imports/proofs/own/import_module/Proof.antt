@@ -28,12 +28,13 @@ same-length-2 c = search needs
 returns : tie.Need-returns
 returns c =
     let p4 = c .before .before .before .before in
+    let read = p4 .tables-of .ensures in
     let p9 = p4 .before .before .before .before .before in
     let p14 = p9 .before .before .before .before .before in
     let p21 = p14 .before .before .before .before .before .before .before in
     let a = p21 .args in
     module-missing (a .records .now) (a .names .now) (a .at) (a .base) (a .entry) (a .w .now, a .trace .now)
-    (p14 .read32 .ensures) (p9 .module-by-name .ensures) (p4 .tables-of .ensures) (c .enum-told .given .1)
+    (p14 .read32 .ensures) (p9 .module-by-name .ensures) read (c .enum-told .given .1)
 
 link-from-requires : tie.Need-link-from-requires
 link-from-requires c κs = search needs
