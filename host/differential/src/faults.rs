@@ -1,7 +1,27 @@
-//! Calls that are lent a window that breaks its rule (number 3), or buffers that are no register (number 4).
+//! Calls that are lent a window that breaks its rule (number 3), or buffers that are no register (number 4); and wrong ways to
+//! tell a touch, which the comparison has to notice.
 
 use crate::under_test::Buffers;
+use fillqhano::calls::Answer;
+use oracle::memory::{Kind, Outside};
 use sessions::{Random, Step};
+
+/// How a touch is told from the accesses with a byte outside.
+pub type Told = fn(&[Outside]) -> Option<u32>;
+
+/// Wrong ways to tell it.
+pub const WRONGLY_TOLD: [(&str, Told); 6] = [
+    ("the first byte outside and not the start", |outside| outside.first().map(|access| access.byte)),
+    ("a later touch is kept", |outside| outside.last().map(|access| access.start)),
+    ("a write is not counted", |outside| first_of(outside, |access| access.kind != Kind::Write)),
+    ("a name's byte is not counted", |outside| first_of(outside, |access| access.kind != Kind::NameByte)),
+    ("an access that starts inside is not counted", |outside| first_of(outside, |access| access.byte == access.start)),
+    ("a touch at address 0 is none", |outside| first_of(outside, |_| true).filter(|&start| start != 0)),
+];
+
+fn first_of(outside: &[Outside], counts: fn(&Outside) -> bool) -> Option<u32> {
+    outside.iter().find(|access| counts(access)).map(|access| access.start)
+}
 
 /// Makes the call on a copy with one of eight faults. Gives its number, or what differs from a refusal that changes nothing.
 pub fn refused(buffers: &Buffers, step: &Step, random: &mut Random) -> Result<u32, String> {
@@ -9,7 +29,7 @@ pub fn refused(buffers: &Buffers, step: &Step, random: &mut Random) -> Result<u3
     let number = break_one(&mut broken, random);
     let before = broken.clone();
     let given = broken.call(step);
-    if given == (number, 0) && broken == before {
+    if given == Answer::new(number, 0, None) && broken == before {
         return Ok(number);
     }
     let changed = broken != before;

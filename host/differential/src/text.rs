@@ -17,7 +17,7 @@ pub fn printed(session: &Session, compared: &Compared) -> Option<String> {
         return None;
     }
     let mut text = format!("session {}\n", session.steps.len());
-    for (index, (step, answer)) in session.steps.iter().zip(&compared.answers).enumerate() {
+    for (index, (step, (answer, _))) in session.steps.iter().zip(&compared.answers).enumerate() {
         let call = match step.call {
             Call::Initialize => "initialize",
             Call::Load => "load",

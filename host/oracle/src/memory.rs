@@ -33,6 +33,33 @@ pub struct Watch {
     /// The window when the first name was read. A load reads its exports' names and its own first, and nothing is written
     /// between the external reset and them.
     pub after_reset: Option<Vec<u8>>,
+    /// The accesses with a byte outside the window, in their order. The lines that go to a log make none: no argument of
+    /// theirs is evaluated (see `log` in lib.rs).
+    pub outside: Vec<Outside>,
+}
+
+#[cfg(feature = "watched")]
+impl Watch {
+    /// The call's touch: where the first access outside started.
+    pub fn touch(&self) -> Option<u32> {
+        self.outside.first().map(|access| access.start)
+    }
+}
+
+/// An access with a byte outside the window: where it starts, and its first byte outside.
+#[cfg(feature = "watched")]
+#[derive(Debug, Clone, Copy)]
+pub struct Outside {
+    pub start: u32,
+    pub byte: u32,
+    pub kind: Kind,
+}
+
+#[derive(Debug, Clone, Copy, PartialEq, Eq)]
+pub enum Kind {
+    Read,
+    NameByte,
+    Write,
 }
 
 /// What a call is ended with when no access is left.
@@ -41,11 +68,16 @@ pub struct Cut;
 
 #[cfg(feature = "watched")]
 impl Memory {
-    fn access(&mut self) {
+    /// Counts an access, and notes it if one of its bytes is outside.
+    fn access(&mut self, start: u32, bytes: usize, kind: Kind) {
         if self.watch.left == 0 {
             std::panic::resume_unwind(Box::new(Cut));
         }
         self.watch.left -= 1;
+        let mut addresses = (0..bytes).map(|index| start.wrapping_add(index as u32));
+        if let Some(byte) = addresses.find(|&address| self.place(address) >= self.bytes.len()) {
+            self.watch.outside.push(Outside { start, byte, kind });
+        }
     }
 
     fn note_mark(&mut self, addr: u32) {
@@ -72,7 +104,7 @@ impl Memory {
 #[cfg(not(feature = "watched"))]
 impl Memory {
     #[inline(always)]
-    fn access(&mut self) {}
+    fn access(&mut self, _: u32, _: usize, _: Kind) {}
 
     #[inline(always)]
     fn note_mark(&mut self, _: u32) {}
@@ -113,22 +145,26 @@ impl Memory {
     }
 
     #[inline(always)]
-    fn read_byte(&mut self, addr: u32) -> u8 {
-        self.access();
+    fn byte_or_0(&mut self, addr: u32) -> u8 {
         self.byte(addr).map_or(0, |byte| *byte)
     }
 
+    /// One access, as a word is.
     pub fn read_bytes(&mut self, vaddr: u32, out: &mut [u8]) {
+        self.access(vaddr, out.len(), Kind::Read);
         for (i, byte) in out.iter_mut().enumerate() {
-            *byte = self.byte(vaddr.wrapping_add(i as u32)).map_or(0, |byte| *byte);
+            *byte = self.byte_or_0(vaddr.wrapping_add(i as u32));
         }
     }
 
+    /// An access a byte, the zero's among them.
     pub fn read_cstring(&mut self, vaddr: u32, max: usize) -> String {
         self.note_name();
         let mut bytes = Vec::new();
         for i in 0..max {
-            let b = self.read_byte(vaddr.wrapping_add(i as u32));
+            let addr = vaddr.wrapping_add(i as u32);
+            self.access(addr, 1, Kind::NameByte);
+            let b = self.byte_or_0(addr);
             if b == 0 {
                 break;
             }
@@ -138,7 +174,7 @@ impl Memory {
     }
 
     pub fn write32_privileged(&mut self, vaddr: u32, value: u32) -> bool {
-        self.access();
+        self.access(vaddr, 4, Kind::Write);
         if let Some(word) = self.whole(vaddr) {
             *word = value.to_le_bytes();
             return true;
@@ -157,23 +193,22 @@ impl Bus for Memory {
     #[inline(always)]
     fn read8(&mut self, addr: u32) -> u8 {
         self.note_mark(addr);
-        self.read_byte(addr)
+        self.access(addr, 1, Kind::Read);
+        self.byte_or_0(addr)
     }
 
     #[inline(always)]
     fn read32(&mut self, addr: u32) -> u32 {
-        self.access();
+        self.access(addr, 4, Kind::Read);
         if let Some(word) = self.whole(addr) {
             return u32::from_le_bytes(*word);
         }
-        let mut bytes = [0; 4];
-        self.read_bytes(addr, &mut bytes);
-        u32::from_le_bytes(bytes)
+        u32::from_le_bytes(std::array::from_fn(|i| self.byte_or_0(addr.wrapping_add(i as u32))))
     }
 
     #[inline(always)]
     fn write8(&mut self, addr: u32, value: u8) {
-        self.access();
+        self.access(addr, 1, Kind::Write);
         if let Some(byte) = self.byte(addr) {
             *byte = value;
         }
@@ -181,7 +216,7 @@ impl Bus for Memory {
 
     #[inline(always)]
     fn write32(&mut self, addr: u32, value: u32) {
-        self.access();
+        self.access(addr, 4, Kind::Write);
         if let Some(word) = self.whole(addr) {
             *word = value.to_le_bytes();
             return;
