@@ -28,8 +28,11 @@ pub struct Watch {
     pub left: u64,
     /// A name was not valid UTF-8.
     pub odd_name: bool,
-    /// A byte, not of a name, was read where the mark of a batch from 0xFFFF3FF4 up would be.
+    /// A 0 was read, right after the byte before it, where the end mark of the first entry of a batch from 0xFFFF3FF4 up would
+    /// be, so that such a batch may have been walked further.
     pub high_batch: bool,
+    /// Where the last single byte, not of a name, was read.
+    pub last_byte: Option<u32>,
     /// The window when the first name was read. A load reads its exports' names and its own first, and nothing is written
     /// between the external reset and them.
     pub after_reset: Option<Vec<u8>>,
@@ -80,10 +83,9 @@ impl Memory {
         }
     }
 
-    fn note_mark(&mut self, addr: u32) {
-        if !(6..0xFFFF_3FF4 + 6).contains(&addr) {
-            self.watch.high_batch = true;
-        }
+    fn note_byte(&mut self, addr: u32, byte: u8) {
+        let next = self.watch.last_byte.replace(addr) == Some(addr.wrapping_sub(1));
+        self.watch.high_batch |= next && byte == 0 && addr.wrapping_sub(5) >= 0xFFFF_3FF4;
     }
 
     fn note_name(&mut self) {
@@ -107,7 +109,7 @@ impl Memory {
     fn access(&mut self, _: u32, _: usize, _: Kind) {}
 
     #[inline(always)]
-    fn note_mark(&mut self, _: u32) {}
+    fn note_byte(&mut self, _: u32, _: u8) {}
 
     #[inline(always)]
     fn note_name(&mut self) {}
@@ -192,9 +194,10 @@ impl Memory {
 impl Bus for Memory {
     #[inline(always)]
     fn read8(&mut self, addr: u32) -> u8 {
-        self.note_mark(addr);
         self.access(addr, 1, Kind::Read);
-        self.byte_or_0(addr)
+        let byte = self.byte_or_0(addr);
+        self.note_byte(addr, byte);
+        byte
     }
 
     #[inline(always)]
