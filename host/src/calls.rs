@@ -80,6 +80,7 @@ pub struct Answer {
 }
 
 impl Answer {
+    /// The answer of this number, value and touch.
     pub fn new(number: u32, value: u32, touch: Option<u32>) -> Answer {
         Answer { number, value, touched: touch.is_some() as u32, first: touch.unwrap_or(0) }
     }

@@ -6,6 +6,7 @@ use crate::touches::{Beginning, End};
 use crate::under_test::{self, Buffers};
 use fillqhano::calls::Answer;
 use fillqhano::Linker;
+use oracle::memory::Watch;
 use oracle::Oracle;
 use sessions::{Call, Random, Session, State, Step};
 use std::ops::AddAssign;
@@ -81,7 +82,7 @@ pub struct Compared {
 
 /// Runs a session on both sides; none without the Rust's sources.
 pub fn compare(session: &Session) -> Option<Compared> {
-    compare_by(session, |outside| outside.first().map(|access| access.start))
+    compare_by(session, Watch::touch)
 }
 
 /// The same, the Rust's touches told in this way.
@@ -137,7 +138,7 @@ impl<'a> Run<'a> {
             self.done.tally.cut += 1;
             return false;
         };
-        let mut expected = Answer::new(number, value, (self.told)(&self.oracle.watch().outside));
+        let mut expected = Answer::new(number, value, (self.told)(self.oracle.watch()));
         let mut doubt = None;
         if step.call != Call::Unload {
             let model = Beginning::of(self.session.at, self.buffers.window.clone(), step);

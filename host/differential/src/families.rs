@@ -478,15 +478,15 @@ fn reach(random: &mut Random, session: &mut Session) {
     }
     match random.below(10) {
         0 => put_wrapped(session, place.wrapping_add(0xB0 + 8 * random.below(17)), offset),
-        1 | 8 => cut_table(random, session, place),
-        2 => put_wrapped(session, place.wrapping_add(0xC0), offset),
-        3 | 4 => reach_from_entry(random, session, place, offset),
-        5 => {
+        1 | 2 => cut_table(random, session, place),
+        3 => put_wrapped(session, place.wrapping_add(0xC0), offset),
+        4 | 5 => reach_from_entry(random, session, place, offset),
+        6 => {
             let entry = entry_of(random, session, place, 0xC8, 12);
             put_wrapped(session, entry, offset);
             put_wrapped(session, entry.wrapping_add(4), random.from_to(1, 0x200));
         }
-        6 | 7 => segments_across(random, session, base),
+        7 | 8 => segments_across(random, session, base),
         _ => {
             for step in session.steps.iter_mut().filter(|step| step.call == Call::Load && step.base == base) {
                 match random.once_in(2) {
@@ -498,10 +498,10 @@ fn reach(random: &mut Random, session: &mut Session) {
     }
 }
 
-/// Moves a table to the window's end, which cuts its last entry.
+/// Moves a table, often that of module entries, to the window's end, which cuts its last entry.
 fn cut_table(random: &mut Random, session: &mut Session, place: u32) {
-    let tables = [(0xC8, 12), (0xD0, 8), (0xD8, 4), (0xF0, 20), (0xF8, 12), (0x100, 8), (0x108, 8), (0x110, 8), (0x128, 12)];
-    let (field, size) = random.pick(&tables);
+    let tables = [(0xC8, 12), (0xD0, 8), (0xD8, 4), (0xF8, 12), (0x100, 8), (0x108, 8), (0x110, 8), (0x128, 12)];
+    let (field, size) = if random.once_in(4) { (0xF0, 20) } else { random.pick(&tables) };
     let table = place.wrapping_add(word(&session.window, place.wrapping_add(field)));
     let count = word(&session.window, place.wrapping_add(field + 4)).clamp(1, 40);
     let outside = random.pick(&[1, 2, 4, 4, size / 2, size]).min(size);
@@ -510,6 +510,7 @@ fn cut_table(random: &mut Random, session: &mut Session, place: u32) {
     if table as usize <= to {
         session.window.copy_within(table as usize..table as usize + inside, to);
         put_wrapped(session, place.wrapping_add(field), (to as u32).wrapping_sub(place));
+        put_wrapped(session, place.wrapping_add(field + 4), count);
     }
 }
 

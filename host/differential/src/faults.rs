@@ -3,24 +3,24 @@
 
 use crate::under_test::Buffers;
 use fillqhano::calls::Answer;
-use oracle::memory::{Kind, Outside};
+use oracle::memory::{Kind, Outside, Watch};
 use sessions::{Random, Step};
 
-/// How a touch is told from the accesses with a byte outside.
-pub type Told = fn(&[Outside]) -> Option<u32>;
+/// How a touch is told from what is noted of a call.
+pub type Told = fn(&Watch) -> Option<u32>;
 
 /// Wrong ways to tell it.
 pub const WRONGLY_TOLD: [(&str, Told); 6] = [
-    ("the first byte outside and not the start", |outside| outside.first().map(|access| access.byte)),
-    ("a later touch is kept", |outside| outside.last().map(|access| access.start)),
-    ("a write is not counted", |outside| first_of(outside, |access| access.kind != Kind::Write)),
-    ("a name's byte is not counted", |outside| first_of(outside, |access| access.kind != Kind::NameByte)),
-    ("an access that starts inside is not counted", |outside| first_of(outside, |access| access.byte == access.start)),
-    ("a touch at address 0 is none", |outside| first_of(outside, |_| true).filter(|&start| start != 0)),
+    ("the first byte outside and not the start", |watch| watch.outside.first().map(|access| access.byte)),
+    ("a later touch is kept", |watch| watch.outside.last().map(|access| access.start)),
+    ("a write is not counted", |watch| first_of(watch, |access| access.kind != Kind::Write)),
+    ("a name's byte is not counted", |watch| first_of(watch, |access| access.kind != Kind::NameByte)),
+    ("an access that starts inside is not counted", |watch| first_of(watch, |access| access.byte == access.start)),
+    ("a touch at address 0 is none", |watch| watch.touch().filter(|&start| start != 0)),
 ];
 
-fn first_of(outside: &[Outside], counts: fn(&Outside) -> bool) -> Option<u32> {
-    outside.iter().find(|access| counts(access)).map(|access| access.start)
+fn first_of(watch: &Watch, counts: fn(&Outside) -> bool) -> Option<u32> {
+    watch.outside.iter().find(|access| counts(access)).map(|access| access.start)
 }
 
 /// Makes the call on a copy with one of eight faults. Gives its number, or what differs from a refusal that changes nothing.

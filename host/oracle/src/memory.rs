@@ -58,6 +58,7 @@ pub struct Outside {
     pub kind: Kind,
 }
 
+/// What an access does.
 #[derive(Debug, Clone, Copy, PartialEq, Eq)]
 pub enum Kind {
     Read,
