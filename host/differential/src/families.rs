@@ -420,6 +420,12 @@ fn reaching(random: &mut Random) -> Session {
         reach(random, &mut session);
     }
     if random.once_in(4) {
+        // a module whose magic lies at an edge
+        let base = edge(random, &session).wrapping_sub(0x80);
+        let step = random.pick(&session.steps);
+        session.steps.push(Step { base, ..step });
+    }
+    if random.once_in(4) {
         (session.records, session.names) = (32 + random.below(400) as usize, random.below(100) as usize);
     }
     cap_counts(random, &mut session);
@@ -437,7 +443,8 @@ fn move_to(session: &mut Session, at: u32) {
     }
 }
 
-/// Has for its static module one at the end of a window at the top, whose list fields lie at address 0, or close to it.
+/// Has for its static module one at the end of a window at the top, whose list fields lie at address 0, or close to it. Where its
+/// record leaves at once, the lists are all that is left of it.
 fn lists_at_0(random: &mut Random, session: &mut Session) {
     let length = session.window.len() as u32;
     move_to(session, 0u32.wrapping_sub(length));
@@ -445,6 +452,9 @@ fn lists_at_0(random: &mut Random, session: &mut Session) {
     put_wrapped(session, base - session.at + 0x80, u32::from_le_bytes(*b"CRS0"));
     session.steps.retain(|step| step.call != Call::Initialize);
     session.steps.insert(0, Step::initialize(base, 0x138));
+    if random.once_in(2) {
+        session.steps.insert(1, Step::unload(base));
+    }
 }
 
 /// Lets the window end a page sooner, or begin a page later, whatever lies there.
@@ -476,7 +486,7 @@ fn reach(random: &mut Random, session: &mut Session) {
         let end = session.window.len();
         session.window[end - random.below(24) as usize..].fill(random.pick(&[1, b'x']));
     }
-    match random.below(10) {
+    match random.below(11) {
         0 => put_wrapped(session, place.wrapping_add(0xB0 + 8 * random.below(17)), offset),
         1 | 2 => cut_table(random, session, place),
         3 => put_wrapped(session, place.wrapping_add(0xC0), offset),
@@ -487,6 +497,7 @@ fn reach(random: &mut Random, session: &mut Session) {
             put_wrapped(session, entry.wrapping_add(4), random.from_to(1, 0x200));
         }
         7 | 8 => segments_across(random, session, base),
+        9 => batch_over_end(random, session, place),
         _ => {
             for step in session.steps.iter_mut().filter(|step| step.call == Call::Load && step.base == base) {
                 match random.once_in(2) {
@@ -498,13 +509,13 @@ fn reach(random: &mut Random, session: &mut Session) {
     }
 }
 
-/// Moves a table, often that of module entries, to the window's end, which cuts its last entry.
+/// Moves a table, often that of module entries, to the window's end, which mostly cuts its last entry.
 fn cut_table(random: &mut Random, session: &mut Session, place: u32) {
     let tables = [(0xC8, 12), (0xD0, 8), (0xD8, 4), (0xF8, 12), (0x100, 8), (0x108, 8), (0x110, 8), (0x128, 12)];
     let (field, size) = if random.once_in(4) { (0xF0, 20) } else { random.pick(&tables) };
     let table = place.wrapping_add(word(&session.window, place.wrapping_add(field)));
     let count = word(&session.window, place.wrapping_add(field + 4)).clamp(1, 40);
-    let outside = random.pick(&[1, 2, 4, 4, size / 2, size]).min(size);
+    let outside = random.pick(&[0, 1, 2, 4, 4, size / 2, size]).min(size);
     let inside = (count * size - outside) as usize;
     let to = session.window.len() - inside;
     if table as usize <= to {
@@ -535,6 +546,15 @@ fn reach_from_entry(random: &mut Random, session: &mut Session, place: u32, offs
     ]);
     let entry = entry_of(random, session, place, field, size);
     put_wrapped(session, entry.wrapping_add(pointer), offset);
+}
+
+/// Lets the batch of a named import begin so that its second or third entry lies across the window's end; no end mark stands there.
+fn batch_over_end(random: &mut Random, session: &mut Session, place: u32) {
+    let entry = entry_of(random, session, place, 0x100, 8);
+    let length = session.window.len() as u32;
+    let batch = length - random.from_to(12, 36);
+    session.window[batch as usize..].fill(0);
+    put_wrapped(session, entry.wrapping_add(4), batch.wrapping_sub(place));
 }
 
 /// Lets the table of segments lie across an edge, with an offset inside so great that it is refused: in the first entry at the
