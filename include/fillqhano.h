@@ -1,7 +1,8 @@
 /* The linker of CRO modules: three calls over memory that the host lends.
  *
  * A lent buffer is passed as two arguments, a pointer to its first byte and its length in bytes. The pointers must be
- * valid for their lengths, not null even where a length is 0, and the buffers, `*value` included, must not overlap.
+ * valid for their lengths, not null even where a length is 0, and the buffers, `*value`, `*touched` and `*first` included,
+ * must not overlap.
  * A call keeps no pointer, allocates nothing, and has no state but the buffers. Every call ends on any bytes and
  * any arguments.
  *
@@ -26,6 +27,12 @@
  *   4  the three buffers are no register; nothing has changed
  *   5  64 modules stand, or the module's record or its names have no room; the window has been written (initialize and load)
  * The register is unchanged by 1 to 5, and *value is 0 then.
+ *
+ * Touches: *touched becomes 1 if an access of the call had a byte outside the window, and *first the address where the first
+ * such access started, in the order of accesses of the Rust that this was ported from; else both become 0. A touch may start
+ * at address 0. A word is one access, and so is each byte of a name; a write counts even where it is dropped or cut. With 3
+ * and 4 there is no access, with 1 the magic's alone, with 2 those up to the bad segment, with 5 those of the rebase and of
+ * the external reset.
  */
 #ifndef FILLQHANO_H
 #define FILLQHANO_H
@@ -44,7 +51,7 @@ uint32_t initialize(uint32_t at,
                     uint8_t *names, size_t names_length,
                     uint8_t *missing, size_t missing_length,
                     uint32_t base, uint32_t size,
-                    uint32_t *value);
+                    uint32_t *value, uint32_t *touched, uint32_t *first);
 
 /* Loads the module at `base`, `size` bytes long, its data and bss segments at the addresses given, with their sizes.
  * auto_link: 0, or anything else for a module whose named exports others may use.
@@ -59,7 +66,7 @@ uint32_t load(uint32_t at,
               uint32_t data_at, uint32_t data_size,
               uint32_t bss_at, uint32_t bss_size,
               uint32_t auto_link, uint32_t level,
-              uint32_t *value);
+              uint32_t *value, uint32_t *touched, uint32_t *first);
 
 /* Unloads the first module whose record has `base`: the batches of auto-linked modules that it served go back to their
  * handlers, it leaves its list, its offsets become those of its file, and its record and names leave the register.
@@ -70,7 +77,7 @@ uint32_t unload(uint32_t at,
                 uint8_t *names, size_t names_length,
                 uint8_t *missing, size_t missing_length,
                 uint32_t base,
-                uint32_t *value);
+                uint32_t *value, uint32_t *touched, uint32_t *first);
 
 #ifdef __cplusplus
 }

@@ -1,9 +1,9 @@
 #!/usr/bin/env python3
 """Makes the stored calls that the program call_cases runs, and the output that it must give.
 
-Each case is a call of initialize, load or unload, the bytes that stand before it, and what it must give: number, value, and
-the bytes that it changes, worked out by hand from document 01 (with 000's Rust where 01 refers to it). No model of the linker
-stands here. The reason stands in the case's first line.
+Each case is a call of initialize, load or unload, the bytes that stand before it, and what it must give: number, value, touch,
+and the bytes that it changes, worked out by hand from document 01 (with 000's Rust where 01 refers to it) and, for touches,
+document 02, ask 2. No model of the linker stands here. The reason stands in the case's first line.
 
 Run from the root of the repository: python3 tools/call_cases.py [--list]
 It writes crates/call_cases/stdin and stdout, the same bytes each time; with --list it prints the reasons.
@@ -16,6 +16,7 @@ MISSING_BYTES = 32896
 B = 0x100000  # the window's address, and the module's base in most cases
 C = 0x101000  # the base of another module in the window
 FAR = 0x500000  # the base of a module outside the window: all that is read there is 0
+SERVED = FAR + 0x100  # what a load of another module first reads of it: the table of its named imports
 
 # Header fields; each from CODE on is an offset and a size or count.
 MAGIC, NAME, NEXT, PREVIOUS, FIXED, HANDLER = 0x080, 0x084, 0x088, 0x08C, 0x098, 0x0AC
@@ -67,12 +68,13 @@ ARGUMENTS = 'base', 'size', 'data', 'data_size', 'bss', 'bss_size', 'auto', 'lev
 
 
 def case(reason, call, number, value, window=None, stands=None, changes=None, lengths=(0x1000, 256, 64, MISSING_BYTES), address=B,
-         **arguments):
-    """A case; `window` and `stands` are the bytes before it, `changes` those that it must write, window ones by their address."""
+         touch=None, **arguments):
+    """A case; `window` and `stands` are the bytes before it, `changes` those that it must write, window ones by their address.
+    `touch` is where its first access with a byte outside the window starts."""
     stands = dict({'records': {}, 'names': {}, 'missing': {}}, **(stands or {}))
     stands['window'] = window or {}
     given = dict({'base': B, 'size': 0x1000} if call != UNLOAD else {'base': B}, **arguments)
-    CASES.append((reason, call, number, value, stands, changes or {}, lengths, address, [given.get(a, 0) for a in ARGUMENTS]))
+    CASES.append((reason, call, number, value, touch, stands, changes or {}, lengths, address, [given.get(a, 0) for a in ARGUMENTS]))
 
 
 def load(reason, number, value, window=None, stands=None, changes=None, **rest):
@@ -140,7 +142,7 @@ load('Level 3 cuts from 0x0D0; what ends past the code before it, the name, is c
              B + IMPORT_NAMED: B + 0x2000, B + IMPORT_INDEXED: B + 0x2000, B + IMPORT_ANONYMOUS: B + 0x2000,
              B + IMPORT_STRINGS: B + 0x2000, B + STATIC_ANONYMOUS: B + 0x2000, B + INTERNAL: B + 0x2000, B + STATIC_RELOCATIONS: B + 0x2000},
          'records': {0: [1, 0, 0, 64], 32: [B, 0x3000, 1, 0, 0, 0, 0, 0]},
-     }, auto=1, level=3, size=0x3000)
+     }, auto=1, level=3, size=0x3000, touch=B + 0x1000)  # the name's first byte
 load('Length 0x1001 rounds up to 0x2000 and is at most the given 0x1800', 0, 0x1800, at(B, {CODE: [0x138, 0xEC9]}), None, {
     'window': {**MOVED, B + FIXED: 0x1800, B + STATIC_ANONYMOUS: B + 0x1800, B + INTERNAL: B + 0x1800, B + STATIC_RELOCATIONS: B + 0x1800},
     'records': {0: [1, 0, 0, 64], 32: [B, 0x1800, 1, 0, 0, 0, 0, 0]},
@@ -201,7 +203,8 @@ load('A name that fills the free bytes passes', 0, 0, NAMED_ABC, None, {
 }, lengths=(0x1000, 256, 3, MISSING_BYTES), auto=1)
 load('5: 64 modules stand', 5, 0, LEAST, register(*[module(FAR, 0)] * 64), {'window': MOVED}, lengths=(0x1000, 8192, 64, MISSING_BYTES), auto=1)
 load('The 64th module is taken in', 0, 0, LEAST, register(*[module(FAR, 0)] * 63), {
-    'window': MOVED, 'records': {0: [64, 0, 0, 2080], 2048: [B, 0x1000, 1, 0, 0, 0, 0, 0]}}, lengths=(0x1000, 8192, 64, MISSING_BYTES), auto=1)
+    'window': MOVED, 'records': {0: [64, 0, 0, 2080], 2048: [B, 0x1000, 1, 0, 0, 0, 0, 0]}}, lengths=(0x1000, 8192, 64, MISSING_BYTES), auto=1,
+     touch=SERVED)
 load('A name is the bytes before a zero, at most 512', 0, 0, at(B, {MODULE_NAME: [0x400, 1], 0x400: b'n' * 513}), None, {
     'window': {B + MODULE_NAME: B + 0x400}, 'records': {0: [1, 0, 0, 64, 512], 32: [B, 0x1000, 1, 0, 512, 0, 0, 0]},
     'names': {0: b'n' * 512}}, lengths=(0x1000, 256, 1024, MISSING_BYTES), auto=1)
@@ -239,19 +242,21 @@ load('The old place counts from the last Data segment of size above 0, whichever
 load('A relocated word begun two bytes before the window\'s end stores its lower two', 0, 0,
      internal(relocation(tag(0, 2), 2, 0, 0), (0xFFC, 4, 0)), None, {
          'window': {B + SEGMENTS: B + 0x200, B + INTERNAL: B + 0x360, B + 0x200: B + 0xFFC, B + 0xFFE: b'\xFC\x0F'},
-         'records': {0: [1, 0, 0, 68], 32: [B, 0x1000, 1, 0, 0, 1, 0, 0, B + 0xFFC]}}, auto=1)
+         'records': {0: [1, 0, 0, 68], 32: [B, 0x1000, 1, 0, 0, 1, 0, 0, B + 0xFFC]}}, auto=1, touch=B + 0xFFE)
 load('A relocated word begun two bytes below the window writes nothing, though two of its bytes are inside', 0, 0,
      internal(relocation(tag(0, 0), 2, 0, 0), (0xFFFFFFFE, 4, 0)), None, {
          'window': {B + SEGMENTS: B + 0x200, B + INTERNAL: B + 0x360, B + 0x200: B - 2},
-         'records': {0: [1, 0, 0, 68], 32: [B, 0x1000, 1, 0, 0, 1, 0, 0, B - 2]}}, auto=1)
+         'records': {0: [1, 0, 0, 68], 32: [B, 0x1000, 1, 0, 0, 1, 0, 0, B - 2]}}, auto=1, touch=B - 2)
 load('A header that runs out of the window reads 0 there, and its writes are dropped', 0, 0, {B + 0xFFC: b'CRO0'}, None, {
-    'records': {0: [1, 0, 0, 64], 32: [B + 0xF7C, 0x1000, 1, 0, 0, 0, 0, 0]}}, base=B + 0xF7C, auto=1, level=1)
+    'records': {0: [1, 0, 0, 64], 32: [B + 0xF7C, 0x1000, 1, 0, 0, 0, 0, 0]}}, base=B + 0xF7C, auto=1, level=1, touch=B + 0xF7C + NAME)
 
 load('An ordinary word write at the window\'s end stores the bytes inside: of 0x138 + base the lower two', 0, 0,
      {B + 0xFCE: b'CRO0', B + 0xFFE: b'\x38\x01'}, None, {
-         'window': {B + 0xFFE: b'\x86\x10'}, 'records': {0: [1, 0, 0, 64], 32: [B + 0xF4E, 0x1000, 1, 0, 0, 0, 0, 0]}}, base=B + 0xF4E, auto=1)
+         'window': {B + 0xFFE: b'\x86\x10'}, 'records': {0: [1, 0, 0, 64], 32: [B + 0xF4E, 0x1000, 1, 0, 0, 0, 0, 0]}}, base=B + 0xF4E, auto=1,
+     touch=B + 0xF4E + CODE)
 load('A name that runs to the window\'s end ends there: what is outside reads as 0', 0, 0, at(B, {MODULE_NAME: [0xFFE, 2], 0xFFE: b'ab'}), None, {
-    'window': {B + MODULE_NAME: B + 0xFFE}, 'records': {0: [1, 0, 0, 64, 2], 32: [B, 0x1000, 1, 0, 2, 0, 0, 0]}, 'names': {0: b'ab'}}, auto=1)
+    'window': {B + MODULE_NAME: B + 0xFFE}, 'records': {0: [1, 0, 0, 64, 2], 32: [B, 0x1000, 1, 0, 2, 0, 0, 0]}, 'names': {0: b'ab'}}, auto=1,
+     touch=B + 0x1000)
 
 # - external relocations and the handler
 def external(handler, entries):
@@ -299,17 +304,17 @@ IMPORT_MOVED = {**EXTERNAL_MOVED, B + IMPORT_NAMED: B + 0x380, B + 0x380: [B + 0
 FOO = module(FAR, 1, b'', (), ((b'foo', FAR + 0x10),))
 AFTER_FOO = {0: [2, 0, 0, 112, 3], 76: [B, 0x1000, 1, 3, 0, 1, 0, 0, B + 0x800]}
 load('A named import gets the address of a standing auto-linked module, + addend, and its batch is marked', 0, 0, importing(ONE), register(FOO), {
-    'window': {**IMPORT_MOVED, B + 0x800: FAR + 0x14, B + 0x2C6: b'\1'}, 'records': AFTER_FOO}, auto=1)
+    'window': {**IMPORT_MOVED, B + 0x800: FAR + 0x14, B + 0x2C6: b'\1'}, 'records': AFTER_FOO}, auto=1, touch=SERVED)
 load('A name that nothing provides keeps the handler and goes to the missing list', 0, 0, importing(ONE), None, {
     'window': {**IMPORT_MOVED, B + 0x800: B + 0x844},
     'records': {0: [1, 0, 0, 68, 0, 1], 32: [B, 0x1000, 1, 0, 0, 1, 0, 0, B + 0x800]}, 'missing': {0: b'\3\0foo'}}, auto=1)
 load('An exporter with auto-link 0 is not asked', 0, 0, importing(ONE), register(module(FAR, 0, b'', (), ((b'foo', FAR + 0x10),))), {
     'window': {**IMPORT_MOVED, B + 0x800: B + 0x844},
-    'records': {0: [2, 0, 0, 112, 3, 1], 76: [B, 0x1000, 1, 3, 0, 1, 0, 0, B + 0x800]}, 'missing': {0: b'\3\0foo'}}, auto=1)
+    'records': {0: [2, 0, 0, 112, 3, 1], 76: [B, 0x1000, 1, 3, 0, 1, 0, 0, B + 0x800]}, 'missing': {0: b'\3\0foo'}}, auto=1, touch=SERVED)
 load('Of two exporters the one loaded first provides', 0, 0, importing(ONE),
      register(FOO, module(FAR, 1, b'', (), ((b'foo', FAR + 0x20),))), {
          'window': {**IMPORT_MOVED, B + 0x800: FAR + 0x14, B + 0x2C6: b'\1'},
-         'records': {0: [3, 0, 0, 156, 6], 120: [B, 0x1000, 1, 6, 0, 1, 0, 0, B + 0x800]}}, auto=1)
+         'records': {0: [3, 0, 0, 156, 6], 120: [B, 0x1000, 1, 6, 0, 1, 0, 0, B + 0x800]}}, auto=1, touch=SERVED)
 OWN = importing(ONE, {NAMED: [0x240, 1], 0x240: [0x400, tag(0, 0x20)]})
 OWN_MOVED = {**IMPORT_MOVED, B + NAMED: B + 0x240, B + 0x240: B + 0x400}
 load('Named lookup asks the module itself too', 0, 0, OWN, None, {
@@ -323,11 +328,11 @@ load('A batch is walked up to its end mark: kinds 2, 3 and 10 are written, 5 and
      importing(relocation(tag(0, 0), 2, 0, 4) + relocation(tag(0, 8), 3, 0, 0) + relocation(tag(0, 12), 5, 0, 0) + relocation(tag(1, 0), 2, 0, 0)
                + relocation(tag(0, 16), 10, 1, 1) + relocation(tag(0, 20), 2, 1, 0), {HANDLER: tag(1, 0)}), register(FOO), {
          'window': {**IMPORT_MOVED, B + 0x800: FAR + 0x14, B + 0x808: FAR + 0x10 - B - 0x808, B + 0x810: FAR + 0x11, B + 0x2C6: b'\1'},
-         'records': AFTER_FOO}, auto=1)
+         'records': AFTER_FOO}, auto=1, touch=SERVED)
 load('A batch without an end mark ends after 0x1001 entries; those outside the window read as 0, of kind 0', 0, 0,
      importing(ONE, {EXTERNAL: [0xF00, 1], 0x380: [0x400, 0xF00], 0xF00: relocation(tag(0, 0), 2, 0, 4)}), register(FOO), {
          'window': {**IMPORT_MOVED, B + EXTERNAL: B + 0xF00, B + 0x384: B + 0xF00, B + 0x800: FAR + 0x14, B + 0xF06: b'\1'},
-         'records': AFTER_FOO}, auto=1)
+         'records': AFTER_FOO}, auto=1, touch=B + 0x1000)  # the kind of the entry at 0xFFC
 load('An import whose batch is 0 is passed over, and is not missing', 0, 0, importing(ONE, {0x380: [0x400, 0]}), None, {
     'window': {**EXTERNAL_MOVED, B + IMPORT_NAMED: B + 0x380, B + 0x380: B + 0x400, B + 0x800: B + 0x844}, 'records': CODE_RECORD}, auto=1)
 load('64 missing names stand: another is not kept', 0, 0, importing(ONE), register(missing=[b'm'] * 64), {
@@ -353,9 +358,9 @@ AFTER_DLL = {0: [2, 0, 0, 116, 3], 80: [B, 0x1000, 1, 3, 0, 1, 0, 0, B + 0x800]}
 load('A module entry imports by index, and a segment\'s address + offset, from a module of that name, auto-linked or not', 0, 0,
      by_module(1, tag(1, 0x1234)), register(DLL), {
          'window': {**BY_MODULE_MOVED, B + 0x800: FAR + 0x40, B + 0x804: FAR + 0x1434, B + 0x2C6: b'\1', B + 0x2D2: b'\1'},
-         'records': AFTER_DLL}, auto=1)
+         'records': AFTER_DLL}, auto=1, touch=SERVED)
 load('An index at the count, or a segment that does not exist: the batches keep the handler', 0, 0, by_module(2, tag(2, 0)), register(DLL), {
-    'window': {**BY_MODULE_MOVED, B + 0x800: B + 0x840, B + 0x804: B + 0x840}, 'records': AFTER_DLL}, auto=1)
+    'window': {**BY_MODULE_MOVED, B + 0x800: B + 0x840, B + 0x804: B + 0x840}, 'records': AFTER_DLL}, auto=1, touch=SERVED)
 load('A module entry whose name no module has is passed over; it is not missing', 0, 0, by_module(0, tag(0, 0)), None, {
     'window': {**BY_MODULE_MOVED, B + 0x800: B + 0x840, B + 0x804: B + 0x840}, 'records': CODE_RECORD}, auto=1)
 
@@ -459,6 +464,65 @@ unload('The tail leaves its list: the one before has no next, and the head of ei
            'window': {**LEFT, B + PREVIOUS: 0, C + 0x900 + NEXT: 0, C + 0x800 + PREVIOUS: C + 0x900},
            'records': {0: [1, 1, C, 64], 64: [0, 0, 0]}}, lengths=TWO_PAGES)
 
+# - no touches: document 01's session, and an unload after it
+unload('Document 01\'s session, call 1: an unknown base is not accessed', 0, 0, LEAST)
+load('Document 01\'s session, call 2: a magic that is none, but inside', 1, 0, LEAST, base=B + 0x800, auto=1, level=1)
+load('Document 01\'s session, call 3: all of the module lies inside', 0, 0x1000, LEAST, None,
+     {'window': {**MOVED, **LEVEL_1}, 'records': FIRST}, auto=1, level=1)
+unload('After document 01\'s session: the dropped tables, which point at the window\'s end, are empty and not accessed', 0, 1,
+       {**LEAST, B + CODE: [B + 0x138, 0x10], **LEVEL_1}, register(module(B, 1)), {
+           'window': {B + CODE: 0x138, B + FIXED: 0, B + STATIC_ANONYMOUS: 0x1000, B + INTERNAL: 0x1000, B + STATIC_RELOCATIONS: 0x1000},
+           'records': {0: [0, 0, 0, 32], 32: [0, 0, 0]}})
+
+# - touches with a refusal
+load('1: the magic alone is accessed, here outside', 1, 0, base=B + 0xFFE, auto=1, touch=B + 0x107E)
+load('1: the magic is one word, and a touch if half of it is outside, with its start', 1, 0, base=B + 0xF7E, auto=1, touch=B + 0xFFE)
+load('2: Data above what is lent is no touch, and the lent address is not accessed', 2, 0,
+     at(B, {SEGMENTS: [0x200, 1], 0x200: [0, 0x11, 2]}), None, {'window': {B + SEGMENTS: B + 0x200}}, data=0x200000, data_size=0x10, auto=1)
+load('2: a segment that is read before the bad one, outside, is a touch', 2, 0, at(B, {SEGMENTS: [0xFFFFFFF4, 2], 0: 0x1001}), None,
+     {'window': {B + SEGMENTS: B - 12}}, auto=1, touch=B - 12)
+load('3: no access is made, wherever the base is', 3, 0, base=FAR, lengths=(0xFFF, 256, 64, MISSING_BYTES))
+load('4: no access is made, wherever the base is', 4, 0, None, {'records': {0: [65]}}, base=FAR)
+CUT_SEGMENTS = at(B, {SEGMENTS: [0xFF0, 2]}, b'CRS0')
+initialize('It looks the segments up: the second one\'s size lies outside', 0, 0, CUT_SEGMENTS, None, {
+    'window': {B + SEGMENTS: B + 0xFF0}, 'records': {0: [1, 1, B, 72], 32: [B, 0x1000, 1, 0, 0, 2, 0, 0, 0, 0]}}, touch=B + 0x1000)
+initialize('5: the lookups of the rebase count', 5, 0, CUT_SEGMENTS, None, {'window': {B + SEGMENTS: B + 0xFF0}},
+           lengths=(0x1000, 32, 64, MISSING_BYTES), touch=B + 0x1000)
+FAR_NAME = at(B, {NAMED: [0x210, 1], 0x210: [0x2000, 0]})
+FAR_NAME_MOVED = {B + NAMED: B + 0x210, B + 0x210: B + 0x2000}
+load('5: the accesses of the record do not count, here of an export\'s name', 5, 0, FAR_NAME, None, {'window': FAR_NAME_MOVED},
+     lengths=(0x1000, 32, 64, MISSING_BYTES), auto=1)
+load('With room they count: the name comes before the tag, which is not usable', 0, 0, FAR_NAME, None,
+     {'window': FAR_NAME_MOVED, 'records': FIRST}, auto=1, touch=B + 0x2000)
+
+# - touches of a load or an unload that is done
+load('A batch entry\'s tag is read first: a batch at 0xFF1 without an end mark goes on at 0xFFD', 0, 0, at(B, {
+    MODULE_NAME: 0x300, SEGMENTS: [0x220, 1], NAMED: [0x210, 1], IMPORT_NAMED: [0x200, 1], 0x200: [0x300, 0xFF1], 0x210: [0x300, 0],
+    0x220: [0x400, 0x10, 0], 0x300: b'x'}), None, {
+        'window': {B + MODULE_NAME: B + 0x300, B + SEGMENTS: B + 0x220, B + NAMED: B + 0x210, B + IMPORT_NAMED: B + 0x200,
+                   B + 0x200: [B + 0x300, B + 0xFF1], B + 0x210: B + 0x300, B + 0x220: B + 0x400, B + 0xFF7: b'\1'},
+        'records': {0: [1, 0, 0, 80, 2], 32: [B, 0x1000, 1, 0, 1, 1, 1, 0, B + 0x400, 1, 1, B + 0x400]}, 'names': {0: b'xx'}},
+     auto=1, touch=B + 0xFFD)
+load('A relocated word that the end cuts is a touch with its start, which lies inside', 0, 0,
+     at(B, {SEGMENTS: [0x200, 1], INTERNAL: [0x210, 1], 0x200: [0xFF0, 0x10, 0], 0x210: relocation(tag(0, 0xE), 2, 0, 0)}), None, {
+         'window': {B + SEGMENTS: B + 0x200, B + INTERNAL: B + 0x210, B + 0x200: B + 0xFF0, B + 0xFFE: b'\xF0\x0F'},
+         'records': {0: [1, 0, 0, 68], 32: [B, 0x1000, 1, 0, 0, 1, 0, 0, B + 0xFF0]}}, auto=1, touch=B + 0xFFE)
+load('A write that is dropped is a touch: a mark cleared outside, where no handler makes the entry read', 0, 0,
+     at(B, {EXTERNAL: [0xFFA, 1]}), None, {'window': {B + EXTERNAL: B + 0xFFA}, 'records': FIRST}, auto=1, touch=B + 0x1000)
+load('A module entry\'s four words are read even if no module has its name: the last lies outside', 0, 0,
+     at(B, {MODULE_NAME: 0x300, MODULES: [0xFF0, 1], 0x300: b'm', 0x304: b'q', 0xFF0: 0x304}), None, {
+         'window': {B + MODULE_NAME: B + 0x300, B + MODULES: B + 0xFF0, B + 0xFF0: B + 0x304},
+         'records': {0: [1, 0, 0, 64, 1], 32: [B, 0x1000, 1, 0, 1, 0, 0, 0]}, 'names': {0: b'm'}}, auto=1, touch=B + 0x1000)
+load('A word that wraps at 2^32 into the window has two bytes outside', 0, 0, at(0, {SEGMENTS: [0xFFFFFFFE, 1]}), None, {
+    'records': {0: [1, 0, 0, 68], 32: [0, 0x1000, 1, 0, 0, 1, 0, 0, 0]}}, address=0, base=0, auto=1, touch=0xFFFFFFFE)
+load('A touch may start at address 0: the next field of a CRS at 0xFFFFFF78', 0, 0, LEAST, register(crs=0xFFFFFF78), {
+    'window': {**MOVED, B + PREVIOUS: B}, 'records': {0: [1, 1, 0xFFFFFF78, 64], 32: [B, 0x1000, 1, 0, 0, 0, 0, 0]}}, auto=1, touch=0)
+load('Of 17 segments the last lies outside; it is not kept, but read', 0, 0, at(B, {SEGMENTS: [0x1000 - 0xC0, 17]}), None, {
+    'window': {B + SEGMENTS: B + 0xF40}, 'records': {0: [1, 0, 0, 128], 32: [B, 0x1000, 1, 0, 0, 16, 0, 0] + [0] * 16}},
+     auto=1, touch=B + 0x1000)
+unload('An unload of a module outside reads first its table of named exports', 0, 1, None, register(module(FAR, 1)),
+       {'records': {0: [0, 0, 0, 32], 32: [0, 0, 0]}}, base=FAR, touch=FAR + NAMED)
+
 
 # --- The file.
 
@@ -476,8 +540,8 @@ def pieces(parts, start):
     return out
 
 
-def stored(reason, call, number, value, stands, changes, lengths, address, arguments):
-    body = struct.pack('<16I', call, address, *lengths, *arguments, number, value)
+def stored(reason, call, number, value, touch, stands, changes, lengths, address, arguments):
+    body = struct.pack('<18I', call, address, *lengths, *arguments, number, value, int(touch is not None), touch or 0)
     for buffer in BUFFERS:
         start = address if buffer == 'window' else 0
         before, after = stands[buffer], changes.get(buffer, {})

@@ -1,5 +1,4 @@
-//! The three calls of the static library, as include/fillqhano.h declares them, over slices. A call answers a number, 0 to 5,
-//! and a value.
+//! The three calls of the static library, as include/fillqhano.h declares them, over slices.
 
 mod library {
     unsafe extern "C" {
@@ -16,6 +15,8 @@ mod library {
             base: u32,
             size: u32,
             value: *mut u32,
+            touched: *mut u32,
+            first: *mut u32,
         ) -> u32;
 
         pub fn load(
@@ -37,6 +38,8 @@ mod library {
             auto_link: u32,
             level: u32,
             value: *mut u32,
+            touched: *mut u32,
+            first: *mut u32,
         ) -> u32;
 
         pub fn unload(
@@ -51,6 +54,8 @@ mod library {
             missing_length: usize,
             base: u32,
             value: *mut u32,
+            touched: *mut u32,
+            first: *mut u32,
         ) -> u32;
     }
 }
@@ -64,14 +69,36 @@ pub struct Lent<'a> {
     pub missing: &'a mut [u8],
 }
 
+/// What a call answers: a number, 0 to 5, a value, and its touch. `touched` is 1 if an access of the call had a byte outside
+/// the window, and `first` is where the first such access started; else both are 0.
+#[derive(Debug, Clone, Copy, PartialEq, Eq)]
+pub struct Answer {
+    pub number: u32,
+    pub value: u32,
+    pub touched: u32,
+    pub first: u32,
+}
+
+impl Answer {
+    /// The answer of this number, value and touch.
+    pub fn new(number: u32, value: u32, touch: Option<u32>) -> Answer {
+        Answer { number, value, touched: touch.is_some() as u32, first: touch.unwrap_or(0) }
+    }
+
+    /// Where the first access with a byte outside started, if there was one.
+    pub fn touch(self) -> Option<u32> {
+        (self.touched != 0).then_some(self.first)
+    }
+}
+
 /// Calls a function of the library on what is lent and further arguments.
 macro_rules! call {
     ($function:ident, $lent:ident, $($argument:expr),*) => {{
         let Lent { at, window, records, names, missing } = $lent;
-        let mut value = u32::MAX;
-        // SAFETY: the pointers and lengths are those of four slices, which do not overlap as they are all mutable, and of a
-        // local. The library keeps no pointer.
-        let number = unsafe {
+        let mut answer = Answer { number: 0, value: u32::MAX, touched: u32::MAX, first: u32::MAX };
+        // SAFETY: the pointers and lengths are those of four slices, which do not overlap as they are all mutable, and of
+        // three words of a local. The library keeps no pointer.
+        answer.number = unsafe {
             library::$function(
                 at,
                 window.as_mut_ptr(),
@@ -83,14 +110,16 @@ macro_rules! call {
                 missing.as_mut_ptr(),
                 missing.len(),
                 $($argument,)*
-                &mut value,
+                &mut answer.value,
+                &mut answer.touched,
+                &mut answer.first,
             )
         };
-        (number, value)
+        answer
     }};
 }
 
-pub fn initialize(lent: Lent, base: u32, size: u32) -> (u32, u32) {
+pub fn initialize(lent: Lent, base: u32, size: u32) -> Answer {
     call!(initialize, lent, base, size)
 }
 
@@ -105,10 +134,10 @@ pub fn load(
     bss_size: u32,
     auto_link: u32,
     level: u32,
-) -> (u32, u32) {
+) -> Answer {
     call!(load, lent, base, size, data_at, data_size, bss_at, bss_size, auto_link, level)
 }
 
-pub fn unload(lent: Lent, base: u32) -> (u32, u32) {
+pub fn unload(lent: Lent, base: u32) -> Answer {
     call!(unload, lent, base)
 }

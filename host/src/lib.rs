@@ -9,6 +9,9 @@
 //!
 //! The calls are proved to end on any bytes, to touch nothing but the buffers lent, and to do what their definition says.
 //!
+//! An access with a byte outside the window is a *touch*: [`Linker::touch`] says whether the last call had one, and where the
+//! first of them started.
+//!
 //! ```
 //! use fillqhano::{Error, Linker};
 //!
@@ -23,6 +26,7 @@
 //! assert_eq!(linker.load(at, &mut window, 0x100800, 0x800, 0, 0, 0, 0, true, 1), Err(Error::NotACro));
 //! assert_eq!(linker.load(at, &mut window, 0x100000, 0x1000, 0, 0, 0, 0, true, 1), Ok(0x1000));
 //! assert_eq!(linker.modules().next().unwrap().base(), 0x100000);
+//! assert_eq!(linker.touch(), None);
 //! assert_eq!(linker.unload(at, &mut window, 0x100000), Ok(true));
 //! assert!(linker.is_empty());
 //! ```
@@ -30,7 +34,7 @@
 pub mod calls;
 mod register;
 
-use calls::Lent;
+use calls::{Answer, Lent};
 
 pub use register::{Module, Modules, MISSING_LENGTH};
 
@@ -48,18 +52,6 @@ pub enum Error {
     /// 64 modules stand, or the module's record or names have no room. The window has been written: the module is rebased
     /// and its imports are reset, but it is not linked.
     Full,
-}
-
-/// A call's value, or the refusal that its number says.
-fn value_of((number, value): (u32, u32)) -> Result<u32, Error> {
-    match number {
-        0 => Ok(value),
-        1 => Err(Error::NotACro),
-        2 => Err(Error::BadSegment),
-        3 => Err(Error::BadWindow),
-        4 => Err(Error::BadRegister),
-        _ => Err(Error::Full),
-    }
 }
 
 impl Error {
@@ -89,13 +81,22 @@ impl std::fmt::Display for Error {
 
 impl std::error::Error for Error {}
 
-/// The modules that are linked in, and the three calls that change them.
-#[derive(Clone, PartialEq, Eq)]
+/// The modules that are linked in, and the three calls that change them. Linkers are equal if their registers are.
+#[derive(Clone)]
 pub struct Linker {
     records: Vec<u8>,
     names: Vec<u8>,
     missing: Vec<u8>,
+    touch: Option<u32>,
 }
+
+impl PartialEq for Linker {
+    fn eq(&self, other: &Linker) -> bool {
+        self.buffers() == other.buffers()
+    }
+}
+
+impl Eq for Linker {}
 
 impl Default for Linker {
     fn default() -> Self {
@@ -117,13 +118,13 @@ impl Linker {
     /// of both buffers, so they should not be far larger than needed.
     pub fn with_room(records: usize, names: usize) -> Linker {
         let records = vec![0; records.max(register::HEADER)];
-        Linker { records, names: vec![0; names], missing: vec![0; MISSING_LENGTH] }
+        Linker { records, names: vec![0; names], missing: vec![0; MISSING_LENGTH], touch: None }
     }
 
     /// A linker from the buffers of another one, as a saved state keeps them; none if they are no register.
     pub fn from_buffers(records: Vec<u8>, names: Vec<u8>, missing: Vec<u8>) -> Option<Linker> {
-        let mut linker = Linker { records, names, missing };
-        // a page of zeros is no module, so this call tests the register and changes nothing
+        let mut linker = Linker { records, names, missing, touch: None };
+        // a page of zeros is no module, so this call tests the register and changes nothing; it has no touch
         let tested = linker.initialize(0, &mut [0; 0x1000], 0, 0);
         (tested == Err(Error::NotACro)).then_some(linker)
     }
@@ -143,9 +144,23 @@ impl Linker {
         Lent { at, window, records: &mut self.records, names: &mut self.names, missing: &mut self.missing }
     }
 
+    /// Keeps the call's touch; gives its value, or the refusal that its number says.
+    fn value_of(&mut self, answer: Answer) -> Result<u32, Error> {
+        self.touch = answer.touch();
+        match answer.number {
+            0 => Ok(answer.value),
+            1 => Err(Error::NotACro),
+            2 => Err(Error::BadSegment),
+            3 => Err(Error::BadWindow),
+            4 => Err(Error::BadRegister),
+            _ => Err(Error::Full),
+        }
+    }
+
     /// Takes in the static module, whose exports every other module links against.
     pub fn initialize(&mut self, at: u32, window: &mut [u8], base: u32, size: u32) -> Result<(), Error> {
-        value_of(calls::initialize(self.lent(at, window), base, size)).map(|_| ())
+        let answer = calls::initialize(self.lent(at, window), base, size);
+        self.value_of(answer).map(|_| ())
     }
 
     /// Rebases, relocates and links a module. Gives how much of it is left after fixing, 0 where the level fixes nothing.
@@ -163,7 +178,7 @@ impl Linker {
         auto_link: bool,
         fix_level: u32,
     ) -> Result<u32, Error> {
-        value_of(calls::load(
+        let answer = calls::load(
             self.lent(at, window),
             base,
             size,
@@ -173,12 +188,25 @@ impl Linker {
             bss_segment_size,
             auto_link as u32,
             fix_level,
-        ))
+        );
+        self.value_of(answer)
     }
 
     /// Takes out the first module at this base. Gives whether there was one.
     pub fn unload(&mut self, at: u32, window: &mut [u8], base: u32) -> Result<bool, Error> {
-        value_of(calls::unload(self.lent(at, window), base)).map(|value| value != 0)
+        let answer = calls::unload(self.lent(at, window), base);
+        self.value_of(answer).map(|value| value != 0)
+    }
+
+    /// Where the last call's first access with a byte outside the window started, in the order of the Rust's accesses; none if
+    /// all lay inside, and before the first call.
+    ///
+    /// A word is one access, wherever its bytes lie; so is each byte of a name, the zero's included. A write counts even where
+    /// it is dropped or cut. A refused call has the touches of what it did: none with [`Error::BadWindow`] and
+    /// [`Error::BadRegister`], the magic with [`Error::NotACro`], what comes before the bad segment with
+    /// [`Error::BadSegment`], and what comes before the module's record with [`Error::Full`].
+    pub fn touch(&self) -> Option<u32> {
+        self.touch
     }
 
     /// The static module's base, if there is one.

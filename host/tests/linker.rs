@@ -88,3 +88,64 @@ fn buffers_make_a_linker_again() {
     assert!(Linker::from_buffers(records.clone(), names, vec![0; MISSING_LENGTH - 1]).is_none());
     assert!(Linker::from_buffers(records, Vec::new(), missing).is_none());
 }
+
+/// A page with these words, and a magic at the page's 0x080.
+fn page(words: &[(usize, u32)]) -> Vec<u8> {
+    let mut page = vec![0; 0x1000];
+    page[0x80..0x84].copy_from_slice(b"CRO0");
+    for &(at, word) in words {
+        page[at..at + 4].copy_from_slice(&word.to_le_bytes());
+    }
+    page
+}
+
+fn load_page(linker: &mut Linker, window: &mut [u8], base: u32, level: u32) -> Result<u32, Error> {
+    linker.load(AT, window, base, 0x1000, 0, 0, 0, 0, true, level)
+}
+
+#[test]
+fn a_module_inside_has_no_touch() {
+    let mut linker = Linker::new();
+    let mut window = page(&[(0xB0, 0x138), (0xB4, 0x10)]);
+    assert_eq!(linker.touch(), None);
+    assert_eq!((linker.unload(AT, &mut window, AT), linker.touch()), (Ok(false), None));
+    assert_eq!((load_page(&mut linker, &mut window, AT + 0x800, 1), linker.touch()), (Err(Error::NotACro), None));
+    assert_eq!((load_page(&mut linker, &mut window, AT, 1), linker.touch()), (Ok(0x1000), None));
+    assert_eq!((linker.unload(AT, &mut window, AT), linker.touch()), (Ok(true), None));
+}
+
+#[test]
+fn a_touch_is_of_the_last_call() {
+    let mut linker = Linker::new();
+    let mut window = page(&[]);
+    // the magic outside, and half outside: where it starts, not its first byte outside
+    assert_eq!((load_page(&mut linker, &mut window, AT + 0xFFE, 0), linker.touch()), (Err(Error::NotACro), Some(AT + 0x107E)));
+    assert_eq!((load_page(&mut linker, &mut window, AT + 0xF7E, 0), linker.touch()), (Err(Error::NotACro), Some(AT + 0xFFE)));
+    assert_eq!((load_page(&mut linker, &mut window, AT, 0), linker.touch()), (Ok(0), None));
+    // a bad window is not accessed
+    assert_eq!((load_page(&mut linker, &mut window, AT + 0xFFE, 0), linker.touch()), (Err(Error::NotACro), Some(AT + 0x107E)));
+    assert_eq!((load_page(&mut linker, &mut window[..0xFFF], AT, 0), linker.touch()), (Err(Error::BadWindow), None));
+}
+
+#[test]
+fn a_cut_write_is_a_touch() {
+    // a segment of the page's last 16 bytes, and a relocated word that begins two bytes before the end
+    let segment = [(0xC8, 0x200), (0xCC, 1), (0x200, 0xFF0), (0x204, 0x10)];
+    let relocation = [(0x128, 0x210), (0x12C, 1), (0x210, 0xE0), (0x214, 2)];
+    let mut linker = Linker::new();
+    let mut window = page(&[segment, relocation].concat());
+    assert_eq!((load_page(&mut linker, &mut window, AT, 0), linker.touch()), (Ok(0), Some(AT + 0xFFE)));
+    assert_eq!(window[0xFFC..], [0, 0, 0xF0, 0x0F]);
+}
+
+#[test]
+fn a_touch_may_start_at_address_0() {
+    // a static module at the top, whose list fields lie at address 0
+    const TOP: u32 = 0xFFFF_F000;
+    let mut linker = Linker::new();
+    let mut window = page(&[(0xFF8, u32::from_le_bytes(*b"CRS0"))]);
+    assert_eq!(linker.initialize(TOP, &mut window, 0xFFFF_FF78, 0x138), Ok(()));
+    assert_eq!(linker.touch(), Some(0x28));
+    assert_eq!(linker.load(TOP, &mut window, TOP, 0x1000, 0, 0, 0, 0, true, 0), Ok(0));
+    assert_eq!(linker.touch(), Some(0));
+}

@@ -1,9 +1,12 @@
 //! One session on both sides. The Rust goes first: a call that it cannot finish in time is not made on the linker.
 
 use crate::encoding::encoded;
-use crate::faults;
+use crate::faults::{self, Told};
+use crate::touches::{Beginning, End};
 use crate::under_test::{self, Buffers};
+use fillqhano::calls::Answer;
 use fillqhano::Linker;
+use oracle::memory::Watch;
 use oracle::Oracle;
 use sessions::{Call, Random, Session, State, Step};
 use std::ops::AddAssign;
@@ -17,6 +20,8 @@ pub struct Tally {
     pub sessions: u64,
     /// Calls compared, by the number that they gave. Those set apart and found equal are among them.
     pub calls: [u64; 6],
+    /// Those of them that had a touch.
+    pub touched: [u64; 6],
     /// The same calls by kind: initialize, load, unload.
     pub kinds: [u64; 3],
     /// Of them those after which 64 modules stand, and 64 names are missing.
@@ -29,7 +34,7 @@ pub struct Tally {
     pub high_differences: u64,
     /// Calls that need too many accesses, which end their session.
     pub cut: u64,
-    /// Refusals for want of room of a module without names, whose window cannot be told from the Rust; they end their session.
+    /// Refusals for want of room of a module without names, whose window is told by the model alone, not by the Rust.
     pub unseen: u64,
     /// Calls with a bad window or register, compared with document 01.
     pub refused: u64,
@@ -44,8 +49,8 @@ impl Tally {
 impl AddAssign for Tally {
     fn add_assign(&mut self, other: Tally) {
         self.sessions += other.sessions;
-        let sums = self.calls.iter_mut().chain(&mut self.kinds);
-        for (sum, count) in sums.zip(other.calls.into_iter().chain(other.kinds)) {
+        let sums = self.calls.iter_mut().chain(&mut self.touched).chain(&mut self.kinds);
+        for (sum, count) in sums.zip(other.calls.into_iter().chain(other.touched).chain(other.kinds)) {
             *sum += count;
         }
         self.most_modules += other.most_modules;
@@ -66,32 +71,30 @@ pub struct Mismatch {
     pub what: String,
 }
 
-/// What a call gave and left: number, value and digest.
-#[derive(Debug, Clone, Copy, PartialEq, Eq)]
-pub struct Answer {
-    pub number: u32,
-    pub value: u32,
-    pub digest: u64,
-}
-
-/// What a session came to: what was compared, the Rust's answers, what stood after the last of them, and the first mismatch.
+/// What a session came to: what was compared, the Rust's answers, each with a digest of all that it left, what stood after
+/// the last of them, and the first mismatch.
 pub struct Compared {
     pub tally: Tally,
-    pub answers: Vec<Answer>,
+    pub answers: Vec<(Answer, u64)>,
     pub state: State,
     pub mismatch: Option<Mismatch>,
 }
 
 /// Runs a session on both sides; none without the Rust's sources.
 pub fn compare(session: &Session) -> Option<Compared> {
-    let mut run = Run::new(session)?;
+    compare_by(session, Watch::touch)
+}
+
+/// The same, the Rust's touches told in this way.
+pub fn compare_by(session: &Session, told: Told) -> Option<Compared> {
+    let mut run = Run::new(session, told)?;
     let (mut first_odd, mut step) = (usize::MAX, 0);
     while step < session.steps.len() {
         let goes_on = run.goes_on(step);
         if run.oracle.watch().odd_name && first_odd == usize::MAX {
             // from the start again, with names as raw bytes
             first_odd = step;
-            run = Run::new(session)?;
+            run = Run::new(session, told)?;
             run.oracle.keep_raw_names();
             step = 0;
             continue;
@@ -108,24 +111,18 @@ pub fn compare(session: &Session) -> Option<Compared> {
 
 struct Run<'a> {
     session: &'a Session,
+    told: Told,
     oracle: Oracle,
     buffers: Buffers,
     done: Compared,
 }
 
-/// What the Rust says, with document 01's refusal for want of room.
-enum Expected {
-    Answer(u32, u32),
-    Cut,
-    Unseen,
-}
-
 impl<'a> Run<'a> {
-    fn new(session: &'a Session) -> Option<Run<'a>> {
+    fn new(session: &'a Session, told: Told) -> Option<Run<'a>> {
         let oracle = Oracle::new(session.at, session.window.clone())?;
         let buffers = Buffers::new(session.at, session.window.clone(), session.records, session.names);
         let done = Compared { tally: Tally::default(), answers: Vec::new(), state: State::default(), mismatch: None };
-        Some(Run { session, oracle, buffers, done })
+        Some(Run { session, told, oracle, buffers, done })
     }
 
     /// Makes a step on both sides; false where the session ends there.
@@ -137,65 +134,76 @@ impl<'a> Run<'a> {
             return false;
         }
         self.done.tally.refused += 1;
-        match self.expected(step) {
-            Expected::Answer(number, value) => self.meets(index, number, value),
-            Expected::Cut => {
-                self.done.tally.cut += 1;
-                false
-            }
-            Expected::Unseen => {
-                self.done.tally.unseen += 1;
-                false
+        let Some((number, value)) = self.oracle.call_within(step, ACCESSES) else {
+            self.done.tally.cut += 1;
+            return false;
+        };
+        let mut expected = Answer::new(number, value, (self.told)(self.oracle.watch()));
+        let mut doubt = None;
+        if step.call != Call::Unload {
+            let model = Beginning::of(self.session.at, self.buffers.window.clone(), step);
+            let state = self.oracle.state();
+            let seen = self.window_seen(step, number, &state, &model);
+            doubt = self.doubt(number, seen, &model);
+            if number == 0 && !has_room(&state, self.session) {
+                self.done.tally.unseen += seen.is_none() as u64;
+                expected = Answer::new(5, 0, model.touch);
+                let before = &self.done.state;
+                self.oracle.refuse_last(before.crs, before.missing.len(), model.window);
             }
         }
+        self.meets(index, expected, doubt)
     }
 
-    fn expected(&mut self, step: &Step) -> Expected {
-        let Some((number, value)) = self.oracle.call_within(step, ACCESSES) else {
-            return Expected::Cut;
+    /// The Rust's window where the model ends: as a refusal left it, or when the first name was read, which was surely before
+    /// the lists were written if there is a name, or a pointer to one.
+    fn window_seen(&self, step: &Step, number: u32, state: &State, model: &Beginning) -> Option<&[u8]> {
+        if number != 0 {
+            return Some(self.oracle.window());
+        }
+        let named = state.modules.last().is_some_and(|module| module.room().1 > 0);
+        let named = named || points_to_name(&model.window, step.base.wrapping_sub(self.session.at));
+        self.oracle.watch().after_reset.as_deref().filter(|_| named)
+    }
+
+    /// What the model says otherwise than the Rust, as far as that can be seen. Its touch is the call's if it has one.
+    fn doubt(&self, number: u32, seen: Option<&[u8]>, model: &Beginning) -> Option<String> {
+        let ended = match model.end {
+            End::Reset => 0,
+            End::NotACro => 1,
+            End::BadSegment => 2,
         };
-        let after = self.oracle.state();
-        if number != 0 || step.call == Call::Unload || has_room(&after, self.session) {
-            return Expected::Answer(number, value);
-        }
-        let named = after.modules.last().is_some_and(|module| module.room().1 > 0);
-        let before = &self.done.state;
-        let window = self.oracle.refuse_last(before.crs, before.missing.len());
-        // a name was surely read before the lists were written if there is one, or a pointer to one
-        match window {
-            Some(window) if named || points_to_name(window, step.base.wrapping_sub(self.session.at)) => Expected::Answer(5, 0),
-            _ => Expected::Unseen,
-        }
+        let touch = self.oracle.watch().touch();
+        let same_touch = model.touch == touch || number == 0 && model.touch.is_none();
+        let same = ended == number && same_touch && seen.is_none_or(|seen| seen == model.window);
+        (!same).then(|| format!("the model gives {ended}, touch {:x?}, and the Rust {number}, touch {touch:x?}", model.touch))
     }
 
     /// Makes the call on the linker and compares.
-    fn meets(&mut self, index: usize, number: u32, value: u32) -> bool {
+    fn meets(&mut self, index: usize, expected: Answer, doubt: Option<String>) -> bool {
         let old = self.buffers.clone();
         let given = self.buffers.call(&self.session.steps[index]);
         let state = self.oracle.state();
-        let mismatch = differs((number, value), given, self.oracle.window(), &state, &old, &self.buffers);
-        match mismatch {
-            Some(_) if self.oracle.watch().high_batch => {
-                self.done.tally.high_differences += 1;
-                false
-            }
-            Some(what) => {
-                self.done.mismatch = Some(Mismatch { step: index, what });
-                false
-            }
-            None => {
-                self.count(index, number, &state);
-                let digest = state.digest(self.oracle.window());
-                self.done.answers.push(Answer { number, value, digest });
-                self.done.state = state;
-                true
-            }
+        let mismatch = differs(expected, given, self.oracle.window(), &state, &old, &self.buffers);
+        if mismatch.is_some() && self.oracle.watch().high_batch {
+            self.done.tally.high_differences += 1;
+            return false;
         }
+        if let Some(what) = mismatch.or(doubt) {
+            self.done.mismatch = Some(Mismatch { step: index, what });
+            return false;
+        }
+        self.count(index, expected, &state);
+        let digest = state.digest(self.oracle.window());
+        self.done.answers.push((expected, digest));
+        self.done.state = state;
+        true
     }
 
-    fn count(&mut self, index: usize, number: u32, state: &State) {
+    fn count(&mut self, index: usize, answer: Answer, state: &State) {
         let tally = &mut self.done.tally;
-        tally.calls[number as usize] += 1;
+        tally.calls[answer.number as usize] += 1;
+        tally.touched[answer.number as usize] += answer.touched as u64;
         tally.kinds[self.session.steps[index].call as usize] += 1;
         tally.most_modules += (state.modules.len() == 64) as u64;
         tally.most_missing += (state.missing.len() == 64) as u64;
@@ -216,16 +224,9 @@ fn has_room(state: &State, session: &Session) -> bool {
 }
 
 /// What differs between the Rust's answer, window and state and the linker's, if anything does.
-fn differs(
-    expected: (u32, u32),
-    given: (u32, u32),
-    window: &[u8],
-    state: &State,
-    old: &Buffers,
-    new: &Buffers,
-) -> Option<String> {
+fn differs(expected: Answer, given: Answer, window: &[u8], state: &State, old: &Buffers, new: &Buffers) -> Option<String> {
     if expected != given {
-        return Some(format!("number and value are {given:x?}, and {expected:x?} in the Rust"));
+        return Some(format!("the call gives {given:x?}, and {expected:x?} in the Rust"));
     }
     if let Some(place) = (0..window.len()).find(|&place| window[place] != new.window[place]) {
         let address = new.at.wrapping_add(place as u32);
@@ -235,17 +236,17 @@ fn differs(
     let Some(linker) = new.linker() else {
         return Some("the buffers are no register".into());
     };
-    register_differs(expected, state, old, new, &linker)
+    register_differs(expected.number, state, old, new, &linker)
 }
 
-fn register_differs(answer: (u32, u32), state: &State, old: &Buffers, new: &Buffers, linker: &Linker) -> Option<String> {
+fn register_differs(number: u32, state: &State, old: &Buffers, new: &Buffers, linker: &Linker) -> Option<String> {
     let ours = under_test::state(linker);
     if ours != *state {
         return Some(format!("the register says {ours:x?}\nand in the Rust {state:x?}"));
     }
     let same = old.register() == new.register();
-    if answer.0 != 0 && !same {
-        return Some(format!("the register has changed with number {}", answer.0));
+    if number != 0 && !same {
+        return Some(format!("the register has changed with number {number}"));
     }
     // a register that no call has changed may have a 0 for the bytes in use
     let untouched = same && linker.is_empty();

@@ -1,4 +1,4 @@
-//! The four families of sessions. Counts are capped so that runs stay fast: a header's count stays below some thousands,
+//! The five families of sessions. Counts are capped so that runs stay fast: a header's count stays below some thousands,
 //! unless the session itself changes it; a call that then needs too many accesses is cut.
 
 use sessions::cast::Cast;
@@ -15,10 +15,12 @@ pub enum Family {
     Overlapping,
     /// More modules, exports, names and missing names than there is room for.
     Filling,
+    /// Modules of which something reaches over an edge of the window.
+    Reaching,
 }
 
 impl Family {
-    pub const ALL: [Family; 4] = [Family::WellLaid, Family::Damaged, Family::Overlapping, Family::Filling];
+    pub const ALL: [Family; 5] = [Family::WellLaid, Family::Damaged, Family::Overlapping, Family::Filling, Family::Reaching];
 
     pub fn name(self) -> &'static str {
         match self {
@@ -26,6 +28,7 @@ impl Family {
             Family::Damaged => "damaged",
             Family::Overlapping => "overlapping",
             Family::Filling => "filling",
+            Family::Reaching => "reaching",
         }
     }
 
@@ -37,6 +40,7 @@ impl Family {
             Family::Damaged => damaged(&mut random),
             Family::Overlapping => overlapping(&mut random),
             Family::Filling => filling(&mut random),
+            Family::Reaching => reaching(&mut random),
         }
     }
 }
@@ -400,4 +404,167 @@ fn grow(random: &mut Random, session: &mut Session) {
             put(&mut session.window, place + 0xC0, start.wrapping_sub(place));
         }
     }
+}
+
+fn reaching(random: &mut Random) -> Session {
+    let mut session = well_laid(random);
+    let length = session.window.len() as u32;
+    match random.below(8) {
+        0 => move_to(&mut session, 0),
+        1 => move_to(&mut session, 0u32.wrapping_sub(length)),
+        2 => lists_at_0(random, &mut session),
+        3 => drop_page(random, &mut session),
+        _ => {}
+    }
+    for _ in 0..random.from_to(1, 2) {
+        reach(random, &mut session);
+    }
+    if random.once_in(4) {
+        // a module whose magic lies at an edge
+        let base = edge(random, &session).wrapping_sub(0x80);
+        let step = random.pick(&session.steps);
+        session.steps.push(Step { base, ..step });
+    }
+    if random.once_in(4) {
+        (session.records, session.names) = (32 + random.below(400) as usize, random.below(100) as usize);
+    }
+    cap_counts(random, &mut session);
+    session
+}
+
+/// Puts the window elsewhere, and the modules with it. A static module's segments, which are addresses, stay behind.
+fn move_to(session: &mut Session, at: u32) {
+    let by = at.wrapping_sub(session.at);
+    session.at = at;
+    for step in &mut session.steps {
+        for address in [&mut step.base, &mut step.data, &mut step.bss] {
+            *address = address.wrapping_add(by);
+        }
+    }
+}
+
+/// Has for its static module one at the end of a window at the top, whose list fields lie at address 0, or close to it. Where its
+/// record leaves at once, the lists are all that is left of it.
+fn lists_at_0(random: &mut Random, session: &mut Session) {
+    let length = session.window.len() as u32;
+    move_to(session, 0u32.wrapping_sub(length));
+    let base = random.pick(&[0xFFFF_FF78, 0xFFFF_FF78, 0xFFFF_FF74, 0xFFFF_FF76]);
+    put_wrapped(session, base - session.at + 0x80, u32::from_le_bytes(*b"CRS0"));
+    session.steps.retain(|step| step.call != Call::Initialize);
+    session.steps.insert(0, Step::initialize(base, 0x138));
+    if random.once_in(2) {
+        session.steps.insert(1, Step::unload(base));
+    }
+}
+
+/// Lets the window end a page sooner, or begin a page later, whatever lies there.
+fn drop_page(random: &mut Random, session: &mut Session) {
+    if random.once_in(2) {
+        session.window.truncate(session.window.len() - 0x1000);
+    } else {
+        session.window.drain(..0x1000);
+        session.at += 0x1000;
+    }
+}
+
+/// An address so close to the window's end, or to its beginning, that what begins there may lie across.
+fn edge(random: &mut Random, session: &Session) -> u32 {
+    let before = [random.below(5), 4 * random.below(6), random.below(64)];
+    let before = random.pick(&before);
+    let end = session.at.wrapping_add(session.window.len() as u32);
+    random.pick(&[end, end, end, session.at]).wrapping_sub(before)
+}
+
+/// Lets a table, an entry's pointer, a name, a segment or a lent area of a module begin at an edge.
+fn reach(random: &mut Random, session: &mut Session) {
+    let base = some_base(random, session);
+    let place = base.wrapping_sub(session.at);
+    let edge = edge(random, session);
+    let offset = edge.wrapping_sub(base);
+    if random.once_in(2) {
+        // no zero stands at the end, so that names run over it, and marks are found there
+        let end = session.window.len();
+        session.window[end - random.below(24) as usize..].fill(random.pick(&[1, b'x']));
+    }
+    match random.below(11) {
+        0 => put_wrapped(session, place.wrapping_add(0xB0 + 8 * random.below(17)), offset),
+        1 | 2 => cut_table(random, session, place),
+        3 => put_wrapped(session, place.wrapping_add(0xC0), offset),
+        4 | 5 => reach_from_entry(random, session, place, offset),
+        6 => {
+            let entry = entry_of(random, session, place, 0xC8, 12);
+            put_wrapped(session, entry, offset);
+            put_wrapped(session, entry.wrapping_add(4), random.from_to(1, 0x200));
+        }
+        7 | 8 => segments_across(random, session, base),
+        9 => batch_over_end(random, session, place),
+        _ => {
+            for step in session.steps.iter_mut().filter(|step| step.call == Call::Load && step.base == base) {
+                match random.once_in(2) {
+                    true => step.data = edge,
+                    false => step.bss = edge,
+                }
+            }
+        }
+    }
+}
+
+/// Moves a table, often that of module entries, to the window's end, which mostly cuts its last entry.
+fn cut_table(random: &mut Random, session: &mut Session, place: u32) {
+    let tables = [(0xC8, 12), (0xD0, 8), (0xD8, 4), (0xF8, 12), (0x100, 8), (0x108, 8), (0x110, 8), (0x128, 12)];
+    let (field, size) = if random.once_in(4) { (0xF0, 20) } else { random.pick(&tables) };
+    let table = place.wrapping_add(word(&session.window, place.wrapping_add(field)));
+    let count = word(&session.window, place.wrapping_add(field + 4)).clamp(1, 40);
+    let outside = random.pick(&[0, 1, 2, 4, 4, size / 2, size]).min(size);
+    let inside = (count * size - outside) as usize;
+    let to = session.window.len() - inside;
+    if table as usize <= to {
+        session.window.copy_within(table as usize..table as usize + inside, to);
+        put_wrapped(session, place.wrapping_add(field), (to as u32).wrapping_sub(place));
+        put_wrapped(session, place.wrapping_add(field + 4), count);
+    }
+}
+
+/// The place of one of the entries, of this size, of the table that a header's field points at.
+fn entry_of(random: &mut Random, session: &Session, place: u32, field: u32, size: u32) -> u32 {
+    let table = word(&session.window, place.wrapping_add(field));
+    let count = word(&session.window, place.wrapping_add(field + 4));
+    place.wrapping_add(table).wrapping_add(size * random.below(count.clamp(1, 40)))
+}
+
+/// Lets a pointer of an entry, to a name, a batch or a run of imports, point there.
+fn reach_from_entry(random: &mut Random, session: &mut Session, place: u32, offset: u32) {
+    let (field, size, pointer) = random.pick(&[
+        (0xD0, 8, 0),
+        (0xF0, 20, 0),
+        (0xF0, 20, 4),
+        (0xF0, 20, 12),
+        (0x100, 8, 0),
+        (0x100, 8, 4),
+        (0x108, 8, 4),
+        (0x110, 8, 4),
+    ]);
+    let entry = entry_of(random, session, place, field, size);
+    put_wrapped(session, entry.wrapping_add(pointer), offset);
+}
+
+/// Lets the batch of a named import begin so that its second or third entry lies across the window's end; no end mark stands there.
+fn batch_over_end(random: &mut Random, session: &mut Session, place: u32) {
+    let entry = entry_of(random, session, place, 0x100, 8);
+    let length = session.window.len() as u32;
+    let batch = length - random.from_to(12, 36);
+    session.window[batch as usize..].fill(0);
+    put_wrapped(session, entry.wrapping_add(4), batch.wrapping_sub(place));
+}
+
+/// Lets the table of segments lie across an edge, with an offset inside so great that it is refused: in the first entry at the
+/// window's beginning, or in the one that the end cuts.
+fn segments_across(random: &mut Random, session: &mut Session, base: u32) {
+    let place = base.wrapping_sub(session.at);
+    let before = random.from_to(1, 3);
+    let length = session.window.len() as u32;
+    let great = if random.once_in(2) { 0 } else { length - 4 };
+    put(&mut session.window, great, 0x007A_7A7A);
+    put_wrapped(session, place.wrapping_add(0xC8), great.wrapping_sub(12 * before).wrapping_sub(place));
+    put_wrapped(session, place.wrapping_add(0xCC), before + random.below(3));
 }

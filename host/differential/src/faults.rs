@@ -1,7 +1,27 @@
-//! Calls that are lent a window that breaks its rule (number 3), or buffers that are no register (number 4).
+//! Calls that are lent a window that breaks its rule (number 3), or buffers that are no register (number 4); and wrong ways to
+//! tell a touch, which the comparison has to notice.
 
 use crate::under_test::Buffers;
+use fillqhano::calls::Answer;
+use oracle::memory::{Kind, Outside, Watch};
 use sessions::{Random, Step};
+
+/// How a touch is told from what is noted of a call.
+pub type Told = fn(&Watch) -> Option<u32>;
+
+/// Wrong ways to tell it.
+pub const WRONGLY_TOLD: [(&str, Told); 6] = [
+    ("the first byte outside and not the start", |watch| watch.outside.first().map(|access| access.byte)),
+    ("a later touch is kept", |watch| watch.outside.last().map(|access| access.start)),
+    ("a write is not counted", |watch| first_of(watch, |access| access.kind != Kind::Write)),
+    ("a name's byte is not counted", |watch| first_of(watch, |access| access.kind != Kind::NameByte)),
+    ("an access that starts inside is not counted", |watch| first_of(watch, |access| access.byte == access.start)),
+    ("a touch at address 0 is none", |watch| watch.touch().filter(|&start| start != 0)),
+];
+
+fn first_of(watch: &Watch, counts: fn(&Outside) -> bool) -> Option<u32> {
+    watch.outside.iter().find(|access| counts(access)).map(|access| access.start)
+}
 
 /// Makes the call on a copy with one of eight faults. Gives its number, or what differs from a refusal that changes nothing.
 pub fn refused(buffers: &Buffers, step: &Step, random: &mut Random) -> Result<u32, String> {
@@ -9,7 +29,7 @@ pub fn refused(buffers: &Buffers, step: &Step, random: &mut Random) -> Result<u3
     let number = break_one(&mut broken, random);
     let before = broken.clone();
     let given = broken.call(step);
-    if given == (number, 0) && broken == before {
+    if given == Answer::new(number, 0, None) && broken == before {
         return Ok(number);
     }
     let changed = broken != before;

@@ -1,9 +1,11 @@
 //! Demand 3 by running: two sessions that end with the same modules standing, one of them with a history, leave the same
 //! bytes in those modules' areas; and after every call every import holds its exporter's address or its handler's. Refused
-//! calls come in between in both, also before the static module's `initialize`.
+//! calls come in between in both, also before the static module's `initialize`. No call has a touch: all that well-laid modules
+//! point at lies in the window.
 
 use crate::faults;
 use crate::under_test::Buffers;
+use fillqhano::calls::Answer;
 use sessions::cast::{Cast, Placed};
 use sessions::image::Relocation;
 use sessions::{Call, Random, Step};
@@ -158,10 +160,10 @@ impl<'a> Run<'a> {
         let base = self.standing.first().map_or(self.buffers.at, |first| first.step.base);
         let step = if random.once_in(2) { Step::unload(base + 2) } else { Step::initialize(base + 0x44, 0x138) };
         let expected = if step.call == Call::Unload { 0 } else { 1 };
-        let (number, value) = self.buffers.call(&step);
+        let answer = self.buffers.call(&step);
         seen.calls += 1;
-        if (number, value) != (expected, 0) || self.buffers != before {
-            return Err(format!("{step:x?} gave {number} {value:x}"));
+        if answer != Answer::new(expected, 0, None) || self.buffers != before {
+            return Err(format!("{step:x?} gave {answer:x?}"));
         }
         Ok(())
     }
@@ -184,9 +186,9 @@ impl<'a> Run<'a> {
     }
 
     fn take_in(&mut self, member: &'a Placed, seen: &mut Seen) -> Result<(), String> {
-        let (number, _) = self.buffers.call(&member.step);
-        if number != 0 {
-            return Err(format!("{:x?} gave {number}", member.step));
+        let answer = self.buffers.call(&member.step);
+        if answer != Answer::new(0, answer.value, None) {
+            return Err(format!("{:x?} gave {answer:x?}", member.step));
         }
         self.standing.push(member);
         self.all_hold(seen)
@@ -194,7 +196,7 @@ impl<'a> Run<'a> {
 
     fn let_go(&mut self, member: &'a Placed, seen: &mut Seen) -> Result<(), String> {
         let answer = self.buffers.call(&Step::unload(member.step.base));
-        if answer != (0, 1) {
+        if answer != Answer::new(0, 1, None) {
             return Err(format!("the unload of {:x} gave {answer:x?}", member.step.base));
         }
         self.standing.retain(|standing| standing.step.base != member.step.base);

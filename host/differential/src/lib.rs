@@ -3,9 +3,10 @@
 pub mod compare;
 mod encoding;
 pub mod families;
-mod faults;
+pub mod faults;
 pub mod history;
 pub mod shrink;
 pub mod stored;
 pub mod text;
+mod touches;
 pub mod under_test;

@@ -137,12 +137,14 @@ fn show(name: &str, tally: &Tally) {
         "  number 0: {done}, 1: {no_cro}, 2: {bad_segment}, 5: {full}; bad windows and registers besides: {}",
         tally.refused
     );
+    let [done, no_cro, bad_segment, _, _, full] = tally.touched;
+    println!("  of them with a touch: number 0: {done}, 1: {no_cro}, 2: {bad_segment}, 5: {full}");
     println!("  with 64 modules {}, with 64 missing names {}", tally.most_modules, tally.most_missing);
     println!(
         "  set apart: odd names {}, high batches {} equal and {} not",
         tally.odd_names, tally.high_batches, tally.high_differences
     );
-    println!("  not compared: too long {}, no room and no window seen {}", tally.cut, tally.unseen);
+    println!("  not compared: too long {}; no room, with the model's window alone {}", tally.cut, tally.unseen);
 }
 
 /// Writes a session that the session program takes, and what it should print.

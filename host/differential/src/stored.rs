@@ -1,17 +1,23 @@
 //! The Rust's answers to the sessions of the gate's seed, stored so that they can be replayed without its sources. A line
-//! for each session: its family and number. Then one for each call: number, value and digest, in hex.
+//! for each session: its family and number. Then one for each call: number, value, touch (`-` for none) and digest, in hex.
 
-use crate::compare::Answer;
 use crate::families::Family;
 use crate::under_test::{state, Buffers};
+use fillqhano::calls::Answer;
 use sessions::Session;
 use std::fmt::Write;
 
-pub fn write(out: &mut String, family: Family, number: u64, answers: &[Answer]) {
+/// The answers are each with the digest of what stands after it.
+pub fn write(out: &mut String, family: Family, number: u64, answers: &[(Answer, u64)]) {
     writeln!(out, "{} {number}", family.name()).unwrap();
-    for answer in answers {
-        writeln!(out, "{:x} {:x} {:016x}", answer.number, answer.value, answer.digest).unwrap();
+    for &(answer, digest) in answers {
+        writeln!(out, "{}", line(answer, digest)).unwrap();
     }
+}
+
+fn line(answer: Answer, digest: u64) -> String {
+    let touch = answer.touch().map_or("-".into(), |first| format!("{first:x}"));
+    format!("{:x} {:x} {touch} {digest:016x}", answer.number, answer.value)
 }
 
 /// Replays the answers; gives how many calls, or the first that differs.
@@ -28,11 +34,11 @@ pub fn replay(stored: &str, seed: u64) -> Result<u64, String> {
             continue;
         }
         let (session, buffers, step) = running.as_mut().ok_or("no session")?;
-        let (number, value) = buffers.call(&session.steps[*step]);
+        let answer = buffers.call(&session.steps[*step]);
         let linker = buffers.linker().ok_or("the buffers are no register")?;
         let digest = state(&linker).digest(&buffers.window);
         *step += 1;
-        let given = format!("{number:x} {value:x} {digest:016x}");
+        let given = self::line(answer, digest);
         if given != line {
             return Err(format!("step {step}: {given} and not {line}"));
         }

@@ -1,7 +1,10 @@
-//! What the session program prints for a session, from the Rust's answers.
+//! What the session program prints for a session, from the Rust's answers; and its steps' lines with their touches, from the
+//! linker's.
 
 use crate::compare::Compared;
-use sessions::{Call, Session};
+use crate::under_test::Buffers;
+use fillqhano::calls::Answer;
+use sessions::{Call, Session, Step};
 use std::fmt::Write;
 
 /// Whether the session program takes the session, with the register's sizes that it has.
@@ -17,13 +20,8 @@ pub fn printed(session: &Session, compared: &Compared) -> Option<String> {
         return None;
     }
     let mut text = format!("session {}\n", session.steps.len());
-    for (index, (step, answer)) in session.steps.iter().zip(&compared.answers).enumerate() {
-        let call = match step.call {
-            Call::Initialize => "initialize",
-            Call::Load => "load",
-            Call::Unload => "unload",
-        };
-        writeln!(text, "{} {call} {} {:x}", index + 1, answer.number, answer.value).unwrap();
+    for (index, (step, (answer, _))) in session.steps.iter().zip(&compared.answers).enumerate() {
+        writeln!(text, "{}", step_line(index, step, answer)).unwrap();
     }
     for module in &compared.state.modules {
         write!(text, "module {:x} {:x} {} ", module.base, module.size, module.auto_link as u32).unwrap();
@@ -35,6 +33,27 @@ pub fn printed(session: &Session, compared: &Compared) -> Option<String> {
         writeln!(text, "{}", name(missing)).unwrap();
     }
     Some(text)
+}
+
+/// Runs the session on the linker; gives a line for each step, with its touch.
+pub fn steps_with_touches(session: &Session) -> String {
+    let mut buffers = Buffers::new(session.at, session.window.clone(), session.records, session.names);
+    let mut text = String::new();
+    for (index, step) in session.steps.iter().enumerate() {
+        let answer = buffers.call(step);
+        let touch = answer.touch().map_or("no".into(), |first| format!("yes {first:x}"));
+        writeln!(text, "{} {touch}", step_line(index, step, &answer)).unwrap();
+    }
+    text
+}
+
+fn step_line(index: usize, step: &Step, answer: &Answer) -> String {
+    let call = match step.call {
+        Call::Initialize => "initialize",
+        Call::Load => "load",
+        Call::Unload => "unload",
+    };
+    format!("{} {call} {} {:x}", index + 1, answer.number, answer.value)
 }
 
 /// A name's length, and its bytes if it has any.

@@ -1,6 +1,6 @@
 //! The linker under test: the three calls over a window and a register, by the library's own functions.
 
-use fillqhano::calls::{self, Lent};
+use fillqhano::calls::{self, Answer, Lent};
 use fillqhano::{Linker, MISSING_LENGTH};
 use sessions::{Call, Module, State, Step};
 
@@ -19,8 +19,7 @@ impl Buffers {
         Buffers { at, window, records: vec![0; records], names: vec![0; names], missing: vec![0; MISSING_LENGTH] }
     }
 
-    /// Makes the call; gives the number and the value.
-    pub fn call(&mut self, step: &Step) -> (u32, u32) {
+    pub fn call(&mut self, step: &Step) -> Answer {
         let lent = Lent {
             at: self.at,
             window: &mut self.window,

@@ -25,11 +25,16 @@ fn module() -> Image {
     Image { name: b"m".to_vec(), handler: tag(0, 4), sizes: [0x40, 0, 0, 0], ..Image::default() }
 }
 
-/// The linker after the session's steps, and each answer.
+/// The linker after the session's steps, and each step's number and value.
 fn linker(session: &Session) -> (Buffers, Vec<(u32, u32)>) {
     let mut buffers = Buffers::new(session.at, session.window.clone(), session.records, session.names);
-    let answers = session.steps.iter().map(|step| buffers.call(step)).collect();
+    let answers = session.steps.iter().map(|step| called(&mut buffers, step)).collect();
     (buffers, answers)
+}
+
+fn called(buffers: &mut Buffers, step: &Step) -> (u32, u32) {
+    let answer = buffers.call(step);
+    (answer.number, answer.value)
 }
 
 /// The Rust after the session's steps, if it is at hand.
@@ -68,7 +73,7 @@ fn line_2_a_batch_near_the_top() {
     // the batch's first entry has no end mark: the Rust stops after it all the same
     let (buffers, _) = linker(&session);
     assert_eq!(buffers.window[0x140..0x144], buffers.window[0x144..0x148]);
-    if let Some(mut rust) = rust(&session) {
+    if let Some(rust) = rust(&session) {
         let window = rust.window();
         assert_eq!(window[0x140..0x144], buffers.window[0x140..0x144]);
         assert_eq!(window[0x144..0x148], (at + 0x13C).to_le_bytes());
@@ -115,8 +120,8 @@ fn line_6_a_module_count_of_65() {
     let mut buffers = Buffers::new(AT, session.window.clone(), 0x4000, 0x4000);
     buffers.records[0] = 65;
     let before = buffers.clone();
-    assert_eq!(buffers.call(&session.steps[0]), (4, 0));
-    assert_eq!(buffers.call(&Step::unload(1)), (4, 0));
+    assert_eq!(called(&mut buffers, &session.steps[0]), (4, 0));
+    assert_eq!(called(&mut buffers, &Step::unload(1)), (4, 0));
     assert!(buffers == before);
 }
 

@@ -39,7 +39,11 @@ fn linker(session: &Session) -> ((u32, u32), u32, usize) {
     let mut buffers = Buffers::new(session.at, session.window.clone(), session.records, session.names);
     let answer = buffers.call(&session.steps[0]);
     let modules = state(&buffers.linker().unwrap()).modules;
-    (answer, indexed_count(&buffers.window), modules.first().map_or(0, |module| module.indexed_exports.len()))
+    (
+        (answer.number, answer.value),
+        indexed_count(&buffers.window),
+        modules.first().map_or(0, |module| module.indexed_exports.len()),
+    )
 }
 
 fn rust(session: &Session) -> Option<((u32, u32), u32, usize)> {

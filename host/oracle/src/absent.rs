@@ -13,7 +13,7 @@ impl Oracle {
         match *self {}
     }
 
-    pub fn window(&mut self) -> &mut Vec<u8> {
+    pub fn window(&self) -> &[u8] {
         match *self {}
     }
 
@@ -36,7 +36,7 @@ impl Oracle {
         match *self {}
     }
 
-    pub fn refuse_last(&mut self, _: Option<u32>, _: usize) -> Option<&[u8]> {
+    pub fn refuse_last(&mut self, _: Option<u32>, _: usize, _: Vec<u8>) {
         match *self {}
     }
 }

@@ -28,11 +28,42 @@ pub struct Watch {
     pub left: u64,
     /// A name was not valid UTF-8.
     pub odd_name: bool,
-    /// A byte, not of a name, was read where the mark of a batch from 0xFFFF3FF4 up would be.
+    /// A 0 was read, right after the byte before it, where the end mark of the first entry of a batch from 0xFFFF3FF4 up would
+    /// be, so that such a batch may have been walked further.
     pub high_batch: bool,
+    /// Where the last single byte, not of a name, was read.
+    pub last_byte: Option<u32>,
     /// The window when the first name was read. A load reads its exports' names and its own first, and nothing is written
     /// between the external reset and them.
     pub after_reset: Option<Vec<u8>>,
+    /// The accesses with a byte outside the window, in their order. The lines that go to a log make none: no argument of
+    /// theirs is evaluated (see `log` in lib.rs).
+    pub outside: Vec<Outside>,
+}
+
+#[cfg(feature = "watched")]
+impl Watch {
+    /// The call's touch: where the first access outside started.
+    pub fn touch(&self) -> Option<u32> {
+        self.outside.first().map(|access| access.start)
+    }
+}
+
+/// An access with a byte outside the window: where it starts, and its first byte outside.
+#[cfg(feature = "watched")]
+#[derive(Debug, Clone, Copy)]
+pub struct Outside {
+    pub start: u32,
+    pub byte: u32,
+    pub kind: Kind,
+}
+
+/// What an access does.
+#[derive(Debug, Clone, Copy, PartialEq, Eq)]
+pub enum Kind {
+    Read,
+    NameByte,
+    Write,
 }
 
 /// What a call is ended with when no access is left.
@@ -41,17 +72,21 @@ pub struct Cut;
 
 #[cfg(feature = "watched")]
 impl Memory {
-    fn access(&mut self) {
+    /// Counts an access, and notes it if one of its bytes is outside.
+    fn access(&mut self, start: u32, bytes: usize, kind: Kind) {
         if self.watch.left == 0 {
             std::panic::resume_unwind(Box::new(Cut));
         }
         self.watch.left -= 1;
+        let mut addresses = (0..bytes).map(|index| start.wrapping_add(index as u32));
+        if let Some(byte) = addresses.find(|&address| self.place(address) >= self.bytes.len()) {
+            self.watch.outside.push(Outside { start, byte, kind });
+        }
     }
 
-    fn note_mark(&mut self, addr: u32) {
-        if !(6..0xFFFF_3FF4 + 6).contains(&addr) {
-            self.watch.high_batch = true;
-        }
+    fn note_byte(&mut self, addr: u32, byte: u8) {
+        let next = self.watch.last_byte.replace(addr) == Some(addr.wrapping_sub(1));
+        self.watch.high_batch |= next && byte == 0 && addr.wrapping_sub(5) >= 0xFFFF_3FF4;
     }
 
     fn note_name(&mut self) {
@@ -72,10 +107,10 @@ impl Memory {
 #[cfg(not(feature = "watched"))]
 impl Memory {
     #[inline(always)]
-    fn access(&mut self) {}
+    fn access(&mut self, _: u32, _: usize, _: Kind) {}
 
     #[inline(always)]
-    fn note_mark(&mut self, _: u32) {}
+    fn note_byte(&mut self, _: u32, _: u8) {}
 
     #[inline(always)]
     fn note_name(&mut self) {}
@@ -113,22 +148,26 @@ impl Memory {
     }
 
     #[inline(always)]
-    fn read_byte(&mut self, addr: u32) -> u8 {
-        self.access();
+    fn byte_or_0(&mut self, addr: u32) -> u8 {
         self.byte(addr).map_or(0, |byte| *byte)
     }
 
+    /// One access, as a word is.
     pub fn read_bytes(&mut self, vaddr: u32, out: &mut [u8]) {
+        self.access(vaddr, out.len(), Kind::Read);
         for (i, byte) in out.iter_mut().enumerate() {
-            *byte = self.byte(vaddr.wrapping_add(i as u32)).map_or(0, |byte| *byte);
+            *byte = self.byte_or_0(vaddr.wrapping_add(i as u32));
         }
     }
 
+    /// An access a byte, the zero's among them.
     pub fn read_cstring(&mut self, vaddr: u32, max: usize) -> String {
         self.note_name();
         let mut bytes = Vec::new();
         for i in 0..max {
-            let b = self.read_byte(vaddr.wrapping_add(i as u32));
+            let addr = vaddr.wrapping_add(i as u32);
+            self.access(addr, 1, Kind::NameByte);
+            let b = self.byte_or_0(addr);
             if b == 0 {
                 break;
             }
@@ -138,7 +177,7 @@ impl Memory {
     }
 
     pub fn write32_privileged(&mut self, vaddr: u32, value: u32) -> bool {
-        self.access();
+        self.access(vaddr, 4, Kind::Write);
         if let Some(word) = self.whole(vaddr) {
             *word = value.to_le_bytes();
             return true;
@@ -156,24 +195,24 @@ impl Memory {
 impl Bus for Memory {
     #[inline(always)]
     fn read8(&mut self, addr: u32) -> u8 {
-        self.note_mark(addr);
-        self.read_byte(addr)
+        self.access(addr, 1, Kind::Read);
+        let byte = self.byte_or_0(addr);
+        self.note_byte(addr, byte);
+        byte
     }
 
     #[inline(always)]
     fn read32(&mut self, addr: u32) -> u32 {
-        self.access();
+        self.access(addr, 4, Kind::Read);
         if let Some(word) = self.whole(addr) {
             return u32::from_le_bytes(*word);
         }
-        let mut bytes = [0; 4];
-        self.read_bytes(addr, &mut bytes);
-        u32::from_le_bytes(bytes)
+        u32::from_le_bytes(std::array::from_fn(|i| self.byte_or_0(addr.wrapping_add(i as u32))))
     }
 
     #[inline(always)]
     fn write8(&mut self, addr: u32, value: u8) {
-        self.access();
+        self.access(addr, 1, Kind::Write);
         if let Some(byte) = self.byte(addr) {
             *byte = value;
         }
@@ -181,7 +220,7 @@ impl Bus for Memory {
 
     #[inline(always)]
     fn write32(&mut self, addr: u32, value: u32) {
-        self.access();
+        self.access(addr, 4, Kind::Write);
         if let Some(word) = self.whole(addr) {
             *word = value.to_le_bytes();
             return;

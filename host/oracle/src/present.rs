@@ -45,8 +45,8 @@ impl Oracle {
         }
     }
 
-    pub fn window(&mut self) -> &mut Vec<u8> {
-        &mut self.memory.bytes
+    pub fn window(&self) -> &[u8] {
+        &self.memory.bytes
     }
 
     /// What stands, the names by `name`.
@@ -111,13 +111,12 @@ mod watched {
         }
 
         /// Takes back the module that the last call added, as a refusal for want of room leaves it: the window as after
-        /// the external reset, all else as it was. Gives that window, none if it was not noted.
-        pub fn refuse_last(&mut self, crs: Option<u32>, missing: usize) -> Option<&[u8]> {
-            self.memory.bytes = self.memory.watch.after_reset.take()?;
+        /// the external reset, all else as it was.
+        pub fn refuse_last(&mut self, crs: Option<u32>, missing: usize, window: Vec<u8>) {
+            self.memory.bytes = window;
             self.manager.modules.pop();
             self.manager.crs = crs;
             self.manager.unresolved.truncate(missing);
-            Some(&self.memory.bytes)
         }
     }
 }
