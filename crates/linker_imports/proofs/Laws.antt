@@ -22,7 +22,8 @@ use Rattle.register_read.specs.declared.Symbol.{Symbol}
 use Rattle.linker.specs.Imports.{isUnresolved, resolve, linkFrom, importsOf, moduleByName, importModule, serveNamed, serveModule, serve}
 use Rattle.linker_sources.specs.Source.{tablesOf, linkTables}
 use Rattle.linker_sources.specs.declared.source.ModuleTables.{ModuleTables}
-use Rattle.linker_sources.specs.Laws.{read-there, paired, tables-linked}
+use Rattle.layout.proofs.Accesses.{read-there}
+use Rattle.linker_sources.specs.Laws.{paired, tables-linked}
 use Rattle.linker_imports.specs.Served.{serveAllNamed, serveAllModules}
 
 -- a table's place and count read, then the loop over its entries

@@ -28,7 +28,8 @@ use Rattle.linker.specs.Relocation.{applyRelocationBatch}
 use Rattle.linker.specs.Imports.{isUnresolved, resolve, noted, importNamed}
 use Rattle.linker.specs.Calls.{missingNow}
 use Rattle.linker_imports.specs.Missing.{imported, Noted}
-use Rattle.linker_sources.specs.Laws.{read-there, paired, unresolved-stays, resolved-by}
+use Rattle.layout.proofs.Accesses.{read-there}
+use Rattle.linker_sources.specs.Laws.{paired, unresolved-stays, resolved-by}
 
 -- the bytes that a step leaves, and that they are the register with its missing names
 abbrev pub Left : Register → List ℕ → List ℕ → S → List ℕ → List ℕ → List (List ℕ) × S → Type 0

@@ -14,6 +14,7 @@ use Rattle.window.specs.TraceRuns.{given, gives, seq, then-it, two, pick-then, 
 use Rattle.layout.specs.Header.{externalRelocationTableOffset, externalRelocationNum, relocationEntrySize, onUnresolvedSegmentTag}
 use Rattle.layout.specs.Format.{relocationType}
 use Rattle.layout.specs.Segments.{field, entryAt, tagToAddress}
+use Rattle.layout.proofs.Accesses.{read-there}
 use Rattle.layout_relocation.specs.Relocation.{applyRelocation}
 use Rattle.layout.specs.declared.format.RelocationType.{RelocationType}
 use Rattle.layout.specs.declared.segments.Address.{Address}
@@ -21,13 +22,10 @@ use Rattle.layout.specs.declared.segments.Address.the-variants.{At, Nowhere}
 use Rattle.linker.specs.Relocation.{addressOr0, unresolvedSymbol, relocateAt, resetEntry, resetExternalRelocations, walk, batchLimit, mark, applyRelocationBatch, batchIsResolved}
 use Rattle.linker_relocation.specs.Entry.{relocateEntry, applyEntry, walkEntry}
 
--- an access at a sum that the code made first
+-- a byte at a sum that the code made first
 module _ (at : ℕ) (s : S) {p q : ℕ} (e : p ≡ q) where
   read8-there : {r : ℕ × S} → r ≡ runT at (get8 p) s → r ≡ runT at (get8 q) s
   read8-there h = h ∙ ap (λ p. runT at (get8 p) s) e
-
-  read-there : {r : ℕ × S} → r ≡ runT at (get32 p) s → r ≡ runT at (get32 q) s
-  read-there h = h ∙ ap (λ p. runT at (get32 p) s) e
 
   write8-there : (v : ℕ) {u : S} → u ≡ runT at (put8 p v) s .1 → u ≡ runT at (put8 q v) s .1
   write8-there v h = h ∙ ap (λ p. runT at (put8 p v) s .1) e

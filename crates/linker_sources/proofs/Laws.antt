@@ -22,7 +22,7 @@ use Rattle.register_read.specs.declared.Symbol.{Symbol}
 use Rattle.register_read.specs.declared.Symbol.the-variants.{At, Nothing}
 use Rattle.linker.specs.Relocation.{batchIsResolved}
 use Rattle.linker.specs.Imports.{anonymousOf, isUnresolved, resolve, importFrom, linkFrom}
-use Rattle.linker_sources.specs.Laws.{read-there}
+use Rattle.layout.proofs.Accesses.{read-there}
 use Rattle.linker_sources.specs.Source.{symbolOf, importTable, tablesOf, linkTables}
 use Rattle.linker_sources.specs.declared.source.ImportTable.{ImportTable}
 use Rattle.linker_sources.specs.declared.source.ImportTable.the-variants.{Indexed, Anonymous}

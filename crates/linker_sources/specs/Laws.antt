@@ -1,9 +1,9 @@
--- An access as the code makes it, a batch with or without its symbol, and a module entry's imports once its words are read.
+-- A batch with or without its symbol, and a module entry's imports once its words are read.
 use Prim.Native.Nat.{ℕ}
 use mathlib.Core.Path.{_≡_, ap, _∙_}
 use mathlib.Core.Bool.{true}
 use mathlib.Core.Option.{Option}
-use Rattle.window.specs.Access.{Prog, ret, _>>=_, get32}
+use Rattle.window.specs.Access.{Prog, ret, _>>=_}
 use Rattle.window.specs.Trace.{S, runT}
 use Rattle.window.specs.TraceRuns.{left, gives, then-it}
 use Rattle.register.specs.Module.{Module}
@@ -13,10 +13,6 @@ use Rattle.linker.specs.Relocation.{applyRelocationBatch}
 use Rattle.linker.specs.Imports.{resolve, importsOf}
 use Rattle.linker_sources.specs.Source.{tablesOf, linkTables}
 use Rattle.linker_sources.specs.declared.source.ModuleTables.{ModuleTables}
-
--- a word read at a sum that the code made first
-pub read-there : (at : ℕ) (s : S) {p q : ℕ} {r : ℕ × S} → p ≡ q → r ≡ runT at (get32 p) s → r ≡ runT at (get32 q) s
-read-there at s e h = h ∙ ap (λ p. runT at (get32 p) s) e
 
 -- what a program gives beside the state that it leaves
 pub paired : {A : Type 0} (at : ℕ) (m : Prog A) (s : S) {u : S} → u ≡ runT at m s .1 → (runT at m s .0, u) ≡ runT at m s
