@@ -16,6 +16,8 @@ use Rattle.linker.specs.Outcome.{Bytes, Outcome, settle, outcome}
 use Rattle.linker.specs.Touches.{noTouch, no-log, touchIn, counted, touches}
 use Rattle.linker.specs.Refusals.{lentRegister, answers}
 use Rattle.linker_entry.specs.Entry.{tested}
+use Rattle.linker_calls.specs.Steps.{left}
+use Rattle.linker_calls.specs.Laws.{tests-pass, tests-refuse}
 
 -- the call as its buffers' lengths and its register make it
 abbrev pub callOf : (ℕ → ℕ → Register → Prog Answer) → Bytes → Prog Answer
@@ -36,7 +38,7 @@ counted-ap f a x y = go (eqb (number a) (number NoRoom))
     go false = refl
 
 -- a call that its tests refuse makes no access
-pub refused-touches
+refused-touches
     : (call : ℕ → ℕ → Register → Prog Answer) (beginning : Prog (Unit {0})) (at : ℕ) (b : Bytes) {n : ℕ}
     → n ≡ tested (goodWindow at (b .window)) (isRegister (b .records) (b .names) (b .missing)) → (n ≡ 0 → ⊥)
     → _≡_ {A = ℕ × ℕ} (0, 0) (touches call beginning at b)
@@ -56,14 +58,14 @@ module _ (call : ℕ → ℕ → Register → Prog Answer) (beginning : Prog (Un
   same : let x = runT at (callOf call b) (b .window, noTouch) in _≡_ {A = Answer × List ℕ} (x .0, x .1 .0) (run at (callOf call b) (b .window))
   same = erase at (callOf call b) (b .window) noTouch no-log .0
 
-  pub exported-left : {o : Outcome} {t : List ℕ} → (o, t) ≡ traced call beginning at b noTouch → o ≡ outcome call at b
+  exported-left : {o : Outcome} {t : List ℕ} → (o, t) ≡ traced call beginning at b noTouch → o ≡ outcome call at b
   unfolding traced
   exported-left e =
       ap (λ (y : Outcome × List ℕ). y .0) e
       ∙ ap (settle b) same
       ∙ sym (answers call at b g v refl)
 
-  pub exported-touches
+  exported-touches
       : {o : Outcome} {t : List ℕ} {touched first : ℕ} → (o, t) ≡ traced call beginning at b noTouch → touched ≡ touchOf t .0 → first ≡ touchOf t .1
       → _≡_ {A = ℕ × ℕ} (touched, first) (touches call beginning at b)
   unfolding traced touches touchIn
@@ -73,3 +75,16 @@ module _ (call : ℕ → ℕ → Register → Prog Answer) (beginning : Prog (Un
       (ap (λ (y : Outcome × List ℕ). touchOf (y .1)) e
       ∙ counted-ap touchOf (x .0) _ _
       ∙ ap (λ (y : Answer × List ℕ). counted (y .0) (touchIn at beginning (b .window)) (touchIn at (callOf call b) (b .window))) same)
+
+-- both clauses of an exported call: the tests refuse it, or it is made
+module _ (call : ℕ → ℕ → Register → Prog Answer) (beginning : Prog (Unit {0})) (at : ℕ) (b : Bytes) {n : ℕ}
+    (e : n ≡ tested (goodWindow at (b .window)) (isRegister (b .records) (b .names) (b .missing))) where
+  pub call-refused : (n ≡ 0 → ⊥) → (left n 0 b ≡ outcome call at b) × _≡_ {A = ℕ × ℕ} (0, 0) (touches call beginning at b)
+  call-refused k = (tests-refuse call at b e k, refused-touches call beginning at b e k)
+
+  pub call-answered
+      : n ≡ 0 → {o : Outcome} {t : List ℕ} {touched first : ℕ} → (o, t) ≡ traced call beginning at b noTouch → touched ≡ touchOf t .0
+      → first ≡ touchOf t .1 → (o ≡ outcome call at b) × _≡_ {A = ℕ × ℕ} (touched, first) (touches call beginning at b)
+  call-answered z h e₀ e₁ =
+      let passed = tests-pass _ _ e z in
+      (exported-left call beginning at b (passed .0) (passed .1) h, exported-touches call beginning at b (passed .0) (passed .1) h e₀ e₁)

@@ -1,5 +1,11 @@
-use Rattle.linker_calls.proofs.Calls.{unload-refused, tests-encoded, unload-none, unload-stands, unload-done}
+-- The tests refuse, or the call over a trace of which nothing is said: `call-refused`, `call-answered`.
+use Rattle.window.specs.Access.{ret}
+use Rattle.linker.specs.Outcome.{unloadOutcome}
+use Rattle.linker.specs.Touches.{unloadTouches}
+use Rattle.linker.specs.Calls as calls
 use Rattle.linker_calls.specs.Steps.{lent}
+use Rattle.linker_calls.specs.Laws.{tests-pass}
+use Rattle.linker_calls.specs.Traced.{call-refused, call-answered}
 use borrow.Author.Needs.{needs}
 use Rattle.linker_calls.proofs.unload.Statement.{statement}
 use Rattle.linker_calls.proofs.unload.Tie as tie
@@ -20,27 +26,34 @@ same-length-4 : tie.Need-same-length-4
 same-length-4 c = search needs
 
 returns : tie.Need-returns
+unfolding unloadOutcome unloadTouches
 returns c =
     let p1 = c .before in
     let p10 = p1 .before .before .before .before .before .before .before .before .before in
     let a = p10 .args in
     let b = lent (a .window .now) (a .records .now) (a .names .now) (a .missing .now) in
-    unload-refused (a .at) (a .base) b (p1 .tested .ensures) (c .if1 .taken)
+    call-refused (λ records names. calls.unload (a .base)) (ret tt) (a .at) b (p1 .tested .ensures) (c .if1 .taken)
 
-first-with-base-requires : tie.Need-first-with-base-requires
-first-with-base-requires c κs =
-    let p1 = c .before in
-    let p2 = p1 .before in
-    let p11 = p2 .before .before .before .before .before .before .before .before .before in
-    let a = p11 .args in
-    let b = lent (a .window .now) (a .records .now) (a .names .now) (a .missing .now) in
-    (_, tests-encoded (a .at) b (p2 .tested .ensures) (p1 .if1 .left))
+slice-aggregate-unload : tie.Need-slice-aggregate-unload
+slice-aggregate-unload c = search needs
 
-enum-known-place : tie.Need-enum-known-place
-enum-known-place c = search needs
+unload-requires : tie.Need-unload-requires
+unload-requires c κs =
+    let p6 = c .before .before .before .before .before .before in
+    let p7 = p6 .before in
+    tests-pass _ _ (p7 .tested .ensures) (p6 .if1 .left) .1
 
-enum-told : tie.Need-enum-told
-enum-told c = search needs
+slice-aggregate-touched : tie.Need-slice-aggregate-touched
+slice-aggregate-touched c = search needs
+
+touched-requires : tie.Need-touched-requires
+touched-requires c κs = search needs
+
+slice-aggregate-first : tie.Need-slice-aggregate-first
+slice-aggregate-first c = search needs
+
+first-requires : tie.Need-first-requires
+first-requires c κs = search needs
 
 same-length-5 : tie.Need-same-length-5
 same-length-5 c = search needs
@@ -55,68 +68,17 @@ same-length-8 : tie.Need-same-length-8
 same-length-8 c = search needs
 
 returns-2 : tie.Need-returns-2
+unfolding unloadOutcome unloadTouches
 returns-2 c =
     let p2 = c .before .before in
-    let p4 = p2 .before .before in
-    let p5 = p4 .before in
-    let p14 = p5 .before .before .before .before .before .before .before .before .before in
-    let a = p14 .args in
+    let p13 = p2 .before .before .before .before .before .before .before .before .before .before .before in
+    let p20 = p13 .before .before .before .before .before .before .before in
+    let p21 = p20 .before in
+    let p30 = p21 .before .before .before .before .before .before .before .before .before in
+    let a = p30 .args in
     let b = lent (a .window .now) (a .records .now) (a .names .now) (a .missing .now) in
-    unload-none (a .at) (a .base) b (p5 .tested .ensures) (p4 .if1 .left) (p2 .first-with-base .ensures) (c .enum-told .given .1)
-
-reset-importers-requires : tie.Need-reset-importers-requires
-reset-importers-requires c κs =
-    let p8 = c .before .before .before .before .before .before .before .before in
-    let p9 = p8 .before in
-    let p18 = p9 .before .before .before .before .before .before .before .before .before in
-    let a = p18 .args in
-    let b = lent (a .window .now) (a .records .now) (a .names .now) (a .missing .now) in
-    tests-encoded (a .at) b (p9 .tested .ensures) (p8 .if1 .left)
-
-unlist-requires : tie.Need-unlist-requires
-unlist-requires c κs = search needs
-
-unrebase-requires : tie.Need-unrebase-requires
-unrebase-requires c κs = search needs
-
-remove-record-requires : tie.Need-remove-record-requires
-remove-record-requires c κs =
-    let p18 = c .before .before .before .before .before .before .before .before .before .before .before .before .before .before .before .before .before .before in
-    let p20 = p18 .before .before in
-    let p22 = p20 .before .before in
-    let p23 = p22 .before in
-    let p32 = p23 .before .before .before .before .before .before .before .before .before in
-    let a = p32 .args in
-    let b = lent (a .window .now) (a .records .now) (a .names .now) (a .missing .now) in
-    unload-stands (a .at) (a .base) b (p23 .tested .ensures) (p22 .if1 .left) (p20 .first-with-base .ensures) _ (p18 .place .given .1)
-
-same-length-9 : tie.Need-same-length-9
-same-length-9 c = search needs
-
-same-length-10 : tie.Need-same-length-10
-same-length-10 c = search needs
-
-same-length-11 : tie.Need-same-length-11
-same-length-11 c = search needs
-
-same-length-12 : tie.Need-same-length-12
-same-length-12 c = search needs
-
-returns-3 : tie.Need-returns-3
-returns-3 c =
-    let p4 = c .before .before .before .before in
-    let p9 = p4 .before .before .before .before .before in
-    let p13 = p9 .before .before .before .before in
-    let p18 = p13 .before .before .before .before .before in
-    let p23 = p18 .before .before .before .before .before in
-    let p25 = p23 .before .before in
-    let p27 = p25 .before .before in
-    let p28 = p27 .before in
-    let p37 = p28 .before .before .before .before .before .before .before .before .before in
-    let a = p37 .args in
-    let b = lent (a .window .now) (a .records .now) (a .names .now) (a .missing .now) in
-    unload-done (a .at) (a .base) b (p28 .tested .ensures) (p27 .if1 .left) (p25 .first-with-base .ensures) _ (p23 .place .given .1)
-    (p18 .reset-importers .ensures) (p13 .unlist .ensures) (p9 .unrebase .ensures) (p4 .remove-record .ensures)
+    call-answered (λ records names. calls.unload (a .base)) (ret tt) (a .at) b (p21 .tested .ensures) (p20 .if1 .left)
+    (p13 .unload .ensures) (p2 .touched .ensures) (c .first .ensures)
 
 pub unload-spec : {M : Type 1} → statement M
 unload-spec =
@@ -128,20 +90,14 @@ unload-spec =
     same-length-3
     same-length-4
     returns
-    first-with-base-requires
-    enum-known-place
-    enum-told
+    slice-aggregate-unload
+    unload-requires
+    slice-aggregate-touched
+    touched-requires
+    slice-aggregate-first
+    first-requires
     same-length-5
     same-length-6
     same-length-7
     same-length-8
-    returns-2
-    reset-importers-requires
-    unlist-requires
-    unrebase-requires
-    remove-record-requires
-    same-length-9
-    same-length-10
-    same-length-11
-    same-length-12
-    returns-3)
+    returns-2)
