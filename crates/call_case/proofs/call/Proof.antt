@@ -1,5 +1,6 @@
-use Rattle.call_case.proofs.Laws.{initializes, loads, unloads}
+-- By the case's call, with both clauses of the exported one: `initializes`, `loads`, `unloads`.
 use Rattle.linker_calls.specs.Steps.{lent}
+use Rattle.call_case.proofs.Laws.{initializes, loads, unloads}
 use borrow.Author.Needs.{needs}
 use Rattle.call_case.proofs.call.Statement.{statement}
 use Rattle.call_case.proofs.call.Tie as tie
@@ -88,15 +89,15 @@ same-length-4 c = search needs
 returns : tie.Need-returns
 returns c =
     let p8 = c .before .before .before .before .before .before .before .before in
-    let p14 = p8 .before .before .before .before .before .before in
-    let p15 = p14 .before in
-    let p16 = p15 .before in
+    let p16 = p8 .before .before .before .before .before .before .before .before in
     let p17 = p16 .before in
     let p18 = p17 .before in
-    let p24 = p18 .before .before .before .before .before .before in
-    let a = p24 .args in
+    let p19 = p18 .before in
+    let p20 = p19 .before in
+    let p26 = p20 .before .before .before .before .before .before in
+    let a = p26 .args in
     let b = lent (a .window .now) (a .records .now) (a .names .now) (a .missing .now) in
-    initializes _ (a .at) b (p18 .word .ensures) (p17 .word2 .ensures) (p16 .word3 .ensures) (p15 .word4 .ensures) (p14 .match .keys1)
+    initializes _ (a .at) b (p20 .word .ensures) (p19 .word2 .ensures) (p18 .word3 .ensures) (p17 .word4 .ensures) (p16 .match .keys1)
     (p8 .initialize .ensures)
 
 same-length-5 : tie.Need-same-length-5
@@ -114,22 +115,22 @@ same-length-8 c = search needs
 returns-2 : tie.Need-returns-2
 returns-2 c =
     let p8 = c .before .before .before .before .before .before .before .before in
-    let p10 = p8 .before .before in
-    let p11 = p10 .before in
-    let p12 = p11 .before in
+    let p12 = p8 .before .before .before .before in
     let p13 = p12 .before in
     let p14 = p13 .before in
     let p15 = p14 .before in
-    let p20 = p15 .before .before .before .before .before in
-    let p21 = p20 .before in
-    let p22 = p21 .before in
+    let p16 = p15 .before in
+    let p17 = p16 .before in
+    let p22 = p17 .before .before .before .before .before in
     let p23 = p22 .before in
     let p24 = p23 .before in
-    let p30 = p24 .before .before .before .before .before .before in
-    let a = p30 .args in
+    let p25 = p24 .before in
+    let p26 = p25 .before in
+    let p32 = p26 .before .before .before .before .before .before in
+    let a = p32 .args in
     let b = lent (a .window .now) (a .records .now) (a .names .now) (a .missing .now) in
-    loads _ (a .at) b (p24 .word .ensures) (p23 .word2 .ensures) (p22 .word3 .ensures) (p21 .word4 .ensures) (p20 .match .keys2)
-    (p15 .word5 .ensures) (p14 .word6 .ensures) (p13 .word7 .ensures) (p12 .word8 .ensures) (p11 .word9 .ensures) (p10 .word10 .ensures)
+    loads _ (a .at) b (p26 .word .ensures) (p25 .word2 .ensures) (p24 .word3 .ensures) (p23 .word4 .ensures) (p22 .match .keys2)
+    (p17 .word5 .ensures) (p16 .word6 .ensures) (p15 .word7 .ensures) (p14 .word8 .ensures) (p13 .word9 .ensures) (p12 .word10 .ensures)
     (p8 .load .ensures)
 
 same-length-9 : tie.Need-same-length-9
@@ -147,16 +148,16 @@ same-length-12 c = search needs
 returns-3 : tie.Need-returns-3
 returns-3 c =
     let p8 = c .before .before .before .before .before .before .before .before in
-    let p14 = p8 .before .before .before .before .before .before in
-    let p15 = p14 .before in
-    let p16 = p15 .before in
+    let p16 = p8 .before .before .before .before .before .before .before .before in
     let p17 = p16 .before in
     let p18 = p17 .before in
-    let p24 = p18 .before .before .before .before .before .before in
-    let a = p24 .args in
+    let p19 = p18 .before in
+    let p20 = p19 .before in
+    let p26 = p20 .before .before .before .before .before .before in
+    let a = p26 .args in
     let b = lent (a .window .now) (a .records .now) (a .names .now) (a .missing .now) in
-    unloads _ (a .at) b (p18 .word .ensures) (p17 .word2 .ensures) (p16 .word3 .ensures) (p15 .word4 .ensures)
-    (p14 .match .rest .0 .1) (p14 .match .rest .1) (p8 .unload .ensures)
+    unloads _ (a .at) b (p20 .word .ensures) (p19 .word2 .ensures) (p18 .word3 .ensures) (p17 .word4 .ensures)
+    (p16 .match .rest .0 .1) (p16 .match .rest .1) (p8 .unload .ensures)
 
 pub call-spec : {M : Type 1} → statement M
 call-spec =

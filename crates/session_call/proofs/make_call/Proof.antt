@@ -1,3 +1,4 @@
+-- The exported call that it is, with both its clauses: `is-initialize`, `is-load`, `is-unload`.
 use native.Mathlib.Omega.{arith}
 use Rattle.linker.specs.Valid.{AreBytes}
 use Rattle.linker_calls.specs.Steps.{lent}
@@ -6,11 +7,6 @@ use Rattle.session_call.proofs.Laws.{is-initialize, is-load, is-unload}
 use borrow.Author.Needs.{needs}
 use Rattle.session_call.proofs.make_call.Statement.{statement}
 use Rattle.session_call.proofs.make_call.Tie as tie
-use Rattle.session_call.proofs.make_call.Reads as reads
-use Rattle.session_call.proofs.make_call.Lts as lts
-use Rattle.linker_calls.proofs.initialize.Reads as initialize-reads
-use Rattle.linker_calls.proofs.load.Reads as load-reads
-use Rattle.linker_calls.proofs.unload.Reads as unload-reads
 
 enum-known-call : tie.Need-enum-known-call
 enum-known-call c = search needs
@@ -45,14 +41,15 @@ same-length-4 c = search needs
 returns : tie.Need-returns
 returns c =
     let p8 = c .before .before .before .before .before .before .before .before in
-    let p14 = p8 .before .before .before .before .before .before in
-    let p15 = p14 .before in
-    let p19 = p15 .before .before .before .before in
-    let p20 = p19 .before in
-    let a = p20 .before .args in
+    let p16 = p8 .before .before .before .before .before .before .before .before in
+    let p17 = p16 .before in
+    let p21 = p17 .before .before .before .before in
+    let p22 = p21 .before in
+    let p23 = p22 .before in
+    let a = p23 .args in
     let b = lent (a .window .now) (a .records .now) (a .names .now) (a .missing .now) in
-    let bytes : AreBytes b = (λ i. omega (arith, p20 .slice-known .given i), λ i. omega (arith, p19 .slice-known2 .given i)) in
-    is-initialize (a .at) b bytes _ _ (p15 .call .given .1) (p14 .known-told .given .0 .1) (p14 .known-told .given .1 .0 .1) (p8 .initialize .ensures)
+    let bytes : AreBytes b = (λ i. omega (arith, p22 .slice-known .given i), λ i. omega (arith, p21 .slice-known2 .given i)) in
+    is-initialize (a .at) b bytes _ _ (p17 .call .given .1) (p16 .known-told .given .0 .1) (p16 .known-told .given .1 .0 .1) (p8 .initialize .ensures)
 
 same-length-5 : tie.Need-same-length-5
 same-length-5 c = search needs
@@ -70,16 +67,17 @@ returns-2 : tie.Need-returns-2
 unfolding Words
 returns-2 c =
     let p8 = c .before .before .before .before .before .before .before .before in
-    let p14 = p8 .before .before .before .before .before .before in
-    let p15 = p14 .before in
-    let p19 = p15 .before .before .before .before in
-    let p20 = p19 .before in
-    let a = p20 .before .args in
+    let p16 = p8 .before .before .before .before .before .before .before .before in
+    let p17 = p16 .before in
+    let p21 = p17 .before .before .before .before in
+    let p22 = p21 .before in
+    let p23 = p22 .before in
+    let a = p23 .args in
     let b = lent (a .window .now) (a .records .now) (a .names .now) (a .missing .now) in
-    let bytes : AreBytes b = (λ i. omega (arith, p20 .slice-known .given i), λ i. omega (arith, p19 .slice-known2 .given i)) in
-    let l = p14 .known-told2 .given .0 .1 .1 in
-    let r = p14 .known-told2 .given .1 in
-    is-load (a .at) b bytes _ _ _ (p15 .call2 .given .1)
+    let bytes : AreBytes b = (λ i. omega (arith, p22 .slice-known .given i), λ i. omega (arith, p21 .slice-known2 .given i)) in
+    let l = p16 .known-told2 .given .0 .1 .1 in
+    let r = p16 .known-told2 .given .1 in
+    is-load (a .at) b bytes _ _ _ (p17 .call2 .given .1)
     (l .0 .1, l .1 .0 .1, l .1 .1 .0 .1, l .1 .1 .1 .0 .1, l .1 .1 .1 .1 .0 .1, l .1 .1 .1 .1 .1 .0 .1, r .0 .1, r .1 .0 .1) (p8 .load .ensures)
 
 same-length-9 : tie.Need-same-length-9
@@ -97,14 +95,15 @@ same-length-12 c = search needs
 returns-3 : tie.Need-returns-3
 returns-3 c =
     let p8 = c .before .before .before .before .before .before .before .before in
-    let p14 = p8 .before .before .before .before .before .before in
-    let p15 = p14 .before in
-    let p19 = p15 .before .before .before .before in
-    let p20 = p19 .before in
-    let a = p20 .before .args in
+    let p16 = p8 .before .before .before .before .before .before .before .before in
+    let p17 = p16 .before in
+    let p21 = p17 .before .before .before .before in
+    let p22 = p21 .before in
+    let p23 = p22 .before in
+    let a = p23 .args in
     let b = lent (a .window .now) (a .records .now) (a .names .now) (a .missing .now) in
-    let bytes : AreBytes b = (λ i. omega (arith, p20 .slice-known .given i), λ i. omega (arith, p19 .slice-known2 .given i)) in
-    is-unload (a .at) b bytes _ (p15 .call3 .given .1) (p14 .known-told3 .given .0 .1) (p8 .unload .ensures)
+    let bytes : AreBytes b = (λ i. omega (arith, p22 .slice-known .given i), λ i. omega (arith, p21 .slice-known2 .given i)) in
+    is-unload (a .at) b bytes _ (p17 .call3 .given .1) (p16 .known-told3 .given .0 .1) (p8 .unload .ensures)
 
 pub make-call-spec : {M : Type 1} → statement M
 make-call-spec =
