@@ -3,9 +3,6 @@ use Rattle.session.proofs.Laws.{is-call, is-bad}
 use borrow.Author.Needs.{needs}
 use Rattle.session.proofs.run_step.Statement.{statement}
 use Rattle.session.proofs.run_step.Tie as tie
-use Rattle.session.proofs.run_step.Reads as reads
-use Rattle.session.proofs.run_step.Lts as lts
-use Rattle.session_call.proofs.make_call.Reads as make-call-reads
 
 enum-known-step : tie.Need-enum-known-step
 enum-known-step c = search needs
@@ -31,13 +28,15 @@ same-length-4 c = search needs
 returns : tie.Need-returns
 returns c =
     let p8 = c .before .before .before .before .before .before .before .before in
-    let p14 = p8 .before .before .before .before .before .before in
-    let a = p14 .before .before .before .before .before .before .args in
-    is-call (a .at) (lent (a .window .now) (a .records .now) (a .names .now) (a .missing .now)) (p14 .step .given .1) (p8 .make-call .ensures)
+    let p16 = p8 .before .before .before .before .before .before .before .before in
+    let p22 = p16 .before .before .before .before .before .before in
+    let a = p22 .args in
+    is-call (a .at) (lent (a .window .now) (a .records .now) (a .names .now) (a .missing .now)) (p16 .step .given .1) (p8 .make-call .ensures .0)
 
 returns-2 : tie.Need-returns-2
 returns-2 c =
-    let a = c .before .before .before .before .before .before .args in
+    let p6 = c .before .before .before .before .before .before in
+    let a = p6 .args in
     is-bad (a .at) (lent (a .window .now) (a .records .now) (a .names .now) (a .missing .now)) (c .enum-told .given .1)
 
 pub run-step-spec : {M : Type 1} → statement M
