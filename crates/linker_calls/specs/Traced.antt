@@ -66,25 +66,30 @@ module _ (call : ℕ → ℕ → Register → Prog Answer) (beginning : Prog (Un
       ∙ sym (answers call at b g v refl)
 
   exported-touches
-      : {o : Outcome} {t : List ℕ} {touched first : ℕ} → (o, t) ≡ traced call beginning at b noTouch → touched ≡ touchOf t .0 → first ≡ touchOf t .1
-      → _≡_ {A = ℕ × ℕ} (touched, first) (touches call beginning at b)
+      : {o : Outcome} {t : List ℕ} {touch : ℕ × ℕ} → (o, t) ≡ traced call beginning at b noTouch → touch ≡ touchOf t
+      → touch ≡ touches call beginning at b
   unfolding traced touches touchIn
-  exported-touches e e₀ e₁ =
+  exported-touches e h =
       let x = runT at (callOf call b) (b .window, noTouch) in
-      rw (e₀, e₁, g, v)
+      rw (h, g, v)
       (ap (λ (y : Outcome × List ℕ). touchOf (y .1)) e
       ∙ counted-ap touchOf (x .0) _ _
       ∙ ap (λ (y : Answer × List ℕ). counted (y .0) (touchIn at beginning (b .window)) (touchIn at (callOf call b) (b .window))) same)
 
+pub told : (t : List ℕ) {touched first : ℕ} → touched ≡ touchOf t .0 → first ≡ touchOf t .1 → _≡_ {A = ℕ × ℕ} (touched, first) (touchOf t)
+told t e f = rw (e, f)
+
 -- both clauses of an exported call: the tests refuse it, or it is made
 module _ (call : ℕ → ℕ → Register → Prog Answer) (beginning : Prog (Unit {0})) (at : ℕ) (b : Bytes) {n : ℕ}
     (e : n ≡ tested (goodWindow at (b .window)) (isRegister (b .records) (b .names) (b .missing))) where
-  pub call-refused : (n ≡ 0 → ⊥) → (left n 0 b ≡ outcome call at b) × _≡_ {A = ℕ × ℕ} (0, 0) (touches call beginning at b)
-  call-refused k = (tests-refuse call at b e k, refused-touches call beginning at b e k)
+  pub call-refused
+      : (n ≡ 0 → ⊥) → {v touched first : ℕ} → (v ≡ 0) × (touched ≡ 0) × (first ≡ 0)
+      → (left n v b ≡ outcome call at b) × _≡_ {A = ℕ × ℕ} (touched, first) (touches call beginning at b)
+  call-refused k h = (rw (h .0) (tests-refuse call at b e k), rw (h .1, h .2) (refused-touches call beginning at b e k))
 
   pub call-answered
-      : n ≡ 0 → {o : Outcome} {t : List ℕ} {touched first : ℕ} → (o, t) ≡ traced call beginning at b noTouch → touched ≡ touchOf t .0
-      → first ≡ touchOf t .1 → (o ≡ outcome call at b) × _≡_ {A = ℕ × ℕ} (touched, first) (touches call beginning at b)
-  call-answered z h e₀ e₁ =
+      : n ≡ 0 → {o : Outcome} {t : List ℕ} {touch : ℕ × ℕ} → (o, t) ≡ traced call beginning at b noTouch → touch ≡ touchOf t
+      → (o ≡ outcome call at b) × (touch ≡ touches call beginning at b)
+  call-answered z h g =
       let passed = tests-pass _ _ e z in
-      (exported-left call beginning at b (passed .0) (passed .1) h, exported-touches call beginning at b (passed .0) (passed .1) h e₀ e₁)
+      (exported-left call beginning at b (passed .0) (passed .1) h, exported-touches call beginning at b (passed .0) (passed .1) h g)

@@ -4,11 +4,29 @@
 pub mod traced;
 
 ghost use mathlib.Core.Path.{_≡_};
+ghost use Rattle.window.specs.Trace.{touchOf};
 ghost use Rattle.linker.specs.Outcome.{initializeOutcome, loadOutcome, unloadOutcome};
 ghost use Rattle.linker.specs.Touches.{initializeTouches, loadTouches, unloadTouches};
 ghost use Rattle.linker_calls.specs.Steps.{lent, left, toLoad};
 use linker::rebase::Lent;
 use linker_entry::tested;
+
+// No value and no touch, whatever the call before left in their places.
+fn clear(value: &mut u32, touched: &mut u32, first: &mut u32)
+    ensures { λ _. ⌜ (now (value .exit) ≡ 0) × (now (touched .exit) ≡ 0) × (now (first .exit) ≡ 0) ⌝ }
+{
+    *value = 0;
+    *touched = 0;
+    *first = 0;
+}
+
+// Gives what the trace says.
+fn tell(trace: &[u8], touched: &mut u32, first: &mut u32)
+    ensures { λ _. ⌜ (now (touched .exit), now (first .exit)) ≡ touchOf (now (trace .entry)) ⌝ }
+{
+    *touched = window::touched(trace);
+    *first = window::first(trace);
+}
 
 // Takes in the static module, whose base the register keeps from then on.
 #[no_mangle]
@@ -31,9 +49,7 @@ pub extern "C" fn initialize(
         ≡ initializeTouches base size at
         (lent (now (window .entry)) (now (records .entry)) (now (names .entry)) (now (missing .entry))) ⌝ }
 {
-    *value = 0;
-    *touched = 0;
-    *first = 0;
+    clear(value, touched, first);
     let refused = tested(at, window, records, names, missing);
     if refused != 0 {
         return refused;
@@ -50,8 +66,7 @@ pub extern "C" fn initialize(
         size,
         value,
     );
-    *touched = window::touched(&trace[..]);
-    *first = window::first(&trace[..]);
+    tell(&trace[..], touched, first);
     number
 }
 
@@ -82,9 +97,7 @@ pub extern "C" fn load(
         ≡ loadTouches (toLoad base size «data_at» «data_size» «bss_at» «bss_size») «auto_link» level at
         (lent (now (window .entry)) (now (records .entry)) (now (names .entry)) (now (missing .entry))) ⌝ }
 {
-    *value = 0;
-    *touched = 0;
-    *first = 0;
+    clear(value, touched, first);
     let refused = tested(at, window, records, names, missing);
     if refused != 0 {
         return refused;
@@ -110,8 +123,7 @@ pub extern "C" fn load(
         level,
         value,
     );
-    *touched = window::touched(&trace[..]);
-    *first = window::first(&trace[..]);
+    tell(&trace[..], touched, first);
     number
 }
 
@@ -136,9 +148,7 @@ pub extern "C" fn unload(
         ≡ unloadTouches base at
         (lent (now (window .entry)) (now (records .entry)) (now (names .entry)) (now (missing .entry))) ⌝ }
 {
-    *value = 0;
-    *touched = 0;
-    *first = 0;
+    clear(value, touched, first);
     let refused = tested(at, window, records, names, missing);
     if refused != 0 {
         return refused;
@@ -154,7 +164,6 @@ pub extern "C" fn unload(
         base,
         value,
     );
-    *touched = window::touched(&trace[..]);
-    *first = window::first(&trace[..]);
+    tell(&trace[..], touched, first);
     number
 }

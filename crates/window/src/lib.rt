@@ -5,10 +5,8 @@
 mod plain;
 
 ghost use mathlib.Core.Path.{_≡_};
-ghost use mathlib.Core.Bool.{_&&_};
 ghost use Prim.Native.Nat.{_+_, _≤_, _<_};
 ghost use lib.ListN.{length};
-ghost use lib.Dec.{leb};
 ghost use Rattle.window.specs.Memory.{place, goodWindow};
 ghost use Rattle.window.specs.Word.{wordIn, setWordIn};
 ghost use Rattle.window.specs.Access.{get8, get32, put8, put32, put32Privileged};
@@ -67,11 +65,13 @@ pub fn read32(at: u32, w: &[u8], trace: &mut [u8], x: u32) -> u32
     ensures { λ r. ⌜ (r, (now (w .entry), now (trace .exit))) ≡ runT at (get32 x) (now (w .entry), now (trace .entry)) ⌝ }
 {
     let i = place_of(at, x);
-    if whole(i, w.len()) {
-        return load32(w, i);
+    if 0xFFFF_FFFC < i {
+        return read32_at_edge(at, w, trace, x);
     }
-    note_word(at, w.len(), trace, x);
-    plain::read32_split(at, w, x)
+    if w.len() < i + 4 {
+        return read32_at_edge(at, w, trace, x);
+    }
+    load32(w, i)
 }
 
 // Stores the word v at x, lowest byte first; bytes outside are dropped.
@@ -79,12 +79,15 @@ pub fn write32(at: u32, w: &mut [u8], trace: &mut [u8], x: u32, v: u32)
     ensures { λ _. ⌜ (now (w .exit), now (trace .exit)) ≡ runT at (put32 x v) (now (w .entry), now (trace .entry)) .1 ⌝ }
 {
     let i = place_of(at, x);
-    if whole(i, w.len()) {
-        store32(w, i, v);
+    if 0xFFFF_FFFC < i {
+        write32_at_edge(at, w, trace, x, v);
         return;
     }
-    note_word(at, w.len(), trace, x);
-    plain::write32_split(at, w, x, v);
+    if w.len() < i + 4 {
+        write32_at_edge(at, w, trace, x, v);
+        return;
+    }
+    store32(w, i, v);
 }
 
 // Stores the word v upward from x, lowest byte first, and stops at the first byte outside.
@@ -92,10 +95,36 @@ pub fn write32_privileged(at: u32, w: &mut [u8], trace: &mut [u8], x: u32, v: u3
     ensures { λ _. ⌜ (now (w .exit), now (trace .exit)) ≡ runT at (put32Privileged x v) (now (w .entry), now (trace .entry)) .1 ⌝ }
 {
     let i = place_of(at, x);
-    if whole(i, w.len()) {
-        store32(w, i, v);
+    if 0xFFFF_FFFC < i {
+        write32_privileged_at_edge(at, w, trace, x, v);
         return;
     }
+    if w.len() < i + 4 {
+        write32_privileged_at_edge(at, w, trace, x, v);
+        return;
+    }
+    store32(w, i, v);
+}
+
+// The word accesses where not all bytes are in a row inside. They stand apart, and two tests lead to each, so that the compiler
+// puts the inside path of an access into its callers and leaves this one a call.
+fn read32_at_edge(at: u32, w: &[u8], trace: &mut [u8], x: u32) -> u32
+    ensures { λ r. ⌜ (r, (now (w .entry), now (trace .exit))) ≡ runT at (get32 x) (now (w .entry), now (trace .entry)) ⌝ }
+{
+    note_word(at, w.len(), trace, x);
+    plain::read32_split(at, w, x)
+}
+
+fn write32_at_edge(at: u32, w: &mut [u8], trace: &mut [u8], x: u32, v: u32)
+    ensures { λ _. ⌜ (now (w .exit), now (trace .exit)) ≡ runT at (put32 x v) (now (w .entry), now (trace .entry)) .1 ⌝ }
+{
+    note_word(at, w.len(), trace, x);
+    plain::write32_split(at, w, x, v);
+}
+
+fn write32_privileged_at_edge(at: u32, w: &mut [u8], trace: &mut [u8], x: u32, v: u32)
+    ensures { λ _. ⌜ (now (w .exit), now (trace .exit)) ≡ runT at (put32Privileged x v) (now (w .entry), now (trace .entry)) .1 ⌝ }
+{
     note_word(at, w.len(), trace, x);
     plain::write32_upward(at, w, x, v);
 }
@@ -158,16 +187,6 @@ fn word_outside(at: u32, n: usize, x: u32) -> bool
         return true;
     }
     false
-}
-
-// Whether the four bytes from place i on are all among n: the one range test of a word.
-fn whole(i: usize, n: usize) -> bool
-    ensures { λ r. ⌜ r ≡ (leb i 0xffff_fffc && leb (i + 4) n) ⌝ }
-{
-    if 0xFFFF_FFFC < i {
-        return false;
-    }
-    i + 4 <= n
 }
 
 fn wide(b: u8) -> u32

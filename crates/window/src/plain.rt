@@ -1,10 +1,12 @@
 // The accesses without a trace: what they read and store, in a window and in a trace itself.
 ghost use mathlib.Core.Path.{_≡_};
+ghost use mathlib.Core.Bool.{_&&_};
+ghost use Prim.Native.Nat.{_+_};
+ghost use lib.Dec.{leb};
 ghost use Rattle.window.specs.Memory.{byteAt, wordAt, putByte, putWord, putPrivileged};
 use super::load32;
 use super::place_of;
 use super::store32;
-use super::whole;
 use super::wide;
 
 // The byte at x, 0 outside.
@@ -46,6 +48,16 @@ pub fn write32(at: u32, w: &mut [u8], x: u32, v: u32)
         return;
     }
     write32_split(at, w, x, v);
+}
+
+// Whether the four bytes from place i on are all among n.
+fn whole(i: usize, n: usize) -> bool
+    ensures { λ r. ⌜ r ≡ (leb i 0xffff_fffc && leb (i + 4) n) ⌝ }
+{
+    if 0xFFFF_FFFC < i {
+        return false;
+    }
+    i + 4 <= n
 }
 
 // The word at x, byte by byte: any of them may be outside.

@@ -1,68 +1,73 @@
--- In a row nothing is kept; elsewhere what `note_word` keeps.
+-- In a row inside nothing is kept; elsewhere it is `write32_at_edge`.
 use mathlib.Core.Path.{refl, _∙_}
-use borrow.Author.Needs.{needs}
-use Rattle.window.proofs.Laws.{whole-row, row-put}
+use native.Mathlib.Omega.{arith}
+use Rattle.window.proofs.Laws.{row-put}
 use Rattle.window.proofs.TraceLaws.{write32-is, row-in, saw-in}
+use borrow.Author.Needs.{needs}
 use Rattle.window.proofs.write32.Statement.{statement}
 use Rattle.window.proofs.write32.Tie as tie
 
 place-of-requires : tie.Need-place-of-requires
 place-of-requires c κs = search needs
 
-whole-requires : tie.Need-whole-requires
-whole-requires c κs = search needs
-
-store32-requires : tie.Need-store32-requires
-store32-requires c κs =
-    let p1 = c .before in
-    let p2 = p1 .before in
-    whole-row _ _ (p2 .whole .ensures) (p1 .if1 .taken) .1
+write32-at-edge-requires : tie.Need-write32-at-edge-requires
+write32-at-edge-requires c κs = search needs
 
 same-length : tie.Need-same-length
 same-length c = search needs
 
+same-length-2 : tie.Need-same-length-2
+same-length-2 c = search needs
+
 returns : tie.Need-returns
-returns c =
+returns c = search needs
+
+add-if2 : tie.Need-add-if2
+add-if2 c = search needs
+
+write32-at-edge-requires-2 : tie.Need-write32-at-edge-requires-2
+write32-at-edge-requires-2 c κs = search needs
+
+same-length-3 : tie.Need-same-length-3
+same-length-3 c = search needs
+
+same-length-4 : tie.Need-same-length-4
+same-length-4 c = search needs
+
+returns-2 : tie.Need-returns-2
+returns-2 c = search needs
+
+store32-requires : tie.Need-store32-requires
+store32-requires c κs = search needs
+
+same-length-5 : tie.Need-same-length-5
+same-length-5 c = search needs
+
+returns-3 : tie.Need-returns-3
+returns-3 c =
     let p2 = c .before .before in
     let p4 = p2 .before .before in
     let p5 = p4 .before in
     let p6 = p5 .before in
     let p9 = p6 .before .before .before in
-    let r = whole-row _ _ (p5 .whole .ensures) (p4 .if1 .taken) in
-    write32-is (p9 .args .at) (p9 .args .w .now) (p9 .args .trace .now) (p9 .args .x) (p9 .args .v)
-    (p2 .store32 .ensures ∙ row-put _ _ _ _ (p6 .place-of .ensures) (r .0) _)
-    (saw-in _ _ _ 4 _ (row-in _ _ _ _ (p6 .place-of .ensures) (r .0) (r .1)) refl)
-
-note-word-requires : tie.Need-note-word-requires
-note-word-requires c κs = search needs
-
-write32-split-requires : tie.Need-write32-split-requires
-write32-split-requires c κs = search needs
-
-same-length-2 : tie.Need-same-length-2
-same-length-2 c = search needs
-
-same-length-3 : tie.Need-same-length-3
-same-length-3 c = search needs
-
-returns-2 : tie.Need-returns-2
-returns-2 c =
-    let p2 = c .before .before in
-    let p6 = p2 .before .before .before .before in
-    let p13 = p6 .before .before .before .before .before .before .before in
-    write32-is (p13 .args .at) (p13 .args .w .now) (p13 .args .trace .now) (p13 .args .x) (p13 .args .v) (p2 .write32-split .ensures) (p6 .note-word .ensures)
+    let a = p9 .args in
+    write32-is (a .at) (a .w .now) (a .trace .now) (a .x) (a .v) (p2 .store32 .ensures ∙ row-put _ _ _ _ (p6 .place-of .ensures) (omega (arith, p5 .if1 .left)) _)
+    (saw-in _ _ _ 4 _ (row-in _ _ _ _ (p6 .place-of .ensures) (omega (arith, p5 .if1 .left)) (omega (arith, p4 .if2 .left))) refl)
 
 pub write32-spec : {M : Type 1} → statement M
 write32-spec =
     tie.close
     (tie.spec
     place-of-requires
-    whole-requires
-    store32-requires
+    write32-at-edge-requires
     same-length
-    returns
-    note-word-requires
-    write32-split-requires
     same-length-2
+    returns
+    add-if2
+    write32-at-edge-requires-2
     same-length-3
-    returns-2)
+    same-length-4
+    returns-2
+    store32-requires
+    same-length-5
+    returns-3)

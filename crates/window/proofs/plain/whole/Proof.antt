@@ -1,8 +1,8 @@
 -- The second test is made only where the first holds, so that its sum does not overflow.
 use borrow.Author.Tests.{le-leb, lt-leb}
 use borrow.Author.Needs.{needs}
-use Rattle.window.proofs.whole.Statement.{statement}
-use Rattle.window.proofs.whole.Tie as tie
+use Rattle.window.proofs.plain.whole.Statement.{statement}
+use Rattle.window.proofs.plain.whole.Tie as tie
 
 returns : tie.Need-returns
 returns c = simp (lt-leb _ _ (c .if1 .taken))
