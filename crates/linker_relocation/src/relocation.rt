@@ -2,7 +2,7 @@
 ghost use mathlib.Core.Path.{_≡_};
 ghost use Rattle.window.specs.Trace.{runT};
 ghost use Rattle.linker.specs.Relocation.{unresolvedSymbol, resetEntry, resetExternalRelocations, applyRelocationBatch, batchIsResolved};
-ghost use Rattle.linker_relocation.specs.Entry.{relocateEntry, applyEntry, walkEntry};
+ghost use Rattle.linker_relocation.specs.Entry.{applyEntry, walkEntry};
 use layout::fields::entry_address;
 use layout::fields::field;
 use layout::format::RELOCATION_ENTRY_SIZE;
@@ -18,19 +18,13 @@ use window::read8;
 use window::read32;
 use window::write8;
 
-// Applies an external relocation whose words were read, if its tag is usable.
-fn relocate_entry(
-    at: u32,
-    w: &mut [u8],
-    trace: &mut [u8],
-    base: u32,
-    symbol: u32,
-    tag: u32,
-    kind: u8,
-    addend: u32,
-)
-    ensures { λ _. ⌜ (now (w .exit), now (trace .exit)) ≡ runT at (relocateEntry base symbol tag kind addend) (now (w .entry), now (trace .entry)) .1 ⌝ }
+// Applies one external relocation with symbol, if its tag is usable.
+fn apply_entry(at: u32, w: &mut [u8], trace: &mut [u8], base: u32, symbol: u32, entry: u32)
+    ensures { λ _. ⌜ (now (w .exit), now (trace .exit)) ≡ runT at (applyEntry base symbol entry) (now (w .entry), now (trace .entry)) .1 ⌝ }
 {
+    let tag = read32(at, w, trace, entry);
+    let kind = read8(at, w, trace, std::num::wrapping_add_u32(entry, 4));
+    let addend = read32(at, w, trace, std::num::wrapping_add_u32(entry, 8));
     let Address::At(target) = tag_to_address(at, w, trace, base, SegmentTag(tag)) else {
         return;
     };
@@ -46,17 +40,8 @@ fn relocate_entry(
     );
 }
 
-// Applies one external relocation with symbol, if its tag is usable.
-fn apply_entry(at: u32, w: &mut [u8], trace: &mut [u8], base: u32, symbol: u32, entry: u32)
-    ensures { λ _. ⌜ (now (w .exit), now (trace .exit)) ≡ runT at (applyEntry base symbol entry) (now (w .entry), now (trace .entry)) .1 ⌝ }
-{
-    let tag = read32(at, w, trace, entry);
-    let kind = read8(at, w, trace, std::num::wrapping_add_u32(entry, 4));
-    let addend = read32(at, w, trace, std::num::wrapping_add_u32(entry, 8));
-    relocate_entry(at, w, trace, base, symbol, tag, kind, addend);
-}
-
 // The same for an entry of a batch, and gives its end mark, which is read between kind and addend.
+// Written out here: a function shared with apply_entry would be one more call in each turn of the walk.
 fn walk_entry(at: u32, w: &mut [u8], trace: &mut [u8], base: u32, symbol: u32, entry: u32) -> u8
     ensures { λ r. ⌜ (r, (now (w .exit), now (trace .exit))) ≡ runT at (walkEntry base symbol entry) (now (w .entry), now (trace .entry)) ⌝ }
 {
@@ -64,7 +49,11 @@ fn walk_entry(at: u32, w: &mut [u8], trace: &mut [u8], base: u32, symbol: u32, e
     let kind = read8(at, w, trace, std::num::wrapping_add_u32(entry, 4));
     let end = read8(at, w, trace, std::num::wrapping_add_u32(entry, 5));
     let addend = read32(at, w, trace, std::num::wrapping_add_u32(entry, 8));
-    relocate_entry(at, w, trace, base, symbol, tag, kind, addend);
+    let Address::At(target) = tag_to_address(at, w, trace, base, SegmentTag(tag)) else {
+        return end;
+    };
+    let kind = RelocationType::from_raw(kind);
+    apply_relocation(at, w, trace, target, kind, addend, symbol, target);
     end
 }
 
