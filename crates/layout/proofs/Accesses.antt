@@ -1,10 +1,9 @@
 -- From the code's accesses to the programs of `Segments`.
 use Prim.Native.Nat.{ℕ, _≤_, _<_}
-use mathlib.Core.Path.{_≡_, sym, ap, _∙_}
-use lib.Dec.{ltb}
+use mathlib.Core.Path.{_≡_, ap, _∙_}
 use borrow.Author.Tests.{lt-ltb, le-ltb}
-use Rattle.window.specs.Memory.{if_then_else_, _⊕_}
-use Rattle.window.specs.Access.{Prog, ret, _>>=_, _>>_, get32, put32}
+use Rattle.window.specs.Memory.{_⊕_}
+use Rattle.window.specs.Access.{ret, get32, put32}
 use Rattle.window.specs.Trace.{S, runT}
 use Rattle.window.specs.TraceRuns.{given, gives, then-it, two, on-true, on-false}
 use Rattle.layout.specs.Header.{segmentNum, segmentTableOffset, segmentEntrySize}

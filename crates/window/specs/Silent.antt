@@ -1,14 +1,13 @@
 -- What a run keeps of window and trace: lengths, the first touch, and all of the trace where every access lies inside.
 use Prim.Native.Nat.{ℕ, zero, suc, _+_, _/_, _≤_, _<_, _^_}
-use mathlib.Core.Path.{_≡_, refl, sym, ap, _∙_}
+use mathlib.Core.Path.{_≡_, refl, ap, _∙_}
 use mathlib.Core.Logic.{_≢_, _⊎_, inr}
 use mathlib.Core.List.{List}
-use mathlib.Core.Bool.{Bool, true, false, not, _||_}
+use mathlib.Core.Bool.{Bool, true, false, not}
 use native.Mathlib.Omega.{arith}
 use lib.ListN.{length}
-use lib.Dec.{ltb, eqb, lit<}
 use borrow.Author.Tests.{lt-ltb, ne-eqb}
-use Rattle.window.specs.Memory.{if_then_else_, place, inside, byteAt, wordAt, putByte, putBytes, putWord, putUpward, putPrivileged}
+use Rattle.window.specs.Memory.{if_then_else_, place, inside, byteAt, wordAt, putByte, putWord, putPrivileged}
 use Rattle.window.specs.Bytes.{length-putByte, putBytes-keeps, putUpward-keeps, Whole, wordAt-same, wordAt-apart}
 use Rattle.window.specs.Access.{Prog, ret, read8, read32, write8, write32, writePrivileged, run, Reads}
 use Rattle.window.specs.Within.{Within, Lies, Four}

@@ -1,16 +1,13 @@
 -- A program's run over a window and a trace: what `run` gives, and the first access with a byte outside the window.
 -- The trace is a byte list of four words: word 1 says whether there was such an access, word 2 where it started.
-use Prim.Native.Nat.{ℕ, zero, suc, _+_, _-_, _/_, _≤_, _<_}
-use mathlib.Core.Path.{_≡_, refl, sym, ap, _∙_}
+use Prim.Native.Nat.{ℕ, zero, suc, _+_, _/_}
+use mathlib.Core.Path.{_≡_, refl}
 use mathlib.Core.List.{List}
 use mathlib.Core.Bool.{Bool, true, false, not, _||_}
-use native.Mathlib.Omega.{arith}
 use lib.ListN.{length}
 use lib.Dec.{ltb, eqb}
 use Rattle.window.specs.Memory.{if_then_else_, place, inside, byteAt, wordAt, putByte, putBytes, putWord, putUpward, putPrivileged}
-use Rattle.window.specs.Bytes.{length-putByte, putBytes-keeps}
-use Rattle.window.specs.Access.{Prog, ret, read8, read32, write8, write32, writePrivileged, _>>=_, _>>_, run, Reads}
-use Rattle.window.specs.Loop.{loop}
+use Rattle.window.specs.Access.{Prog, ret, read8, read32, write8, write32, writePrivileged, _>>=_}
 
 -- the window, then the trace
 abbrev pub S : Type 0
