@@ -46,13 +46,13 @@ fn walk_entry(at: u32, w: &mut [u8], trace: &mut [u8], base: u32, symbol: u32, e
     ensures { λ r. ⌜ (r, (now (w .exit), now (trace .exit))) ≡ runT at (walkEntry base symbol entry) (now (w .entry), now (trace .entry)) ⌝ }
 {
     let tag = read32(at, w, trace, entry);
-    let kind = read8(at, w, trace, std::num::wrapping_add_u32(entry, 4));
+    let number = read8(at, w, trace, std::num::wrapping_add_u32(entry, 4));
     let end = read8(at, w, trace, std::num::wrapping_add_u32(entry, 5));
     let addend = read32(at, w, trace, std::num::wrapping_add_u32(entry, 8));
     let Address::At(target) = tag_to_address(at, w, trace, base, SegmentTag(tag)) else {
         return end;
     };
-    let kind = RelocationType::from_raw(kind);
+    let kind = RelocationType::from_raw(number);
     apply_relocation(at, w, trace, target, kind, addend, symbol, target);
     end
 }
