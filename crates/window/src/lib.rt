@@ -66,10 +66,10 @@ pub fn read32(at: u32, w: &[u8], trace: &mut [u8], x: u32) -> u32
 {
     let i = place_of(at, x);
     if 0xFFFF_FFFC < i {
-        return read32_at_edge(at, w, trace, x);
+        return read32_at_edge(at, &w[..], trace, x);
     }
     if w.len() < i + 4 {
-        return read32_at_edge(at, w, trace, x);
+        return read32_at_edge(at, &w[..], trace, x);
     }
     load32(w, i)
 }
@@ -107,7 +107,8 @@ pub fn write32_privileged(at: u32, w: &mut [u8], trace: &mut [u8], x: u32, v: u3
 }
 
 // The word accesses where not all bytes are in a row inside. They stand apart, and two tests lead to each, so that the compiler
-// puts the inside path of an access into its callers and leaves this one a call.
+// puts the inside path of an access into its callers and leaves this one a call. It is lent `&w[..]`, which is made for the call
+// alone: for `w` itself every caller of the access would keep address and length in memory, also where all bytes are inside.
 fn read32_at_edge(at: u32, w: &[u8], trace: &mut [u8], x: u32) -> u32
     ensures { λ r. ⌜ (r, (now (w .entry), now (trace .exit))) ≡ runT at (get32 x) (now (w .entry), now (trace .entry)) ⌝ }
 {
