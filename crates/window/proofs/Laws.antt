@@ -10,7 +10,7 @@ use borrow.Author.Tests.{leb-true}
 use Rattle.window.specs.Tests.{both}
 use Rattle.window.specs.Memory.{place, byteAt, wordAt, putByte, putBytes, putWord, putUpward, putPrivileged}
 use Rattle.window.specs.Bytes.{join, Whole, place-on, inside-yes, byteAt-mod, byteAt-outside, putByte-mod, putByte-value}
-use Rattle.window.specs.Bytes.{putByte-outside, putUpward-mod, putUpward-outside, putPrivileged-inside}
+use Rattle.window.specs.Bytes.{putByte-outside, putBytes-outside, putUpward-mod, putUpward-outside, putPrivileged-inside}
 use Rattle.window.specs.Word.{wordIn, setWordIn}
 
 -- a byte inside and outside, as the code tests it
@@ -31,12 +31,18 @@ put-out at w x i v e h = sym (putByte-outside at w x v (rw (← e) h))
 
 -- a word whose four bytes stand in a row
 
--- the range test that `whole` makes
-pub whole-row : (i n : ℕ) {r : Bool} → r ≡ (leb i 0xffff_fffc && leb (i + 4) n) → r ≡ true → (i + 4 ≤ 2 ^ 32) × (i + 4 ≤ n)
-whole-row i n e t =
-    let b = both (leb i 0xffff_fffc) (leb (i + 4) n) (sym e ∙ t) in
+-- the range tests that `whole` and `all_outside` make
+in-row : (i m n : ℕ) {r : Bool} → r ≡ (leb i 0xffff_fffc && leb m n) → r ≡ true → (i + 4 ≤ 2 ^ 32) × (m ≤ n)
+in-row i m n e t =
+    let b = both (leb i 0xffff_fffc) (leb m n) (sym e ∙ t) in
     let l : i ≤ 0xffff_fffc = leb-true i 0xffff_fffc (b .0) in
-    (omega arith, leb-true (i + 4) n (b .1))
+    (omega arith, leb-true m n (b .1))
+
+pub whole-row : (i n : ℕ) {r : Bool} → r ≡ (leb i 0xffff_fffc && leb (i + 4) n) → r ≡ true → (i + 4 ≤ 2 ^ 32) × (i + 4 ≤ n)
+whole-row i n = in-row i (i + 4) n
+
+pub out-row : (i n : ℕ) {r : Bool} → r ≡ (leb i 0xffff_fffc && leb n i) → r ≡ true → (i + 4 ≤ 2 ^ 32) × (n ≤ i)
+out-row i n = in-row i n i
 
 module _ (at : ℕ) (w : List ℕ) (x i : ℕ) (e : i ≡ place at x) (h : i + 4 ≤ 2 ^ 32) where
   row : (k : ℕ) → k < 4 → place at (x + k) ≡ i + k
@@ -52,6 +58,30 @@ module _ (at : ℕ) (w : List ℕ) (x i : ℕ) (e : i ≡ place at x) (h : i + 4
       let q₂ : x + 1 + 1 ≡ x + 2 = omega arith in
       let q₃ : x + 2 + 1 ≡ x + 3 = omega arith in
       rw (q₂, q₃, row 1 (lit< tt), row 2 (lit< tt), row 3 (lit< tt), ← e)
+
+  -- all of them outside
+  module _ (g : length w ≤ i) where
+    out : (k : ℕ) → k < 4 → length w ≤ place at (x + k)
+    out k l = rw (row k l) (omega arith)
+
+    pub out-word : 0 ≡ wordAt at w x
+    unfolding wordAt
+    out-word =
+        let z : x + 0 ≡ x = omega arith in
+        let b : (k : ℕ) → k < 4 → byteAt at w (x + k) ≡ 0 = λ k l. byteAt-outside at w (x + k) (out k l) in
+        rw (rw z at (b 0 (lit< tt)), b 1 (lit< tt), b 2 (lit< tt), b 3 (lit< tt))
+
+    pub out-put : (v : ℕ) → w ≡ putWord at w x v
+    unfolding putWord putBytes
+    out-put v =
+        let z : x + 0 ≡ x = omega arith in
+        let q₂ : x + 1 + 1 ≡ x + 2 = omega arith in
+        let q₃ : x + 1 + 1 + 1 ≡ x + 3 = omega arith in
+        sym
+        (putBytes-outside 3 at w x v (rw z at (out 0 (lit< tt)))
+        ∙ putBytes-outside 2 at w (x + 1) _ (out 1 (lit< tt))
+        ∙ putBytes-outside 1 at w (x + 1 + 1) _ (rw q₂ (out 2 (lit< tt)))
+        ∙ putBytes-outside 0 at w (x + 1 + 1 + 1) _ (rw q₃ (out 3 (lit< tt))))
 
   row-whole : i + 4 ≤ length w → Whole at w x
   row-whole g k l = rw (row k l) (omega arith)

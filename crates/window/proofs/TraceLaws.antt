@@ -2,14 +2,15 @@
 use Prim.Native.Nat.{ℕ, suc, _+_, _^_, _%_, _≤_, _<_}
 use mathlib.Core.Path.{_≡_, refl, sym, ap, _∙_}
 use mathlib.Core.List.{List}
-use mathlib.Core.Bool.{Bool, true, false, not}
+use mathlib.Core.Bool.{Bool, true, false, not, _&&_}
 use native.Mathlib.Omega.{arith}
 use lib.ListN.{length}
-use lib.Dec.{eqb, lit<}
+use lib.Dec.{leb, eqb, lit<}
 use borrow.Author.Tests.{lt-ltb, le-ltb}
 use Rattle.window.specs.Memory.{place, byteAt, wordAt, putByte, putWord, putPrivileged}
 use Rattle.window.specs.Bytes.{place-on, place-mod}
 use Rattle.window.specs.Access.{get8, get32, put8, put32, put32Privileged}
+use Rattle.window.proofs.Laws.{out-row, out-word, out-put}
 use Rattle.window.specs.Trace.{outside, said, noted, saw, touchOf, rd8, rd32, wr8, storeT, runT, wr32-put, wrP-put}
 
 -- whether a byte of an access is outside
@@ -133,3 +134,18 @@ module _ (at : ℕ) (w t : List ℕ) (x : ℕ) {u : List ℕ} where
       : (v : ℕ) {w₁ : List ℕ} → w₁ ≡ putPrivileged at w x v → u ≡ saw at (length w) x 4 t → (w₁, u) ≡ runT at (put32Privileged x v) (w, t) .1
   unfolding runT
   writeP-is v e h = rw (e, h) (sym (wrP-put at w t x v))
+
+-- a word all outside, as `all_outside` tests it
+module _ (at : ℕ) (w t : List ℕ) (x : ℕ) {i : ℕ} (e : i ≡ place at x) {r : Bool}
+    (test : r ≡ (leb i 0xffff_fffc && leb (length w) i)) (yes : r ≡ true) {u : List ℕ} (h : u ≡ noted x t) where
+  row : (i + 4 ≤ 2 ^ 32) × (length w ≤ i)
+  row = out-row i (length w) test yes
+
+  out-saw : u ≡ saw at (length w) x 4 t
+  out-saw = saw-out at (length w) x 4 t (word-out at (length w) x e (row .1)) refl h
+
+  pub read32-out : (0, (w, u)) ≡ runT at (get32 x) (w, t)
+  read32-out = read32-is at w t x (out-word at w x i e (row .0) (row .1)) out-saw
+
+  pub write32-out : (v : ℕ) → (w, u) ≡ runT at (put32 x v) (w, t) .1
+  write32-out v = write32-is at w t x v (out-put at w x i e (row .0) (row .1) v) out-saw

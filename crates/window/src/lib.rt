@@ -5,8 +5,10 @@
 mod plain;
 
 ghost use mathlib.Core.Path.{_≡_};
+ghost use mathlib.Core.Bool.{_&&_};
 ghost use Prim.Native.Nat.{_+_, _≤_, _<_};
 ghost use lib.ListN.{length};
+ghost use lib.Dec.{leb};
 ghost use Rattle.window.specs.Memory.{place, goodWindow};
 ghost use Rattle.window.specs.Word.{wordIn, setWordIn};
 ghost use Rattle.window.specs.Access.{get8, get32, put8, put32, put32Privileged};
@@ -112,6 +114,10 @@ pub fn write32_privileged(at: u32, w: &mut [u8], trace: &mut [u8], x: u32, v: u3
 fn read32_at_edge(at: u32, w: &[u8], trace: &mut [u8], x: u32) -> u32
     ensures { λ r. ⌜ (r, (now (w .entry), now (trace .exit))) ≡ runT at (get32 x) (now (w .entry), now (trace .entry)) ⌝ }
 {
+    if all_outside(place_of(at, x), w.len()) {
+        note(trace, x);
+        return 0;
+    }
     note_word(at, w.len(), trace, x);
     plain::read32_split(at, w, x)
 }
@@ -119,6 +125,10 @@ fn read32_at_edge(at: u32, w: &[u8], trace: &mut [u8], x: u32) -> u32
 fn write32_at_edge(at: u32, w: &mut [u8], trace: &mut [u8], x: u32, v: u32)
     ensures { λ _. ⌜ (now (w .exit), now (trace .exit)) ≡ runT at (put32 x v) (now (w .entry), now (trace .entry)) .1 ⌝ }
 {
+    if all_outside(place_of(at, x), w.len()) {
+        note(trace, x);
+        return;
+    }
     note_word(at, w.len(), trace, x);
     plain::write32_split(at, w, x, v);
 }
@@ -128,6 +138,16 @@ fn write32_privileged_at_edge(at: u32, w: &mut [u8], trace: &mut [u8], x: u32, v
 {
     note_word(at, w.len(), trace, x);
     plain::write32_upward(at, w, x, v);
+}
+
+// Whether the four bytes from place i on are in a row, and none of them among n.
+fn all_outside(i: usize, n: usize) -> bool
+    ensures { λ r. ⌜ r ≡ (leb i 0xffff_fffc && leb n i) ⌝ }
+{
+    if 0xFFFF_FFFC < i {
+        return false;
+    }
+    n <= i
 }
 
 // Whether an access with a byte outside is kept.
