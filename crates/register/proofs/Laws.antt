@@ -1,8 +1,8 @@
 -- From the code's loops and tests to the definitions.
 use Prim.Native.Nat.{ℕ, zero, _+_, _-_, _/_, _≤_, _<_}
-use mathlib.Core.Path.{_≡_, sym}
+use mathlib.Core.Path.{_≡_, refl, sym}
 use mathlib.Core.List.{List}
-use mathlib.Core.Bool.{true, false}
+use mathlib.Core.Bool.{Bool, true, false, _&&_}
 use native.Mathlib.Omega.{arith}
 use native.Mathlib.Numerals.{add-one}
 use lib.ListN.{length, take, drop, getD, length-drop, drop-of-length-le, List·getD-eq-default}
@@ -39,6 +39,11 @@ pub zero-more : (l : List ℕ) (i : ℕ) → i < length l → (getD l i 0 ≡ 0 
 unfolding allZero
 zero-more l i h n = rw (drop-cons l i 0 h) (simp (ne-eqb _ _ n))
 
+-- a flag that falls at the first byte that is not 0
+pub zero-off : (l : List ℕ) (i : ℕ) (z : Bool) → i < length l → (getD l i 0 ≡ 0 → ⊥) → (false && allZero (drop (i + 1) l)) ≡ (z && allZero (drop i l))
+zero-off l i false h n = refl
+zero-off l i true h n = zero-more l i h n
+
 pub zero-on : (l : List ℕ) (i : ℕ) → i < length l → getD l i 0 ≡ 0 → allZero (drop (i + 1) l) ≡ allZero (drop i l)
 unfolding allZero
 zero-on l i h e = rw (drop-cons l i 0 h, add-one) (simp (eq-eqb _ _ e))
@@ -46,3 +51,7 @@ zero-on l i h e = rw (drop-cons l i 0 h, add-one) (simp (eq-eqb _ _ e))
 pub zero-end : (l : List ℕ) (i : ℕ) → length l ≤ i → true ≡ allZero (drop i l)
 unfolding allZero
 zero-end l i h = rw (drop-of-length-le l h)
+
+pub zero-left : (l : List ℕ) (i : ℕ) (z : Bool) → length l ≤ i → z ≡ (z && allZero (drop i l))
+zero-left l i false h = refl
+zero-left l i true h = zero-end l i h

@@ -40,14 +40,15 @@ pub fn name_part(names: &[u8], offset: u32, count: u32) -> &[u8]
 pub fn zero_from(bytes: &[u8], from: usize) -> bool
     ensures { λ r. ⌜ r ≡ allZero (drop from (now (bytes .entry))) ⌝ }
 {
+    let mut zero = true;
     let mut i = from;
     while i < bytes.len() {
         if bytes[i] != 0 {
-            return false;
+            zero = false;
         }
         i += 1;
     }
-    true
+    zero
 }
 
 // The CRS, as the header has it.

@@ -1,26 +1,26 @@
-use Prim.Native.Nat.{_-_}
-use mathlib.Core.Path.{_≡_, refl, _∙_}
+use Prim.Native.Nat.{_+_, _-_}
+use mathlib.Core.Bool.{_&&_}
+use mathlib.Core.Logic.{⊎-elim}
+use mathlib.Core.Path.{_≡_, refl, _∙_, ap}
 use native.Mathlib.Omega.{arith}
 use lib.ListN.{length, drop}
 use Rattle.register.specs.Words.{allZero}
-use Rattle.register.proofs.Laws.{zero-more, zero-on, zero-end}
+use Rattle.register.proofs.Laws.{zero-off, zero-on, zero-left}
 use Rattle.register.proofs.words.zero_from.Statement.{statement}
 use Rattle.register.proofs.words.zero_from.Tie as tie
 
+-- The flag is whether all bytes so far are 0; there is no early way out, so that the loop can take many bytes at a time.
 abbrev Inv-loop : tie.InvT-loop
-Inv-loop bytes from i₀ i = allZero (drop i bytes) ≡ allZero (drop from bytes)
+Inv-loop bytes from z₀ i₀ z i = (z && allZero (drop i bytes)) ≡ allZero (drop from bytes)
 
 abbrev μ-loop : tie.MeasureT-loop
-μ-loop bytes from i₀ i = length bytes - i
+μ-loop bytes from z₀ i₀ z i = length bytes - i
 
 loop-holds : tie.Need-loop-holds Inv-loop μ-loop
 loop-holds c = refl
 
 shared-slice-read-if1 : tie.Need-shared-slice-read-if1 Inv-loop μ-loop
 shared-slice-read-if1 c = omega arith
-
-returns : tie.Need-returns Inv-loop μ-loop
-returns c = zero-more _ _ (c .before .before .loop-test .taken) (c .if1 .taken) ∙ c .before .before .before .loop .inv
 
 add-i : tie.Need-add-i Inv-loop μ-loop
 add-i c = omega arith
@@ -29,21 +29,18 @@ loop-less : tie.Need-loop-less Inv-loop μ-loop
 loop-less c = omega arith
 
 loop-again : tie.Need-loop-again Inv-loop μ-loop
-loop-again c = zero-on _ _ (c .before .before .loop-test .taken) (c .if1 .left) ∙ c .before .before .before .loop .inv
+loop-again c =
+    let t = c .before .before in
+    let l = t .before .before .args .bytes .now in
+    let i = t .before .loop .i in
+    let z = t .before .loop .zero in
+    ⊎-elim
+    (λ w. ap (λ z. z && allZero (drop (i + 1) l)) (w .1) ∙ zero-off l i z (t .loop-test .taken) (w .0 .taken) ∙ t .before .loop .inv)
+    (λ w. ap (λ z. z && allZero (drop (i + 1) l)) (w .1) ∙ ap (λ b. z && b) (zero-on l i (t .loop-test .taken) (w .0 .left)) ∙ t .before .loop .inv)
+    (c .if1 .came)
 
-returns-2 : tie.Need-returns-2 Inv-loop μ-loop
-returns-2 c = zero-end _ _ (c .loop-test .left) ∙ c .before .loop .inv
+returns : tie.Need-returns Inv-loop μ-loop
+returns c = zero-left (c .before .before .args .bytes .now) (c .before .loop .i) (c .before .loop .zero) (c .loop-test .left) ∙ c .before .loop .inv
 
 pub zero-from-spec : {M : Type 1} → statement M
-zero-from-spec =
-    tie.close
-    (tie.spec
-    Inv-loop
-    μ-loop
-    loop-holds
-    shared-slice-read-if1
-    returns
-    add-i
-    loop-less
-    loop-again
-    returns-2)
+zero-from-spec = tie.close (tie.spec Inv-loop μ-loop loop-holds shared-slice-read-if1 add-i loop-less loop-again returns)
