@@ -7,6 +7,7 @@ use native.Mathlib.Numerals.{add-one}
 use lib.ListN.{length, take, drop, getD, set, drop-of-length-le, take-append-drop}
 use lib.Seq.{drop-cons, length-take-le, take-suc-set, drop-set-lt, drop-drop}
 use borrow.Author.Tests.{eq-eqb, ne-eqb, lt-ltb, le-ltb}
+use Rattle.window.specs.Word.{wordIn}
 use Rattle.window.specs.Access.{ret, get8, run}
 use Rattle.window.specs.Trace.{S, runT}
 use Rattle.window.specs.TraceRuns.{left, given, gives, on-true, on-false}
@@ -109,3 +110,33 @@ module _ (a b : List ℕ) (i : ℕ) where
   pub order-end : length a ≤ i → length b ≤ i → Same ≡ orderOf (drop i a) (drop i b)
   unfolding orderOf
   order-end l m = rw (drop-of-length-le a l, drop-of-length-le b m)
+
+-- a word that is the same in both
+module _ (a b : List ℕ) (i : ℕ) (small-a : (k : ℕ) → getD a k 0 < 256) (small-b : (k : ℕ) → getD b k 0 < 256) where
+  same-bytes
+      : wordIn a i ≡ wordIn b i
+      → (getD a i 0 ≡ getD b i 0) × (getD a (i + 1) 0 ≡ getD b (i + 1) 0) × (getD a (i + 2) 0 ≡ getD b (i + 2) 0) × (getD a (i + 3) 0 ≡ getD b (i + 3) 0)
+  unfolding wordIn
+  same-bytes e =
+      let a₀ = small-a i in
+      let a₁ = small-a (i + 1) in
+      let a₂ = small-a (i + 2) in
+      let a₃ = small-a (i + 3) in
+      let b₀ = small-b i in
+      let b₁ = small-b (i + 1) in
+      let b₂ = small-b (i + 2) in
+      let b₃ = small-b (i + 3) in
+      (omega arith, omega arith, omega arith, omega arith)
+
+  pub order-word
+      : i + 4 ≤ length a → i + 4 ≤ length b → wordIn a i ≡ wordIn b i
+      → orderOf (drop (i + 4) a) (drop (i + 4) b) ≡ orderOf (drop i a) (drop i b)
+  order-word l m e =
+      let s = same-bytes e in
+      let q₂ : i + 1 + 1 ≡ i + 2 = omega arith in
+      let q₃ : i + 2 + 1 ≡ i + 3 = omega arith in
+      let q₄ : i + 3 + 1 ≡ i + 4 = omega arith in
+      rw q₄ at (order-on a b (i + 3) (omega arith) (omega arith) (omega (arith, s .3)) (omega (arith, s .3)))
+      ∙ rw q₃ at (order-on a b (i + 2) (omega arith) (omega arith) (omega (arith, s .2)) (omega (arith, s .2)))
+      ∙ rw q₂ at (order-on a b (i + 1) (omega arith) (omega arith) (omega (arith, s .1)) (omega (arith, s .1)))
+      ∙ order-on a b i (omega arith) (omega arith) (omega (arith, s .0)) (omega (arith, s .0))

@@ -1,7 +1,7 @@
 // Names in a window, and their order.
 ghost use mathlib.Core.Path.{_≡_};
 ghost use Prim.Native.Nat.{_≤_};
-ghost use lib.ListN.{length};
+ghost use lib.ListN.{length, drop};
 ghost use Rattle.window.specs.Access.{run};
 ghost use Rattle.window.specs.Trace.{runT};
 ghost use Rattle.name.specs.Name.{nameAt, laidOver, orderOf};
@@ -66,11 +66,30 @@ pub enum NameOrder {
     After,
 }
 
-// The order of two names as raw bytes, a shorter name before its extensions.
-pub fn compare_names(a: &[u8], b: &[u8]) -> NameOrder
-    ensures { λ r. ⌜ r ≡ orderOf (now (a .entry)) (now (b .entry)) ⌝ }
+// How many bytes the two names begin alike with, as far as a word at a time tells; they stand in the order of what follows.
+fn alike(a: &[u8], b: &[u8]) -> usize
+    ensures { λ r. ⌜ (r ≤ length (now (a .entry))) × (r ≤ length (now (b .entry)))
+        × (orderOf (drop r (now (a .entry))) (drop r (now (b .entry))) ≡ orderOf (now (a .entry)) (now (b .entry))) ⌝ }
 {
     let mut i: usize = 0;
+    while 4 <= a.len() - i {
+        if b.len() - i < 4 {
+            return i;
+        }
+        if window::load32(a, i) != window::load32(b, i) {
+            return i;
+        }
+        i += 4;
+    }
+    i
+}
+
+// The order of what two names have from a place on.
+fn compare_from(a: &[u8], b: &[u8], from: usize) -> NameOrder
+    requires { ⌜ (from ≤ length (now a)) × (from ≤ length (now b)) ⌝ }
+    ensures { λ r. ⌜ r ≡ orderOf (drop from (now (a .entry))) (drop from (now (b .entry))) ⌝ }
+{
+    let mut i = from;
     while i < a.len() {
         if b.len() <= i {
             return NameOrder::After;
@@ -87,4 +106,11 @@ pub fn compare_names(a: &[u8], b: &[u8]) -> NameOrder
         return NameOrder::Before;
     }
     NameOrder::Same
+}
+
+// The order of two names as raw bytes, a shorter name before its extensions.
+pub fn compare_names(a: &[u8], b: &[u8]) -> NameOrder
+    ensures { λ r. ⌜ r ≡ orderOf (now (a .entry)) (now (b .entry)) ⌝ }
+{
+    compare_from(a, b, alike(a, b))
 }
