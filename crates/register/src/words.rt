@@ -36,7 +36,7 @@ pub fn name_part(names: &[u8], offset: u32, count: u32) -> &[u8]
     &names[from..end]
 }
 
-// Whether all bytes from place `from` on are 0.
+// Whether all bytes from place `from` on are 0. There is no early way out, so that the compiler takes many bytes at a time.
 pub fn zero_from(bytes: &[u8], from: usize) -> bool
     ensures { λ r. ⌜ r ≡ allZero (drop from (now (bytes .entry))) ⌝ }
 {

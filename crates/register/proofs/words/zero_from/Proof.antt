@@ -1,3 +1,4 @@
+-- The invariant: the flag, whether all bytes so far are 0, and the bytes left say together what all bytes say.
 use Prim.Native.Nat.{_+_, _-_}
 use mathlib.Core.Bool.{_&&_}
 use mathlib.Core.Logic.{⊎-elim}
@@ -9,7 +10,6 @@ use Rattle.register.proofs.Laws.{zero-off, zero-on, zero-left}
 use Rattle.register.proofs.words.zero_from.Statement.{statement}
 use Rattle.register.proofs.words.zero_from.Tie as tie
 
--- The flag is whether all bytes so far are 0; there is no early way out, so that the loop can take many bytes at a time.
 abbrev Inv-loop : tie.InvT-loop
 Inv-loop bytes from z₀ i₀ z i = (z && allZero (drop i bytes)) ≡ allZero (drop from bytes)
 
