@@ -4,13 +4,16 @@
 // and the value that it must give, its touch (1 or 0, and where it starts); then for each of the four buffers how many pieces stand in it before the call, how
 // many the call must change, and the pieces. tools/call_cases.py makes the file, and says why each case gives what it does.
 // Prints for each case `ok` or the first output that differs, and how many were ok.
+mod buffers;
+mod call;
+
 ghost use Prim.Native.Nat.{_/_, _≤_};
 ghost use lib.ListN.{length};
-use call_buffers::Verdict;
-use call_buffers::compare;
-use call_buffers::lay;
-use call_case::call;
-use header_text::append::Next;
+use crate::buffers::Verdict;
+use crate::buffers::compare;
+use crate::buffers::lay;
+use crate::call::call;
+use case_reader::append::Next;
 use register::words::word;
 
 fn main() {

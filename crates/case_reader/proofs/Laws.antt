@@ -8,9 +8,9 @@ use lib.Dec.{leb}
 use borrow.Author.Tests.{le-leb, lt-leb}
 use Rattle.window.specs.Memory.{if_then_else_}
 use Rattle.register.specs.Words.{wordsIn, part}
-use Rattle.header_text.specs.Append.{appended}
-use Rattle.header_text.specs.declared.append.Next.{Next}
-use Rattle.header_text.specs.declared.append.Next.the-variants.{At, Full}
+use Rattle.case_reader.specs.Append.{appended}
+use Rattle.case_reader.specs.declared.append.Next.{Next}
+use Rattle.case_reader.specs.declared.append.Next.the-variants.{At, Full}
 use Rattle.case_reader.specs.Pieces.{pieceLength, pieceSize, placed, piece, andThen, pieces}
 
 module _ (file : List ℕ) (at : ℕ) (b : List ℕ) where

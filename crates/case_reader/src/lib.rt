@@ -1,9 +1,11 @@
 // Stored buffers. A file of whole words holds pieces: an offset, a length, and the bytes, with zeros up to a whole word.
 // Places in the file are counted in words.
+pub mod append;
+
 ghost use mathlib.Core.Path.{_≡_};
 ghost use Rattle.case_reader.specs.Pieces.{piece, pieces};
-use header_text::append::Next;
-use header_text::append::put_text;
+use crate::append::Next;
+use crate::append::put_bytes;
 use register::words::word;
 
 // Lays the piece at `at` over the buffer and gives the place after it. A piece that is not all in the file, or does not
@@ -22,7 +24,7 @@ fn put_piece(buffer: &mut [u8], file: &[u8], at: usize) -> Next
     }
     let from = 4 * (at + 2);
     let end = from + n;
-    match put_text(buffer, word(file, at) as usize, &file[from..end]) {
+    match put_bytes(buffer, word(file, at) as usize, &file[from..end]) {
         Next::At(_) => Next::At(at + size),
         Next::Full => Next::Full,
     }

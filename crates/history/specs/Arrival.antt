@@ -18,9 +18,9 @@ use Rattle.layout.specs.declared.segments.FoundSegment.the-variants.{Found, Mis
 use Rattle.layout.specs.declared.segments.Address.{Address}
 use Rattle.layout.specs.declared.segments.Address.the-variants.{At, Nowhere}
 use Rattle.register.specs.Words.{same}
-use Rattle.linker.specs.Rebase.{at-offset}
-use Rattle.linker.specs.declared.rebase.Lent.{Lent}
-use Rattle.linker.specs.Relocation.{addressOr0}
+use Rattle.linker_spec.specs.Rebase.{at-offset}
+use Rattle.linker_spec.specs.declared.rebase.Lent.{Lent}
+use Rattle.linker_spec.specs.Relocation.{addressOr0}
 use Rattle.history.specs.Image.{segments, namedExports, indexedExports, count, entry, nameOf, fileSegment}
 
 -- the two calls that bring a module, with their arguments: "Its places and parameters are that call's arguments."

@@ -8,8 +8,8 @@ use lib.ListN.{length}
 use Rattle.window.specs.Memory.{byteAt}
 use Rattle.window.specs.Within.{In, Agree}
 use Rattle.layout.specs.declared.segments.Address.the-variants.{At}
-use Rattle.linker.specs.declared.call.Call.{Call}
-use Rattle.linker.specs.declared.call.Call.the-variants.{Initialize, Load, Unload}
+use Rattle.linker_spec.specs.declared.call.Call.{Call}
+use Rattle.linker_spec.specs.declared.call.Call.the-variants.{Initialize, Load, Unload}
 use Rattle.history.specs.Below.{Each, Pairs}
 use Rattle.history.specs.Image.{namedExports, count, moduleName}
 use Rattle.history.specs.Arrival.{Coming, initialized, loaded, Image, Arrival, imageOf, baseOf, isCrs, handler, Area, exportName, exportAddress, exportOf}

@@ -2,7 +2,7 @@
 use Prim.Native.Nat.{ℕ, _+_, _*_}
 use mathlib.Core.List.{List, [], _∷_}
 use Rattle.window.specs.Mirror.{word, runM}
-use Rattle.name.specs.Name.{nameAt}
+use Rattle.window.specs.Name.{nameAt}
 use Rattle.layout.specs.Header.{segmentTableOffset, exportNamedSymbolTableOffset, exportIndexedSymbolTableOffset, exportTreeTableOffset, importModuleTableOffset, externalRelocationTableOffset, importNamedSymbolTableOffset, importIndexedSymbolTableOffset, importAnonymousSymbolTableOffset, staticAnonymousSymbolTableOffset, internalRelocationTableOffset, staticRelocationTableOffset, moduleNameOffset, segmentEntrySize, exportNamedSymbolEntrySize, exportIndexedSymbolEntrySize, exportTreeEntrySize, importModuleEntrySize, importNamedSymbolEntrySize, importIndexedSymbolEntrySize, importAnonymousSymbolEntrySize, staticAnonymousSymbolEntrySize, relocationEntrySize}
 use Rattle.layout.specs.Format.{segmentType}
 use Rattle.layout.specs.declared.format.Segment.{Segment}

@@ -6,10 +6,10 @@ use mathlib.Core.Logic.{_≢_, _⊎_}
 use mathlib.Core.Bool.{true}
 use Rattle.window.specs.Mirror.{word}
 use Rattle.layout.specs.Format.{relocationType}
-use Rattle.layout_relocation.specs.Relocation.{relocatedWord}
-use Rattle.layout_relocation.specs.declared.Patch.the-variants.{Word}
+use Rattle.layout.specs.Relocation.Relocation.{relocatedWord}
+use Rattle.layout.specs.declared.relocation.Patch.the-variants.{Word}
 use Rattle.layout.specs.declared.segments.Address.the-variants.{At}
-use Rattle.linker.specs.Relocation.{batchLimit}
+use Rattle.linker_spec.specs.Relocation.{batchLimit}
 use Rattle.history.specs.Image.{Table, namedImports, indexedImports, anonymousImports, moduleEntries, externals, count, entry, nameOf, moduleName, tag, kind, endMark, addend}
 use Rattle.history.specs.Arrival.{Image, isCrs, address, exportOf, indexedOf, anonymousOf}
 

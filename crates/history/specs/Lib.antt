@@ -8,3 +8,9 @@ pub mod Sessions
 pub mod Outcomes
 pub mod Windows
 pub mod Demand3
+pub mod Steps
+pub mod Order
+pub mod Rebase
+pub mod Calls
+pub mod Theorem
+pub mod Touches

@@ -5,12 +5,12 @@ use mathlib.Core.Logic.{_⊎_}
 use mathlib.Core.List.{List, [], _∷_}
 use lib.ListN.{length, take}
 use Rattle.register.specs.Module.{Module, Register}
-use Rattle.register_read.specs.Read.{addressOf}
-use Rattle.linker.specs.declared.call.Call.{Call}
-use Rattle.linker.specs.declared.call.Call.the-variants.{Initialize, Load, Unload}
-use Rattle.linker.specs.Outcome.{Bytes, Outcome, initializeOutcome, loadOutcome, unloadOutcome}
-use Rattle.linker.specs.Refusals.{lentRegister}
-use Rattle.linker.specs.Valid.{Valid}
+use Rattle.register.specs.Read.Read.{addressOf}
+use Rattle.linker_spec.specs.declared.call.Call.{Call}
+use Rattle.linker_spec.specs.declared.call.Call.the-variants.{Initialize, Load, Unload}
+use Rattle.linker_spec.specs.Outcome.{Bytes, Outcome, initializeOutcome, loadOutcome, unloadOutcome}
+use Rattle.linker_spec.specs.Refusals.{lentRegister}
+use Rattle.linker_spec.specs.Valid.{Valid}
 use Rattle.history.specs.Below.{Each}
 use Rattle.history.specs.Sessions.{given, Turn, SameBytes}
 

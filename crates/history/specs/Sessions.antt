@@ -1,5 +1,10 @@
 -- "Sessions in demand 3": calls, what came and stands after them, and what each is lent. What came and stands is read from the definition
 -- (`expected`); what is lent next is what the call left (`after`), and that it is document 01's is not asked here.
+pub mod Lists
+pub mod Unique
+pub mod Registers
+pub mod Answers
+pub mod Conclude
 use Prim.Native.Nat.{ℕ, _^_, _<_}
 use mathlib.Core.Path.{_≡_}
 use mathlib.Core.Logic.{_⊎_}
@@ -10,12 +15,12 @@ use lib.Dec.{eqb}
 use Rattle.window.specs.Memory.{if_then_else_, byteAt}
 use Rattle.window.specs.Within.{Agree}
 use Rattle.register.specs.declared.words.Crs.the-variants.{Unknown}
-use Rattle.linker.specs.declared.call.Call.{Call}
-use Rattle.linker.specs.declared.call.Call.the-variants.{Initialize, Load, Unload}
-use Rattle.linker.specs.Calls.{BadWindow, NoRegister, number}
-use Rattle.linker.specs.Outcome.{Bytes, Outcome, initializeOutcome, loadOutcome, unloadOutcome}
-use Rattle.linker.specs.Refusals.{lentRegister}
-use Rattle.linker.specs.Valid.{AreBytes}
+use Rattle.linker_spec.specs.declared.call.Call.{Call}
+use Rattle.linker_spec.specs.declared.call.Call.the-variants.{Initialize, Load, Unload}
+use Rattle.linker_spec.specs.Calls.{BadWindow, NoRegister, number}
+use Rattle.linker_spec.specs.Outcome.{Bytes, Outcome, initializeOutcome, loadOutcome, unloadOutcome}
+use Rattle.linker_spec.specs.Refusals.{lentRegister}
+use Rattle.linker_spec.specs.Valid.{AreBytes}
 use Rattle.history.specs.Arrival.{initialized, loaded, Arrival, imageOf, baseOf, isCrs, Area}
 
 -- what the definition gives

@@ -7,10 +7,10 @@ use Rattle.window.specs.Within.{In}
 use Rattle.window.specs.Mirror.{word}
 use Rattle.layout.specs.Header.{headerSize, nextCro, previousCro, moduleNameOffset}
 use Rattle.layout.specs.Format.{relocationType, tagSegment, tagOffset}
-use Rattle.layout_relocation.specs.Relocation.{relocatedWord}
-use Rattle.layout_relocation.specs.declared.Patch.the-variants.{Word}
+use Rattle.layout.specs.Relocation.Relocation.{relocatedWord}
+use Rattle.layout.specs.declared.relocation.Patch.the-variants.{Word}
 use Rattle.layout.specs.declared.segments.Address.the-variants.{At}
-use Rattle.linker.specs.Relocation.{writePlace}
+use Rattle.linker_spec.specs.Relocation.{writePlace}
 use Rattle.history.specs.Image.{Table, tables, segments, namedExports, exportTree, moduleEntries, externals, namedImports, staticAnonymous, internals, staticRelocations, start, count, entry, fileSegment, tag, kind, symbolSegment}
 use Rattle.history.specs.Arrival.{Coming, initialized, loaded, Image, baseOf, sizeOf, oldPlace, address, handler, Area}
 use Rattle.history.specs.Imports.{Import, named, indexed, anonymous, importTable, IsImport, importEntry, batch, runStart, runCount, InRun, BatchOf}

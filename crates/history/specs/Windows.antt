@@ -9,13 +9,13 @@ use Rattle.window.specs.Memory.{goodWindow}
 use Rattle.window.specs.Access.{Prog, ret, run, length-run}
 use Rattle.register.specs.Module.{Register}
 use Rattle.register.specs.Decode.{isRegister}
-use Rattle.linker.specs.Calls as calls
-use Rattle.linker.specs.Calls.{Answer, NotACro, BadSegment, BadWindow, NoRegister, NoRoom, Kept, Done}
-use Rattle.linker.specs.Outcome.{Bytes, registerAfter, settle, chain, outcome, initializeOutcome, loadOutcome, unloadOutcome}
-use Rattle.linker.specs.Refusals.{lentRegister}
-use Rattle.linker.specs.Valid.{Valid, AreBytes, initialize-valid, load-valid, unload-valid}
-use Rattle.linker.specs.declared.call.Call.{Call}
-use Rattle.linker.specs.declared.call.Call.the-variants.{Initialize, Load, Unload}
+use Rattle.linker_spec.specs.Calls as calls
+use Rattle.linker_spec.specs.Calls.{Answer, NotACro, BadSegment, BadWindow, NoRegister, NoRoom, Kept, Done}
+use Rattle.linker_spec.specs.Outcome.{Bytes, registerAfter, settle, chain, outcome, initializeOutcome, loadOutcome, unloadOutcome}
+use Rattle.linker_spec.specs.Refusals.{lentRegister}
+use Rattle.linker_spec.specs.Valid.{Valid, AreBytes, initialize-valid, load-valid, unload-valid}
+use Rattle.linker_spec.specs.declared.call.Call.{Call}
+use Rattle.linker_spec.specs.declared.call.Call.the-variants.{Initialize, Load, Unload}
 use Rattle.history.specs.Sessions.{given, Words}
 
 -- a run that leaves such a window

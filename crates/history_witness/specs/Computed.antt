@@ -5,9 +5,9 @@ use mathlib.Core.List.{List, [], _∷_}
 use mathlib.Core.Bool.{true}
 use Rattle.register.specs.declared.words.Crs.the-variants.{Known}
 use Rattle.register.specs.Module.{Module, Register}
-use Rattle.linker.specs.declared.rebase.Lent.{Lent}
-use Rattle.linker.specs.declared.call.Call.the-variants.{Initialize, Load, Unload}
-use Rattle.linker.specs.Outcome.{Bytes, Outcome}
+use Rattle.linker_spec.specs.declared.rebase.Lent.{Lent}
+use Rattle.linker_spec.specs.declared.call.Call.the-variants.{Initialize, Load, Unload}
+use Rattle.linker_spec.specs.Outcome.{Bytes, Outcome}
 use Rattle.history.specs.Sessions.{given}
 use Rattle.history.specs.Windows.{program}
 use Rattle.history_witness.specs.Image.{zeros, cro, join, c-words, m-words, n-words, change, c-rebased, c-linked, m-loaded, m-linked, n-loaded, lent-words, page}

@@ -12,11 +12,11 @@ use Rattle.window.specs.Memory.{if_then_else_, byteAt}
 use Rattle.window.specs.Within.{In}
 use Rattle.window.specs.Tests.{both}
 use Rattle.register.specs.Buffers.{Below}
-use Rattle.linker.specs.Calls.{number}
-use Rattle.linker.specs.declared.call.Call.{Call}
-use Rattle.linker.specs.declared.call.Call.the-variants.{Initialize, Load, Unload}
-use Rattle.linker.specs.Outcome.{Bytes}
-use Rattle.linker.specs.Valid.{AreBytes}
+use Rattle.linker_spec.specs.Calls.{number}
+use Rattle.linker_spec.specs.declared.call.Call.{Call}
+use Rattle.linker_spec.specs.declared.call.Call.the-variants.{Initialize, Load, Unload}
+use Rattle.linker_spec.specs.Outcome.{Bytes}
+use Rattle.linker_spec.specs.Valid.{AreBytes}
 use Rattle.history.specs.Arrival.{Arrival, Image, Area}
 use Rattle.history.specs.WellLaid.{WellLaid}
 use Rattle.history.specs.Sessions.{given, Turn, expected, done, unfit, own, comes, brought, arrived, stay, standing, Between, Lends, Next}

@@ -8,23 +8,23 @@ use lib.Dec.{eqb}
 use Rattle.window.specs.Memory.{if_then_else_, _⊕_}
 use Rattle.window.specs.Access.{Prog, ret, get32, put8, _>>=_, _>>_}
 use Rattle.window.specs.Loop.{loop}
-use Rattle.name.specs.Name.{nameAt}
+use Rattle.window.specs.Name.{nameAt}
 use Rattle.layout.specs.Header.{importNamedSymbolTableOffset, importNamedSymbolNum, importNamedSymbolEntrySize, importModuleTableOffset, importModuleNum, importModuleEntrySize, importIndexedSymbolEntrySize, importAnonymousSymbolEntrySize}
 use Rattle.layout.specs.Segments.{field, entryAt}
 use Rattle.register.specs.Module.{Module, Register}
 use Rattle.register.specs.Change.{appended}
 use Rattle.register.specs.Words.{same}
-use Rattle.register_read.specs.Read.{lookupIn, exportOf, entryOf}
-use Rattle.register_read.specs.declared.Symbol.{Symbol}
-use Rattle.register_read.specs.declared.Symbol.the-variants.{At, Nothing}
-use Rattle.linker.specs.declared.rebase.Lent.{Lent}
-use Rattle.linker.specs.declared.call.Call.{Call}
-use Rattle.linker.specs.declared.call.Call.the-variants.{Initialize, Load, Unload}
-use Rattle.linker.specs.Relocation.{walk}
-use Rattle.linker.specs.Imports.{anonymousOf, isUnresolved, noted, moduleByName}
-use Rattle.linker.specs.Fix.{fix}
-use Rattle.linker.specs.Calls.{Answer, Done, rebase, enter, listed, missingNow}
-use Rattle.linker.specs.Outcome.{Bytes, Outcome, outcome}
+use Rattle.register.specs.Read.Read.{lookupIn, exportOf, entryOf}
+use Rattle.register.specs.declared.read.Symbol.{Symbol}
+use Rattle.register.specs.declared.read.Symbol.the-variants.{At, Nothing}
+use Rattle.linker_spec.specs.declared.rebase.Lent.{Lent}
+use Rattle.linker_spec.specs.declared.call.Call.{Call}
+use Rattle.linker_spec.specs.declared.call.Call.the-variants.{Initialize, Load, Unload}
+use Rattle.linker_spec.specs.Relocation.{walk}
+use Rattle.linker_spec.specs.Imports.{anonymousOf, isUnresolved, noted, moduleByName}
+use Rattle.linker_spec.specs.Fix.{fix}
+use Rattle.linker_spec.specs.Calls.{Answer, Done, rebase, enter, listed, missingNow}
+use Rattle.linker_spec.specs.Outcome.{Bytes, Outcome, outcome}
 use Rattle.history.specs.Sessions.{given}
 
 -- one entry, and the mark

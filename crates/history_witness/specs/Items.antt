@@ -11,8 +11,8 @@ use Rattle.window.specs.Mirror.{word}
 use Rattle.layout.specs.declared.format.SegmentType.the-variants.{Data, Bss}
 use Rattle.layout.specs.declared.segments.FoundSegment.the-variants.{Found}
 use Rattle.layout.specs.declared.segments.Address.the-variants.{At, Nowhere}
-use Rattle.linker.specs.Calls.{number}
-use Rattle.linker.specs.declared.call.Call.the-variants.{Load}
+use Rattle.linker_spec.specs.Calls.{number}
+use Rattle.linker_spec.specs.declared.call.Call.the-variants.{Load}
 use Rattle.history.specs.Image.{indexedExports, externals, entry, moduleName, tag, kind}
 use Rattle.history.specs.Arrival.{address, handler, oldPlace, placedSegment, exportOf, indexedOf, anonymousOf}
 use Rattle.history.specs.Imports.{named, indexed, anonymous, InRun, From, BatchOf}

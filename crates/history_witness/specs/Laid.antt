@@ -17,7 +17,7 @@ use Rattle.layout.specs.Header.{headerSize, nextCro, previousCro, moduleNameOff
 use Rattle.layout.specs.Format.{tagSegment, tagOffset}
 use Rattle.layout.specs.declared.segments.Address.{Address}
 use Rattle.layout.specs.declared.segments.Address.the-variants.{At, Nowhere}
-use Rattle.linker.specs.Relocation.{batchLimit, writePlace}
+use Rattle.linker_spec.specs.Relocation.{batchLimit, writePlace}
 use Rattle.history.specs.Image.{Table, tables, namedExports, moduleEntries, externals, namedImports, indexedImports, anonymousImports, internals, start, count, entry, fileSegment, tag, endMark}
 use Rattle.history.specs.Arrival.{Coming, initialized, loaded, Image, baseOf, sizeOf, oldPlace, address, handler, Area, Lent-area}
 use Rattle.history.specs.Imports.{Import, named, indexed, anonymous, importTable, IsImport, batch, runStart, runCount, BatchOf}

@@ -18,11 +18,11 @@ use Rattle.window.specs.Tests.{both}
 use Rattle.register.specs.Module.{Register}
 use Rattle.register.specs.Decode.{isRegister}
 use Rattle.register.specs.Buffers.{encodeRecords, encodeNames, encodeMissing}
-use Rattle.linker.specs.declared.call.Call.{Call}
-use Rattle.linker.specs.Calls as calls
-use Rattle.linker.specs.Calls.{Done}
-use Rattle.linker.specs.Outcome.{Bytes, registerAfter, settle, outcome}
-use Rattle.linker.specs.Refusals.{lentRegister}
+use Rattle.linker_spec.specs.declared.call.Call.{Call}
+use Rattle.linker_spec.specs.Calls as calls
+use Rattle.linker_spec.specs.Calls.{Done}
+use Rattle.linker_spec.specs.Outcome.{Bytes, registerAfter, settle, outcome}
+use Rattle.linker_spec.specs.Refusals.{lentRegister}
 use Rattle.history.specs.Sessions.{given}
 use Rattle.history.specs.Windows.{program, given-program}
 use Rattle.history_witness.specs.Image.{zeros}

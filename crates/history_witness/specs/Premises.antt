@@ -8,7 +8,7 @@ use native.Mathlib.Omega.{arith}
 use lib.ListN.{length}
 use Rattle.window.specs.Memory.{byteAt}
 use Rattle.window.specs.Within.{In}
-use Rattle.linker.specs.Valid.{AreBytes}
+use Rattle.linker_spec.specs.Valid.{AreBytes}
 use Rattle.history.specs.Arrival.{Arrival, Image, baseOf, isCrs, Area}
 use Rattle.history.specs.Sessions.{Words, Between, Lends, Trace, comes, arrived, Areas, Fresh}
 use Rattle.history.specs.Outcomes.{Made, Promised}

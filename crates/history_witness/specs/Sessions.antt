@@ -12,9 +12,9 @@ use borrow.Author.Tests.{lt-ltb, le-ltb}
 use Rattle.window.specs.Memory.{place, byteAt}
 use Rattle.window.specs.Within.{In}
 use Rattle.register.specs.Words.{flat}
-use Rattle.linker.specs.declared.call.Call.{Call}
-use Rattle.linker.specs.declared.call.Call.the-variants.{Initialize, Load, Unload}
-use Rattle.linker.specs.Outcome.{Bytes, Outcome}
+use Rattle.linker_spec.specs.declared.call.Call.{Call}
+use Rattle.linker_spec.specs.declared.call.Call.the-variants.{Initialize, Load, Unload}
+use Rattle.linker_spec.specs.Outcome.{Bytes, Outcome}
 use Rattle.history.specs.Arrival.{Coming, initialized, loaded, Arrival, Image, cut, imageOf, baseOf, sizeOf, Area, Lent-area}
 use Rattle.history.specs.Sessions.{Turn, comes, arrived, others, stay, standing}
 use Rattle.history.specs.Below.{Each}

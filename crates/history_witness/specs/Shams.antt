@@ -7,19 +7,19 @@ use mathlib.Core.Bool.{Bool, true, false, _||_}
 use native.Mathlib.Omega.{arith}
 use lib.Dec.{eqb}
 use Rattle.window.specs.Memory.{if_then_else_, byteAt}
-use Rattle.linker.specs.declared.call.Call.{Call}
-use Rattle.linker.specs.declared.call.Call.the-variants.{Initialize, Load, Unload}
-use Rattle.linker.specs.Outcome.{Bytes, Outcome, outcome}
-use Rattle.linker.specs.Calls.{Answer, Kept, Done, Standing, unknown, stands, firstWithBase, unlisted, number}
-use Rattle.linker.specs.Unrebase.{unrebase}
+use Rattle.linker_spec.specs.declared.call.Call.{Call}
+use Rattle.linker_spec.specs.declared.call.Call.the-variants.{Initialize, Load, Unload}
+use Rattle.linker_spec.specs.Outcome.{Bytes, Outcome, outcome}
+use Rattle.linker_spec.specs.Calls.{Answer, Kept, Done, Standing, unknown, stands, firstWithBase, unlisted, number}
+use Rattle.linker_spec.specs.Unrebase.{unrebase}
 use Rattle.window.specs.Access.{Prog, ret, _>>=_, _>>_}
 use Rattle.register.specs.Module.{Register}
 use Rattle.register.specs.Change.{removed}
 use Rattle.window.specs.Memory.{_⊕_}
 use Rattle.window.specs.Mirror.{word}
 use Rattle.layout.specs.Format.{relocationType}
-use Rattle.layout_relocation.specs.Relocation.{relocatedWord}
-use Rattle.layout_relocation.specs.declared.Patch.the-variants.{Word}
+use Rattle.layout.specs.Relocation.Relocation.{relocatedWord}
+use Rattle.layout.specs.declared.relocation.Patch.the-variants.{Word}
 use Rattle.layout.specs.declared.segments.Address.the-variants.{At, Nowhere}
 use Rattle.history.specs.Image.{externals, nameOf, tag, kind, addend}
 use Rattle.history.specs.Imports.{named, IsImport, wanted, Exports, Exporter, Holds}

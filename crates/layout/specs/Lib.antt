@@ -4,3 +4,4 @@ pub mod Format
 pub mod Tables
 pub mod Segments
 pub mod Cases
+pub mod Relocation

@@ -4,5 +4,6 @@ pub mod fields;
 pub mod format;
 pub mod header;
 pub mod peek;
+pub mod relocation;
 pub mod segments;
 pub mod tables;

@@ -3,11 +3,11 @@ ghost use mathlib.Core.Path.{_≡_};
 ghost use Rattle.window.specs.Memory.{wordAt};
 ghost use Rattle.window.specs.Access.{run};
 ghost use Rattle.layout.specs.Segments.{field, segment, tagToAddress};
-use super::fields;
-use super::format::SegmentTag;
-use super::segments;
-use super::segments::Address;
-use super::segments::FoundSegment;
+use crate::fields;
+use crate::format::SegmentTag;
+use crate::segments;
+use crate::segments::Address;
+use crate::segments::FoundSegment;
 
 // The word at x.
 pub fn word(at: u32, w: &[u8], x: u32) -> u32

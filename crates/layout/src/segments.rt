@@ -2,14 +2,14 @@
 ghost use mathlib.Core.Path.{_≡_};
 ghost use Rattle.window.specs.Trace.{runT};
 ghost use Rattle.layout.specs.Segments.{segment, setSegment, tagToAddress};
-use super::fields::entry_address;
-use super::fields::field;
-use super::format::SEGMENT_ENTRY_SIZE;
-use super::format::Segment;
-use super::format::SegmentTag;
-use super::format::SegmentType;
-use super::header::SEGMENT_NUM;
-use super::header::SEGMENT_TABLE_OFFSET;
+use crate::fields::entry_address;
+use crate::fields::field;
+use crate::format::SEGMENT_ENTRY_SIZE;
+use crate::format::Segment;
+use crate::format::SegmentTag;
+use crate::format::SegmentType;
+use crate::header::SEGMENT_NUM;
+use crate::header::SEGMENT_TABLE_OFFSET;
 
 pub enum FoundSegment {
     Found(Segment),

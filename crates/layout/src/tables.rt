@@ -3,8 +3,8 @@ ghost use mathlib.Core.Path.{_≡_};
 ghost use Prim.Native.Nat.{_<_};
 ghost use lib.ListN.{getD};
 ghost use Rattle.layout.specs.Tables.{tableEntrySizes, pointerTables, noTable, pointerWords};
-use super::format;
-use super::header;
+use crate::format;
+use crate::header;
 
 // The size of one entry of each table the header lists from the module name on, one for the ones counted in bytes.
 const TABLE_ENTRY_SIZES: [u32; 15] = [

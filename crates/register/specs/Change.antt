@@ -1,4 +1,10 @@
 -- Changes of the abstract register.
+pub mod Bytes
+pub mod Lower
+pub mod Encoded
+pub mod Kept
+pub mod Remove
+pub mod Left
 use Prim.Native.Nat.{ℕ, zero, suc, _+_, _≤_, _<_}
 use mathlib.Core.List.{List, [], _∷_, _++_}
 use mathlib.Core.Bool.{Bool, true, false}

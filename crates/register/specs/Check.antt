@@ -7,7 +7,7 @@ use native.Mathlib.Omega.{arith}
 use lib.ListN.{length, take, drop, getD}
 use lib.Dec.{eqb, leb}
 use Rattle.window.specs.Memory.{if_then_else_}
-use Rattle.name.specs.Name.{noZero}
+use Rattle.window.specs.Name.{noZero}
 use Rattle.register.specs.Words.{part, allZero, wordsIn}
 use Rattle.register.specs.Module.{distinct}
 use Rattle.register.specs.Decode.{exportsIn, moduleSize, slotLength, slotName, settled}

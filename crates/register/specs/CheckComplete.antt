@@ -9,7 +9,7 @@ use lib.Seq.{getD-append-add, drop-append-seam, take-append-seam, drop-drop}
 use lib.Dec.{eqb, leb}
 use borrow.Author.Tests.{eq-eqb, le-leb}
 use Rattle.window.specs.Memory.{if_then_else_}
-use Rattle.name.specs.Name.{noZero, isName}
+use Rattle.window.specs.Name.{noZero, isName}
 use Rattle.window.specs.Tests.{both, also}
 use Rattle.register.specs.Words.{part}
 use Rattle.register.specs.Lists.{part-middle}

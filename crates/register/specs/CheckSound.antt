@@ -10,7 +10,7 @@ use lib.Seq.{drop-cons, drop-drop, take-add, length-take-le, getD-drop}
 use lib.Dec.{eqb, leb}
 use borrow.Author.Tests.{eqb-true, leb-true, le-leb}
 use Rattle.window.specs.Memory.{if_then_else_}
-use Rattle.name.specs.Name.{noZero, isName}
+use Rattle.window.specs.Name.{noZero, isName}
 use Rattle.window.specs.Tests.{both, also}
 use Rattle.register.specs.Words.{part}
 use Rattle.register.specs.Lists.{take-next, length-part, part-none, part-all, part-add}

@@ -13,3 +13,5 @@ pub mod Slots
 pub mod CheckIs
 pub mod Buffers
 pub mod Change
+pub mod Append
+pub mod Read

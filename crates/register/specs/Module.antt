@@ -5,7 +5,7 @@ use mathlib.Core.Bool.{Bool, true, false, _&&_}
 use lib.ListN.{length}
 use lib.Dec.{leb}
 use Rattle.window.specs.Memory.{if_then_else_}
-use Rattle.name.specs.Name.{isName}
+use Rattle.window.specs.Name.{isName}
 use Rattle.register.specs.Words.{same}
 use Rattle.register.specs.declared.words.Crs.{Crs}
 use Rattle.register.specs.declared.exports.Found.{Found}

@@ -7,9 +7,9 @@ use native.Mathlib.Omega.{arith}
 use lib.Dec.{ltb, eqb}
 use borrow.Author.Tests.{lt-ltb, le-ltb, ltb-true, ltb-false, eq-eqb, ne-eqb}
 use Rattle.window.specs.Memory.{if_then_else_}
-use Rattle.name.specs.Name.{orderOf, before-trans}
-use Rattle.name.specs.declared.NameOrder.{NameOrder}
-use Rattle.name.specs.declared.NameOrder.the-variants.{Before, Same, After}
+use Rattle.window.specs.Name.{orderOf, before-trans}
+use Rattle.window.specs.declared.name.NameOrder.{NameOrder}
+use Rattle.window.specs.declared.name.NameOrder.the-variants.{Before, Same, After}
 use Rattle.window.specs.Tests.{both}
 use Rattle.register.specs.Words.{same}
 use Rattle.register.specs.Lists.{same-true, same-refl}

@@ -8,7 +8,7 @@ use lib.ListN.{length, take, drop, getD, replicate, length-append, length-drop, 
 use lib.Seq.{drop-cons, drop-at, take-at, drop-drop, take-add, length-take-le, getD-drop, getD-take}
 use lib.Dec.{eqb, leb, lit<}
 use borrow.Author.Tests.{eqb-true, leb-true, le-leb, eq-eqb}
-use Rattle.name.specs.Name.{noZero, isName}
+use Rattle.window.specs.Name.{noZero, isName}
 use Rattle.window.specs.Tests.{both, also}
 use Rattle.register.specs.Words.{part, allZero}
 use Rattle.register.specs.Lists.{take-next, length-part, part-middle}

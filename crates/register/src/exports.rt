@@ -6,7 +6,7 @@ ghost use Rattle.register.specs.Words.{same, wordsIn};
 ghost use Rattle.register.specs.Module.{findExport};
 ghost use Rattle.register.specs.Decode.{exportsIn, exportAt};
 use crate::words;
-use name::NameOrder;
+use window::name::NameOrder;
 
 // Where something stands in a list.
 pub enum Found {
@@ -18,7 +18,7 @@ pub enum Found {
 pub fn same_name(a: &[u8], b: &[u8]) -> bool
     ensures { λ r. ⌜ r ≡ same (now (a .entry)) (now (b .entry)) ⌝ }
 {
-    match name::compare_names(a, b) {
+    match window::name::compare_names(a, b) {
         NameOrder::Before => false,
         NameOrder::Same => true,
         NameOrder::After => false,

@@ -9,8 +9,8 @@ use borrow.Author.Tests.{le-leb, lt-leb}
 use Rattle.window.specs.Memory.{if_then_else_}
 use Rattle.register.specs.Words.{wordsIn}
 use Rattle.register.specs.Decode.{isRegister}
-use Rattle.header_text.specs.declared.append.Next.{Next}
-use Rattle.header_text.specs.declared.append.Next.the-variants.{At, Full}
+use Rattle.case_reader.specs.declared.append.Next.{Next}
+use Rattle.case_reader.specs.declared.append.Next.the-variants.{At, Full}
 use Rattle.case_reader.specs.Pieces.{pieces}
 use Rattle.register_cases.specs.Cases.{verdict, judged, andThen, caseOver, caseAt}
 use Rattle.register_cases.specs.declared.Verdict.{Verdict}

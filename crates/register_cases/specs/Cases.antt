@@ -7,8 +7,8 @@ use lib.Dec.{leb}
 use Rattle.window.specs.Memory.{if_then_else_}
 use Rattle.register.specs.Words.{wordsIn}
 use Rattle.register.specs.Decode.{isRegister}
-use Rattle.header_text.specs.declared.append.Next.{Next}
-use Rattle.header_text.specs.declared.append.Next.the-variants.{At, Full}
+use Rattle.case_reader.specs.declared.append.Next.{Next}
+use Rattle.case_reader.specs.declared.append.Next.the-variants.{At, Full}
 use Rattle.case_reader.specs.Pieces.{pieces}
 use Rattle.register_cases.specs.declared.Verdict.{Verdict}
 use Rattle.register_cases.specs.declared.Verdict.the-variants.{Valid, Refused, Unreadable}

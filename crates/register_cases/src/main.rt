@@ -4,8 +4,8 @@
 // Prints the verdict on each case, and how many were valid and refused. tools/register_cases.py makes the file.
 ghost use mathlib.Core.Path.{_≡_};
 ghost use Rattle.register_cases.specs.Cases.{judged, caseAt};
+use case_reader::append::Next;
 use case_reader::put_pieces;
-use header_text::append::Next;
 use register::words::word;
 use register_test::is_register;
 

@@ -8,7 +8,7 @@ use lib.ListN.{length, take, drop, getD}
 use lib.Seq.{drop-drop}
 use lib.Dec.{eqb, leb}
 use borrow.Author.Tests.{le-leb, lt-leb}
-use Rattle.name.specs.Name.{noZero}
+use Rattle.window.specs.Name.{noZero}
 use Rattle.register.specs.Words.{allZero, wordsIn}
 use Rattle.register.specs.Decode.{slotLength, slotName, settled, settled-other, isRegister}
 use Rattle.register.specs.Check.{slotOk, slotsOk, countsOk, sizesOk, contentsOk, checked, passes}

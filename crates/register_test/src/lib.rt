@@ -1,4 +1,7 @@
 // Number 4's test: whether the three buffers are an encoding of a register. It ends on any bytes and reads none outside.
+mod distinct;
+mod records;
+
 ghost use mathlib.Core.Path.{_≡_};
 ghost use Prim.Native.Nat.{_*_, _≤_};
 ghost use lib.ListN.{length, getD};
@@ -61,7 +64,7 @@ fn slot_ok(slot: &[u8]) -> bool
         return false;
     }
     let end = 2 + size;
-    if !register_records::no_zero(&slot[2..end]) {
+    if !crate::records::no_zero(&slot[2..end]) {
         return false;
     }
     words::zero_from(slot, end)
@@ -94,7 +97,7 @@ fn contents_ok(records: &[u8], names: &[u8], missing: &[u8], used: u32, named: u
     let end = used as usize;
     let last = named as usize;
     let kept = words::word(records, 5);
-    if !register_records::modules_ok(&records[32..end], &names[..last], words::word(records, 0)) {
+    if !crate::records::modules_ok(&records[32..end], &names[..last], words::word(records, 0)) {
         return false;
     }
     if !slots_ok(missing, kept) {

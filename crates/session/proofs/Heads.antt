@@ -28,10 +28,10 @@ use denote.Triple.Statement.{Contract, Triple}
 use denote.Triple.Call.{calls-at}
 use denote.Triple.Clauses.{ensured, lasts}
 use denote.Triple.Spec.{tripleOf}
-use Rattle.session_head.specs.Head.{stepCount, windowAddress}
-use Rattle.session_head.proofs.step_count as count
-use Rattle.session_head.proofs.window_address as address
-use Rattle.session_step.proofs.Reading.{Slice}
+use Rattle.session.specs.Head.{stepCount, windowAddress}
+use Rattle.session.proofs.head.step_count as count
+use Rattle.session.proofs.head.window_address as address
+use Rattle.session.proofs.step.Reading.{Slice}
 
 module _ {M : Type 1} (𝓤 : URA M) (H : Heap 𝓤) (A : Atoms 𝓤) (mem : Memory → SProp 𝓤) (run : Routine → Fun 𝓤) where
   abbrev pub Count : Contract 𝓤

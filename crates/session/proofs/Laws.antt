@@ -2,15 +2,15 @@
 use Prim.Native.Nat.{ℕ, _+_}
 use mathlib.Core.Path.{_≡_, refl, ap, _∙_}
 use mathlib.Core.List.{List}
-use Rattle.linker.specs.declared.call.Call.{Call}
-use Rattle.linker.specs.Outcome.{Bytes, Outcome}
+use Rattle.linker_spec.specs.declared.call.Call.{Call}
+use Rattle.linker_spec.specs.Outcome.{Bytes, Outcome}
 use Rattle.history.specs.Windows.{given-valid}
-use Rattle.history_theorem.specs.Demand3.{promised-given}
-use Rattle.session_call.specs.Continues.{turn, Continues}
-use Rattle.linker_calls.specs.Steps.{left}
-use Rattle.session_step.specs.declared.Step.{Step}
-use Rattle.session_step.specs.declared.Step.the-variants.{Bad}
-use Rattle.session_lines.specs.Lines.{stepLine}
+use Rattle.history.specs.Theorem.Demand3.{promised-given}
+use Rattle.session.specs.Continues.{turn, Continues}
+use Rattle.linker.specs.Calls.Steps.{left}
+use Rattle.session.specs.declared.step.Step.{Step}
+use Rattle.session.specs.declared.step.Step.the-variants.{Bad}
+use Rattle.session.specs.Lines.{stepLine}
 use Rattle.text.specs.Text.{put}
 use Rattle.session.specs.Run.{stepOutcome, Ran}
 use Rattle.session.specs.Ahead.{Turned}

@@ -36,9 +36,9 @@ use denote.Triple.Clauses.{ensured, lasts}
 use denote.Triple.Entry.{Args, Vals}
 use denote.Triple.Spec.{tripleOf}
 use denote.Triple.Walked.{says}
-use Rattle.linker_calls.specs.Steps.{lent}
-use Rattle.session_step.specs.declared.Step.{Step}
-use Rattle.session_step.proofs.Step as S
+use Rattle.linker.specs.Calls.Steps.{lent}
+use Rattle.session.specs.declared.step.Step.{Step}
+use Rattle.session.proofs.step.Step as S
 use Rattle.session.specs.Ahead.{Placed, Turned}
 use Rattle.session.proofs.Again.{under, machine, Lent, Away, lends, comes-back}
 use Rattle.session.proofs.run_turn as turn

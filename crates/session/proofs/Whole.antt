@@ -10,15 +10,15 @@ use Rattle.register.specs.Words.{part}
 use Rattle.register.specs.Module.{proper}
 use Rattle.register.specs.Decode.{registerOf}
 use Rattle.register.specs.CheckIs.{register-parts}
-use Rattle.linker.specs.Outcome.{Bytes}
-use Rattle.linker.specs.Refusals.{lentRegister}
-use Rattle.linker_calls.specs.Steps.{lent}
+use Rattle.linker_spec.specs.Outcome.{Bytes}
+use Rattle.linker_spec.specs.Refusals.{lentRegister}
+use Rattle.linker.specs.Calls.Steps.{lent}
 use Rattle.text.specs.Text.{bytes, decimalOf, put}
 use Rattle.text.specs.Laws.{put-append, put-whole}
-use Rattle.session_head.specs.Head.{stepCount, windowLength, windowOffset}
-use Rattle.session_file.specs.File.{isSession}
-use Rattle.session_file.specs.Parts.{session-parts}
-use Rattle.session_register.specs.Lines.{moduleLines, missingLines}
+use Rattle.session.specs.Head.{stepCount, windowLength, windowOffset}
+use Rattle.session.specs.File.{isSession}
+use Rattle.session.specs.Parts.{session-parts}
+use Rattle.session.specs.RegisterLines.Lines.{moduleLines, missingLines}
 use Rattle.session.specs.Run.{start}
 use Rattle.session.specs.Session.{steps, registerLines, sessionText}
 use Rattle.session.specs.Fits.{bad-fits, text-fits}

@@ -3,14 +3,14 @@ use Prim.Native.Nat.{ℕ, suc, _+_, _-_, _≤_, _<_}
 use mathlib.Core.Path.{_≡_, refl, sym, ap, _∙_}
 use mathlib.Core.List.{List}
 use native.Mathlib.Omega.{arith}
-use Rattle.linker.specs.Outcome.{Bytes}
-use Rattle.linker.specs.Valid.{Valid}
+use Rattle.linker_spec.specs.Outcome.{Bytes}
+use Rattle.linker_spec.specs.Valid.{Valid}
 use Rattle.text.specs.Text.{put}
 use Rattle.text.specs.Laws.{put-append}
-use Rattle.session_head.specs.Head.{windowAddress}
-use Rattle.session_step.specs.declared.Step.{Step}
-use Rattle.session_step.specs.Steps.{stepAt}
-use Rattle.session_lines.specs.Lines.{stepLine}
+use Rattle.session.specs.Head.{windowAddress}
+use Rattle.session.specs.declared.step.Step.{Step}
+use Rattle.session.specs.Steps.{stepAt}
+use Rattle.session.specs.Lines.{stepLine}
 use Rattle.session.specs.Run.{stepOutcome}
 use Rattle.session.specs.Session.{outcomeAt, steps}
 

@@ -9,23 +9,23 @@ use lib.Dec.{ltb, leb}
 use borrow.Author.Tests.{leb-true}
 use Rattle.window.specs.Memory.{if_then_else_}
 use Rattle.window.specs.Tests.{both}
-use Rattle.name.specs.Name.{isName}
+use Rattle.window.specs.Name.{isName}
 use Rattle.register.specs.Module.{Module, Register, proper, properModule, properModules, properNames, named-ok, distinct}
 use Rattle.register.specs.Encode.{flag}
 use Rattle.register.specs.Proper.{proper-parts}
-use Rattle.linker.specs.Outcome.{Bytes}
-use Rattle.linker.specs.Refusals.{lentRegister}
+use Rattle.linker_spec.specs.Outcome.{Bytes}
+use Rattle.linker_spec.specs.Refusals.{lentRegister}
 use Rattle.text.specs.Text.{bytes, digitOf, digitsIn, hexOf, decimalOf, pairsOf}
-use Rattle.linker.specs.declared.call.Call.{Call}
-use Rattle.linker.specs.declared.call.Call.the-variants.{Initialize, Load, Unload}
-use Rattle.session_step.specs.declared.Step.{Step}
-use Rattle.session_step.specs.declared.Step.the-variants.{Bad}
-use Rattle.session_head.specs.Head.{stepCount}
-use Rattle.session_step.specs.Steps.{stepAt}
-use Rattle.session_file.specs.File.{isSession}
-use Rattle.session_file.specs.Parts.{session-parts}
-use Rattle.session_lines.specs.Lines.{callName, stepName, stepLine}
-use Rattle.session_register.specs.Lines.{nameText, moduleLine, moduleLines, nameLines, missingLines}
+use Rattle.linker_spec.specs.declared.call.Call.{Call}
+use Rattle.linker_spec.specs.declared.call.Call.the-variants.{Initialize, Load, Unload}
+use Rattle.session.specs.declared.step.Step.{Step}
+use Rattle.session.specs.declared.step.Step.the-variants.{Bad}
+use Rattle.session.specs.Head.{stepCount}
+use Rattle.session.specs.Steps.{stepAt}
+use Rattle.session.specs.File.{isSession}
+use Rattle.session.specs.Parts.{session-parts}
+use Rattle.session.specs.Lines.{callName, stepName, stepLine}
+use Rattle.session.specs.RegisterLines.Lines.{nameText, moduleLine, moduleLines, nameLines, missingLines}
 use Rattle.session.specs.Run.{start}
 use Rattle.session.specs.Session.{outcomeAt, steps, registerLines, sessionText}
 

@@ -4,12 +4,12 @@ use mathlib.Core.List.{List}
 use mathlib.Core.Path.{_≡_}
 use lib.ListN.{replicate}
 use Rattle.register.specs.Words.{part}
-use Rattle.linker.specs.Outcome.{Bytes, Outcome}
-use Rattle.linker.specs.Valid.{Valid}
+use Rattle.linker_spec.specs.Outcome.{Bytes, Outcome}
+use Rattle.linker_spec.specs.Valid.{Valid}
 use Rattle.history.specs.Sessions.{given}
-use Rattle.session_step.specs.declared.Step.{Step}
-use Rattle.session_step.specs.declared.Step.the-variants.{Bad}
-use Rattle.session_head.specs.Head.{windowLength, windowOffset}
+use Rattle.session.specs.declared.step.Step.{Step}
+use Rattle.session.specs.declared.step.Step.the-variants.{Bad}
+use Rattle.session.specs.Head.{windowLength, windowOffset}
 
 -- "The register starts zeroed, records and names 16,384 bytes each."
 unfoldable pub start : List ℕ → Bytes

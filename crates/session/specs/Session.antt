@@ -3,14 +3,14 @@ use Prim.Native.Nat.{ℕ, zero, suc, _+_}
 use mathlib.Core.List.{List, [], _++_}
 use Rattle.window.specs.Memory.{if_then_else_}
 use Rattle.register.specs.Module.{Register}
-use Rattle.linker.specs.Outcome.{Bytes, Outcome}
-use Rattle.linker.specs.Refusals.{lentRegister}
+use Rattle.linker_spec.specs.Outcome.{Bytes, Outcome}
+use Rattle.linker_spec.specs.Refusals.{lentRegister}
 use Rattle.text.specs.Text.{bytes, decimalOf}
-use Rattle.session_head.specs.Head.{stepCount, windowAddress}
-use Rattle.session_step.specs.Steps.{stepAt}
-use Rattle.session_file.specs.File.{isSession}
-use Rattle.session_lines.specs.Lines.{stepLine}
-use Rattle.session_register.specs.Lines.{moduleLines, missingLines}
+use Rattle.session.specs.Head.{stepCount, windowAddress}
+use Rattle.session.specs.Steps.{stepAt}
+use Rattle.session.specs.File.{isSession}
+use Rattle.session.specs.Lines.{stepLine}
+use Rattle.session.specs.RegisterLines.Lines.{moduleLines, missingLines}
 use Rattle.session.specs.Run.{start, stepOutcome}
 
 -- step k, on the bytes that the ones before it left

@@ -1,27 +1,34 @@
 // A session: the file judged, its steps run through the three calls, and the text that they print.
+pub mod call;
+mod file;
+mod head;
+mod lines;
+mod register_lines;
+mod step;
+
 ghost use mathlib.Core.Path.{_≡_};
 ghost use mathlib.Core.Bool.{true};
 ghost use Prim.Native.Nat.{_<_, _≤_};
 ghost use lib.ListN.{length};
 ghost use Rattle.register.specs.Decode.{isRegister};
 ghost use Rattle.text.specs.Text.{put};
-ghost use Rattle.linker_calls.specs.Steps.{lent, left};
-ghost use Rattle.session_head.specs.Head.{stepCount};
+ghost use Rattle.linker.specs.Calls.Steps.{lent, left};
+ghost use Rattle.session.specs.Head.{stepCount};
 ghost use Rattle.session.specs.Run.{Ran};
 ghost use Rattle.session.specs.Session.{sessionText};
 ghost use Rattle.session.specs.Ahead.{Turned, AllRan};
-use session_call::Answered;
-use session_call::make_call;
-use session_file::is_session;
-use session_head::step_count;
-use session_head::window_address;
-use session_head::window_bytes;
-use session_lines::put_step;
-use session_register::put_register;
-use session_step::Step;
-use session_step::advance;
-use session_step::new;
-use session_step::next_step;
+use crate::call::Answered;
+use crate::call::make_call;
+use crate::file::is_session;
+use crate::head::step_count;
+use crate::head::window_address;
+use crate::head::window_bytes;
+use crate::lines::put_step;
+use crate::register_lines::put_register;
+use crate::step::Step;
+use crate::step::advance;
+use crate::step::new;
+use crate::step::next_step;
 use text::put_decimal;
 use text::put_text;
 

@@ -10,8 +10,8 @@ use lib.Dec.{leb}
 use borrow.Author.Tests.{le-leb, lt-leb}
 use Rattle.window.specs.Memory.{if_then_else_}
 use Rattle.register.specs.Words.{wordsIn}
-use Rattle.header_text.specs.declared.append.Next.{Next}
-use Rattle.header_text.specs.declared.append.Next.the-variants.{At, Full}
+use Rattle.case_reader.specs.declared.append.Next.{Next}
+use Rattle.case_reader.specs.declared.append.Next.the-variants.{At, Full}
 use Rattle.case_reader.specs.Pieces.{pieces}
 use Rattle.text.specs.Text.{put}
 use Rattle.text.specs.Laws.{put-within}

@@ -5,8 +5,8 @@ use lib.ListN.{length, take, getD, replicate}
 use lib.Dec.{leb}
 use Rattle.window.specs.Memory.{if_then_else_}
 use Rattle.register.specs.Words.{wordsIn}
-use Rattle.header_text.specs.declared.append.Next.{Next}
-use Rattle.header_text.specs.declared.append.Next.the-variants.{At, Full}
+use Rattle.case_reader.specs.declared.append.Next.{Next}
+use Rattle.case_reader.specs.declared.append.Next.the-variants.{At, Full}
 use Rattle.case_reader.specs.Pieces.{pieces}
 use Rattle.text.specs.Text.{put}
 use Rattle.session.specs.Session.{sessionText}

@@ -3,8 +3,8 @@
 // tools/session_cases.py makes the file, and the output that it must give.
 ghost use mathlib.Core.Path.{_≡_};
 ghost use Rattle.session_cases.specs.Cases.{textOf, caseAt};
+use case_reader::append::Next;
 use case_reader::put_pieces;
-use header_text::append::Next;
 use register::words::word;
 use session::session_text;
 

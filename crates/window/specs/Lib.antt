@@ -12,3 +12,5 @@ pub mod TraceRuns
 pub mod Within
 pub mod Silent
 pub mod Mirror
+-- What a name is, and how two names stand to each other.
+pub mod Name

@@ -2,7 +2,8 @@
 // The test of a window and the five accesses stand here, names in `name`; no other crate indexes a window.
 // Each access says whether any of its bytes lay outside: the lent trace keeps where the first such access started.
 // Only this crate looks into a trace, and it is total in the trace's length.
-mod plain;
+pub mod name;
+pub mod plain;
 
 ghost use mathlib.Core.Path.{_≡_};
 ghost use mathlib.Core.Bool.{_&&_};

@@ -4,10 +4,10 @@ ghost use mathlib.Core.Bool.{_&&_};
 ghost use Prim.Native.Nat.{_+_};
 ghost use lib.Dec.{leb};
 ghost use Rattle.window.specs.Memory.{byteAt, wordAt, putByte, putWord, putPrivileged};
-use super::load32;
-use super::place_of;
-use super::store32;
-use super::wide;
+use crate::load32;
+use crate::place_of;
+use crate::store32;
+use crate::wide;
 
 // The byte at x, 0 outside.
 pub fn read8(at: u32, w: &[u8], x: u32) -> u8

@@ -1,4 +1,4 @@
--- A piece is laid by `put_text` if it is all in the file.
+-- A piece is laid by `put_bytes` if it is all in the file.
 use mathlib.Core.Path.{sym, ap, _∙_}
 use native.Mathlib.Omega.{arith}
 use borrow.Author.Needs.{needs}
@@ -40,20 +40,20 @@ add-end c = search needs
 word-requires-2 : tie.Need-word-requires-2
 word-requires-2 c κs = search needs
 
-cast-put-text : tie.Need-cast-put-text
-cast-put-text c = search needs
+cast-put-bytes : tie.Need-cast-put-bytes
+cast-put-bytes c = search needs
 
-sub-put-text : tie.Need-sub-put-text
-sub-put-text c = search needs
+sub-put-bytes : tie.Need-sub-put-bytes
+sub-put-bytes c = search needs
 
-part-put-text-start : tie.Need-part-put-text-start
-part-put-text-start c = search needs
+part-put-bytes-start : tie.Need-part-put-bytes-start
+part-put-bytes-start c = search needs
 
-part-put-text-end : tie.Need-part-put-text-end
-part-put-text-end c = search needs
+part-put-bytes-end : tie.Need-part-put-bytes-end
+part-put-bytes-end c = search needs
 
-put-text-requires : tie.Need-put-text-requires
-put-text-requires c κs = search needs
+put-bytes-requires : tie.Need-put-bytes-requires
+put-bytes-requires c κs = search needs
 
 enum-told : tie.Need-enum-told
 enum-told c = search needs
@@ -70,7 +70,7 @@ same-length c = search needs
 returns-3 : tie.Need-returns-3
 unfolding placed
 returns-3 c =
-    let p = c .before .before .before .before .put-text in
+    let p = c .before .before .before .before .put-bytes in
     let w = c .before .before .before .before .before .before in
     ap (placed _) (ap (λ r. (r, p .last .0)) (sym (c .enum-told .given .1)))
     ∙ inside _ _ _ (w .before .before .before .word .ensures) (w .word2 .ensures) (omega arith) (omega arith) (p .ensures)
@@ -81,7 +81,7 @@ same-length-2 c = search needs
 returns-4 : tie.Need-returns-4
 unfolding placed
 returns-4 c =
-    let p = c .before .before .before .before .put-text in
+    let p = c .before .before .before .before .put-bytes in
     let w = c .before .before .before .before .before .before in
     ap (placed _) (ap (λ r. (r, p .last .0)) (sym (c .enum-told2 .given .1)))
     ∙ inside _ _ _ (w .before .before .before .word .ensures) (w .word2 .ensures) (omega arith) (omega arith) (p .ensures)
@@ -101,11 +101,11 @@ put-piece-spec =
     mul-from
     add-end
     word-requires-2
-    cast-put-text
-    sub-put-text
-    part-put-text-start
-    part-put-text-end
-    put-text-requires
+    cast-put-bytes
+    sub-put-bytes
+    part-put-bytes-start
+    part-put-bytes-end
+    put-bytes-requires
     enum-told
     add-t20
     enum-told-2

@@ -1,6 +1,6 @@
 -- `session::run_steps` meets its contract: a walk of its MIR, by hand, since a local holds the reader. The reader is made before the loop and lives in its
 -- local over all turns. A turn asks it for its step, runs that by `run_turn`, to which the five slices are lent again, and advances the reader
--- (`session_step`'s `Reading.antt`, `Turn.antt`).
+-- (`session::step`'s `Reading.antt`, `Turn.antt`).
 --     Upto, At     the loop's invariant: the steps that are left, run on the bytes as they are, give what all of them give
 --     turns        a turn: its test and the step; `ran`, the call of `run_turn`; `advanced`, the reader's advance
 -- Positions: local j of the 28 stands at 2 · (27 − j) after what is put in front.
@@ -52,27 +52,27 @@ use denote.Triple.Walked.{says, needs, Stays, stay-none, stay-none-slice, stay-s
 use denote.Triple.Walked.{walked, walk-meets}
 use denote.Exit.{yes}
 use Rattle.register.specs.Decode.{isRegister}
-use Rattle.session_head.specs.Head.{stepCount, windowAddress}
-use Rattle.session_head.proofs.step_count.Symbol as count-def
-use Rattle.session_head.proofs.step_count.Symbol.{name as #session-head·step-count}
-use Rattle.session_head.proofs.step_count.Met as count-thm
-use Rattle.session_head.proofs.window_address.Symbol as address-def
-use Rattle.session_head.proofs.window_address.Symbol.{name as #session-head·window-address}
-use Rattle.session_head.proofs.window_address.Met as address-thm
-use Rattle.session_step.specs.Steps.{stepAt}
-use Rattle.session_step.proofs.Reader.Laws as T′
-use Rattle.session_step.proofs.Step as S
-use Rattle.session_step.proofs.Step.Laws as S′
-use Rattle.session_step.proofs.Reading.{New, Next, Advance, after, mach, Held, Slice, slice-twice, makes-reader, asks-step, advances}
-use Rattle.session_step.proofs.new.Symbol as new-def
-use Rattle.session_step.proofs.new.Symbol.{name as #session-step·new}
-use Rattle.session_step.proofs.new.Met as new-thm
-use Rattle.session_step.proofs.next_step.Symbol as next-def
-use Rattle.session_step.proofs.next_step.Symbol.{name as #session-step·next-step}
-use Rattle.session_step.proofs.next_step.Met as next-thm
-use Rattle.session_step.proofs.advance.Symbol as advance-def
-use Rattle.session_step.proofs.advance.Symbol.{name as #session-step·advance}
-use Rattle.session_step.proofs.advance.Met as advance-thm
+use Rattle.session.specs.Head.{stepCount, windowAddress}
+use Rattle.session.proofs.head.step_count.Symbol as count-def
+use Rattle.session.proofs.head.step_count.Symbol.{name as #session·head·step-count}
+use Rattle.session.proofs.head.step_count.Met as count-thm
+use Rattle.session.proofs.head.window_address.Symbol as address-def
+use Rattle.session.proofs.head.window_address.Symbol.{name as #session·head·window-address}
+use Rattle.session.proofs.head.window_address.Met as address-thm
+use Rattle.session.specs.Steps.{stepAt}
+use Rattle.session.proofs.step.Reader.Laws as T′
+use Rattle.session.proofs.step.Step as S
+use Rattle.session.proofs.step.Step.Laws as S′
+use Rattle.session.proofs.step.Reading.{New, Next, Advance, after, mach, Held, Slice, slice-twice, makes-reader, asks-step, advances}
+use Rattle.session.proofs.step.new.Symbol as new-def
+use Rattle.session.proofs.step.new.Symbol.{name as #session·step·new}
+use Rattle.session.proofs.step.new.Met as new-thm
+use Rattle.session.proofs.step.next_step.Symbol as next-def
+use Rattle.session.proofs.step.next_step.Symbol.{name as #session·step·next-step}
+use Rattle.session.proofs.step.next_step.Met as next-thm
+use Rattle.session.proofs.step.advance.Symbol as advance-def
+use Rattle.session.proofs.step.advance.Symbol.{name as #session·step·advance}
+use Rattle.session.proofs.step.advance.Met as advance-thm
 use Rattle.session.specs.Ahead.{Placed, Turned, AllRan, Rest, rest-starts, rest-next, rest-over}
 use Rattle.session.proofs.Heads.{Count, Address, counts, addresses}
 use Rattle.session.proofs.Turn as F
@@ -235,11 +235,11 @@ module _ {M : Type 1} (𝓤 : URA M) (H : Heap 𝓤) (A : Atoms 𝓤) (W : Given
 
   module _ (𝓣 : Tables 𝓤 H) (is : Is (ShrSlice (named 0) κ₀ u8) s (value s ∷ [])) (rooms : Rooms κ q x) (few : n ≤ 64)
       (valid : isRegister (now (x .records)) (now (x .names)) (now (x .missing)) ≡ true)
-      (known-count : Triple 𝓤 (𝓣 .C #session-head·step-count) (Count 𝓤 H A mem run))
-      (known-address : Triple 𝓤 (𝓣 .C #session-head·window-address) (Address 𝓤 H A mem run))
-      (known-new : Triple 𝓤 (𝓣 .C #session-step·new) (New 𝓤 H A mem run))
-      (known-next : Triple 𝓤 (𝓣 .C #session-step·next-step) (Next 𝓤 H A mem run))
-      (known-advance : Triple 𝓤 (𝓣 .C #session-step·advance) (Advance 𝓤 H A mem run))
+      (known-count : Triple 𝓤 (𝓣 .C #session·head·step-count) (Count 𝓤 H A mem run))
+      (known-address : Triple 𝓤 (𝓣 .C #session·head·window-address) (Address 𝓤 H A mem run))
+      (known-new : Triple 𝓤 (𝓣 .C #session·step·new) (New 𝓤 H A mem run))
+      (known-next : Triple 𝓤 (𝓣 .C #session·step·next-step) (Next 𝓤 H A mem run))
+      (known-advance : Triple 𝓤 (𝓣 .C #session·step·advance) (Advance 𝓤 H A mem run))
       (known-turn : Triple 𝓤 (𝓣 .C #session·run-turn) (RunTurn 𝓤 H A mem run)) where
     abbrev C : Calls 𝓤 H
     C = 𝓣 .C
@@ -487,11 +487,11 @@ module _ {M : Type 1} (𝓤 : URA M) (H : Heap 𝓤) (A : Atoms 𝓤) (W : Given
         begins l₀ l₁ l₂ l₃ l₄ l₅ l₆ l₇ l₈ l₉ l₁₀ l₁₁ l₁₂ l₁₃ l₁₄ l₁₅ l₁₆ l₁₇ l₁₈ l₁₉ l₂₀ l₂₁ l₂₂ l₂₃ l₂₄ l₂₅ l₂₆ l₂₇))))))))))))))))))))))))))))
 
 module _ {M : Type 1} (𝓤 : URA M) (H : Heap 𝓤) (A : Atoms 𝓤) (W : Given 𝓤 H A) (mem : Memory → SProp 𝓤) (run : Routine → Fun 𝓤) (𝓣 : Tables 𝓤 H)
-    (known-count : Triple 𝓤 (𝓣 .C #session-head·step-count) (Count 𝓤 H A mem run))
-    (known-address : Triple 𝓤 (𝓣 .C #session-head·window-address) (Address 𝓤 H A mem run))
-    (known-new : Triple 𝓤 (𝓣 .C #session-step·new) (New 𝓤 H A mem run))
-    (known-next : Triple 𝓤 (𝓣 .C #session-step·next-step) (Next 𝓤 H A mem run))
-    (known-advance : Triple 𝓤 (𝓣 .C #session-step·advance) (Advance 𝓤 H A mem run))
+    (known-count : Triple 𝓤 (𝓣 .C #session·head·step-count) (Count 𝓤 H A mem run))
+    (known-address : Triple 𝓤 (𝓣 .C #session·head·window-address) (Address 𝓤 H A mem run))
+    (known-new : Triple 𝓤 (𝓣 .C #session·step·new) (New 𝓤 H A mem run))
+    (known-next : Triple 𝓤 (𝓣 .C #session·step·next-step) (Next 𝓤 H A mem run))
+    (known-advance : Triple 𝓤 (𝓣 .C #session·step·advance) (Advance 𝓤 H A mem run))
     (known-turn : Triple 𝓤 (𝓣 .C #session·run-turn) (RunTurn 𝓤 H A mem run)) where
   steps-walks : Walks 𝓤 H A steps.ended stayed (WpFn 𝓤 H (𝓣 .C) (𝓣 .Λ) code.function) (steps.clauses 𝓤 H A mem run)
   steps-walks = walked 𝓤 H A steps.ended stayed (steps.clauses 𝓤 H A mem run) (WpFn 𝓤 H (𝓣 .C) (𝓣 .Λ) code.function)
@@ -547,14 +547,14 @@ run-steps-spec 𝓤 H 𝓜 𝓖 𝓡 =
     entered 𝓤 H (tripleOf 𝓤 H (𝓖 .A) steps.signature (steps.spec 𝓤 H (𝓖 .A) (𝓜 .mem) (𝓡 .run)))
     (tables 𝓤 H 𝓜 𝓡 code.env .C) (tables 𝓤 H 𝓜 𝓡 code.env .Λ) #session·run-steps code.function (code.unfolded 𝓤 H 𝓜 𝓡)
     (steps-meets 𝓤 H (𝓖 .A) (givenOf 𝓤 H 𝓜 𝓖) (𝓜 .mem) (𝓡 .run) (tablesOf 𝓤 H 𝓜 (tables 𝓤 H 𝓜 𝓡 code.env))
-    (cited 𝓤 H (Count 𝓤 H (𝓖 .A) (𝓜 .mem) (𝓡 .run)) 𝓜 𝓡 code.env #session-head·step-count count-def.routine code.calls-session-head·step-count
+    (cited 𝓤 H (Count 𝓤 H (𝓖 .A) (𝓜 .mem) (𝓡 .run)) 𝓜 𝓡 code.env #session·head·step-count count-def.routine code.calls-session·head·step-count
     (count-thm.met 𝓤 H 𝓜 𝓖 𝓡))
-    (cited 𝓤 H (Address 𝓤 H (𝓖 .A) (𝓜 .mem) (𝓡 .run)) 𝓜 𝓡 code.env #session-head·window-address address-def.routine
-    code.calls-session-head·window-address (address-thm.met 𝓤 H 𝓜 𝓖 𝓡))
-    (cited 𝓤 H (New 𝓤 H (𝓖 .A) (𝓜 .mem) (𝓡 .run)) 𝓜 𝓡 code.env #session-step·new new-def.routine code.calls-session-step·new (new-thm.met 𝓤 H 𝓜 𝓖 𝓡))
-    (cited 𝓤 H (Next 𝓤 H (𝓖 .A) (𝓜 .mem) (𝓡 .run)) 𝓜 𝓡 code.env #session-step·next-step next-def.routine code.calls-session-step·next-step
+    (cited 𝓤 H (Address 𝓤 H (𝓖 .A) (𝓜 .mem) (𝓡 .run)) 𝓜 𝓡 code.env #session·head·window-address address-def.routine
+    code.calls-session·head·window-address (address-thm.met 𝓤 H 𝓜 𝓖 𝓡))
+    (cited 𝓤 H (New 𝓤 H (𝓖 .A) (𝓜 .mem) (𝓡 .run)) 𝓜 𝓡 code.env #session·step·new new-def.routine code.calls-session·step·new (new-thm.met 𝓤 H 𝓜 𝓖 𝓡))
+    (cited 𝓤 H (Next 𝓤 H (𝓖 .A) (𝓜 .mem) (𝓡 .run)) 𝓜 𝓡 code.env #session·step·next-step next-def.routine code.calls-session·step·next-step
     (next-thm.met 𝓤 H 𝓜 𝓖 𝓡))
-    (cited 𝓤 H (Advance 𝓤 H (𝓖 .A) (𝓜 .mem) (𝓡 .run)) 𝓜 𝓡 code.env #session-step·advance advance-def.routine code.calls-session-step·advance
+    (cited 𝓤 H (Advance 𝓤 H (𝓖 .A) (𝓜 .mem) (𝓡 .run)) 𝓜 𝓡 code.env #session·step·advance advance-def.routine code.calls-session·step·advance
     (advance-thm.met 𝓤 H 𝓜 𝓖 𝓡))
     (cited 𝓤 H (RunTurn 𝓤 H (𝓖 .A) (𝓜 .mem) (𝓡 .run)) 𝓜 𝓡 code.env #session·run-turn turn-def.routine code.calls-session·run-turn
     (turn-thm.met 𝓤 H 𝓜 𝓖 𝓡)))

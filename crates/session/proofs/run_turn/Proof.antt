@@ -1,4 +1,4 @@
-use Rattle.linker_calls.specs.Steps.{lent}
+use Rattle.linker.specs.Calls.Steps.{lent}
 use Rattle.session.proofs.Laws.{turned}
 use borrow.Author.Needs.{needs}
 use Rattle.session.proofs.run_turn.Statement.{statement}
@@ -6,7 +6,7 @@ use Rattle.session.proofs.run_turn.Tie as tie
 use Rattle.session.proofs.run_turn.Reads as reads
 use Rattle.session.proofs.run_turn.Lts as lts
 use Rattle.session.proofs.run_step.Reads as run-step-reads
-use Rattle.session_lines.proofs.put_step.Reads as put-step-reads
+use Rattle.session.proofs.lines.put_step.Reads as put-step-reads
 
 run-step-requires : tie.Need-run-step-requires
 run-step-requires c κs = search needs

@@ -3,7 +3,7 @@ use native.Mathlib.Omega.{arith}
 use borrow.Author.Tests.{not-true, not-false}
 use Rattle.text.specs.Text.{bytes}
 use Rattle.text.specs.Laws.{put-within}
-use Rattle.session_file.specs.Parts.{session-parts}
+use Rattle.session.specs.Parts.{session-parts}
 use Rattle.session.specs.Start.{zeroed}
 use Rattle.session.proofs.Whole.{text-bad, window-laid, text-good}
 use borrow.Author.Needs.{needs}
@@ -12,10 +12,10 @@ use Rattle.session.proofs.session_text.Tie as tie
 use Rattle.session.proofs.session_text.Reads as reads
 use Rattle.session.proofs.session_text.Lts as lts
 use Rattle.session.proofs.run_steps.Reads as run-steps-reads
-use Rattle.session_file.proofs.is_session.Reads as is-session-reads
-use Rattle.session_head.proofs.step_count.Reads as step-count-reads
-use Rattle.session_head.proofs.window_bytes.Reads as window-bytes-reads
-use Rattle.session_register.proofs.put_register.Reads as put-register-reads
+use Rattle.session.proofs.file.is_session.Reads as is-session-reads
+use Rattle.session.proofs.head.step_count.Reads as step-count-reads
+use Rattle.session.proofs.head.window_bytes.Reads as window-bytes-reads
+use Rattle.session.proofs.register_lines.put_register.Reads as put-register-reads
 use Rattle.text.proofs.put_decimal.Reads as put-decimal-reads
 use Rattle.text.proofs.put_text.Reads as put-text-reads
 

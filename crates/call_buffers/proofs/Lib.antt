@@ -1,2 +1,0 @@
--- What the proofs of `call_buffers` share.
-pub mod Laws

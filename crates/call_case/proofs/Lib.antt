@@ -1,2 +1,0 @@
--- What the proofs of `call_case` share.
-pub mod Laws

@@ -1,0 +1,2 @@
+-- What the proofs of `call_cases::buffers` share.
+pub mod Laws

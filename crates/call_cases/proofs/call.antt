@@ -1,0 +1,2 @@
+-- What the proofs of `call_cases::call` share.
+pub mod Laws

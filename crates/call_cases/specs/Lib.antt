@@ -1,0 +1,3 @@
+-- The definitions that the contracts of `call_cases` cite.
+pub mod Buffers
+pub mod Case

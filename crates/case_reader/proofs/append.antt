@@ -1,0 +1,2 @@
+-- What the proofs of `case_reader::append` share.
+pub mod Laws

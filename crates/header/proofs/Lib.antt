@@ -1,0 +1,2 @@
+-- What the proofs of `header` share.
+pub mod Words

@@ -1,3 +1,0 @@
--- What the proofs of `header_text` share.
-pub mod Laws
-pub mod Words

@@ -1,0 +1,2 @@
+-- What the proofs of `layout::relocation` share.
+pub mod Laws

@@ -1,2 +1,0 @@
--- What the proofs of `layout_relocation` share.
-pub mod Laws

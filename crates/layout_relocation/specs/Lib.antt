@@ -1,3 +1,0 @@
--- The definitions that the contracts of `layout_relocation` cite, and their laws.
-pub mod Relocation
-pub mod Cases

@@ -1,0 +1,99 @@
+-- The tests refuse, or the call over a trace of which nothing is said: `call-refused`, `call-answered`.
+use Rattle.window.specs.Access.{ret}
+use Rattle.linker_spec.specs.Outcome.{unloadOutcome}
+use Rattle.linker_spec.specs.Touches.{unloadTouches}
+use Rattle.linker_spec.specs.Calls as calls
+use Rattle.linker.specs.Calls.Steps.{lent}
+use Rattle.linker.specs.Calls.Laws.{tests-pass}
+use Rattle.linker.specs.Calls.Traced.{call-refused, call-answered}
+use borrow.Author.Needs.{needs}
+use Rattle.linker.proofs.calls.unload.Statement.{statement}
+use Rattle.linker.proofs.calls.unload.Tie as tie
+
+clear-requires : tie.Need-clear-requires
+clear-requires c κs = search needs
+
+tested-requires : tie.Need-tested-requires
+tested-requires c κs = search needs
+
+same-length : tie.Need-same-length
+same-length c = search needs
+
+same-length-2 : tie.Need-same-length-2
+same-length-2 c = search needs
+
+same-length-3 : tie.Need-same-length-3
+same-length-3 c = search needs
+
+same-length-4 : tie.Need-same-length-4
+same-length-4 c = search needs
+
+returns : tie.Need-returns
+unfolding unloadOutcome unloadTouches
+returns c =
+    let p1 = c .before in
+    let p6 = p1 .before .before .before .before .before in
+    let p14 = p6 .before .before .before .before .before .before .before .before in
+    let a = p14 .args in
+    let b = lent (a .window .now) (a .records .now) (a .names .now) (a .missing .now) in
+    call-refused (λ records names. calls.unload (a .base)) (ret tt) (a .at) b (p1 .tested .ensures) (c .if1 .taken) (p6 .clear .ensures)
+
+slice-aggregate-unload : tie.Need-slice-aggregate-unload
+slice-aggregate-unload c = search needs
+
+unload-requires : tie.Need-unload-requires
+unload-requires c κs =
+    let p6 = c .before .before .before .before .before .before in
+    let p7 = p6 .before in
+    tests-pass _ _ (p7 .tested .ensures) (p6 .if1 .left) .1
+
+slice-aggregate-tell : tie.Need-slice-aggregate-tell
+slice-aggregate-tell c = search needs
+
+tell-requires : tie.Need-tell-requires
+tell-requires c κs = search needs
+
+same-length-5 : tie.Need-same-length-5
+same-length-5 c = search needs
+
+same-length-6 : tie.Need-same-length-6
+same-length-6 c = search needs
+
+same-length-7 : tie.Need-same-length-7
+same-length-7 c = search needs
+
+same-length-8 : tie.Need-same-length-8
+same-length-8 c = search needs
+
+returns-2 : tie.Need-returns-2
+unfolding unloadOutcome unloadTouches
+returns-2 c =
+    let p13 = c .before .before .before .before .before .before .before .before .before .before .before .before .before in
+    let p20 = p13 .before .before .before .before .before .before .before in
+    let p21 = p20 .before in
+    let p34 = p21 .before .before .before .before .before .before .before .before .before .before .before .before .before in
+    let a = p34 .args in
+    let b = lent (a .window .now) (a .records .now) (a .names .now) (a .missing .now) in
+    call-answered (λ records names. calls.unload (a .base)) (ret tt) (a .at) b (p21 .tested .ensures) (p20 .if1 .left)
+    (p13 .unload .ensures) (c .tell .ensures)
+
+pub unload-spec : {M : Type 1} → statement M
+unload-spec =
+    tie.close
+    (tie.spec
+    clear-requires
+    tested-requires
+    same-length
+    same-length-2
+    same-length-3
+    same-length-4
+    returns
+    slice-aggregate-unload
+    unload-requires
+    slice-aggregate-tell
+    tell-requires
+    same-length-5
+    same-length-6
+    same-length-7
+    same-length-8
+    returns-2)

@@ -1,0 +1,2 @@
+-- The laws behind the proofs of `linker::entry`.
+pub mod Laws

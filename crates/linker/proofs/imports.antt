@@ -1,0 +1,4 @@
+-- The laws behind the proofs of `linker::imports`.
+pub mod Laws
+pub mod Missing
+pub mod Walks

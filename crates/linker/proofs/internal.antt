@@ -1,0 +1,2 @@
+-- What the proofs of `linker::internal` share.
+pub mod Laws

@@ -1,0 +1,75 @@
+-- From the code's calls and branches to the programs of internal relocations.
+use Prim.Native.Nat.{ℕ, _-_, _<_, _≤_}
+use mathlib.Core.Path.{_≡_, ap, _∙_}
+use native.Mathlib.Omega.{arith}
+use borrow.Author.Tests.{lt-ltb, le-ltb}
+use Rattle.window.specs.Memory.{_⊕_}
+use Rattle.window.specs.Access.{_>>=_, get8, get32}
+use Rattle.window.specs.Loop.{loop}
+use Rattle.window.specs.Trace.{S, runT}
+use Rattle.window.specs.TraceRuns.{gives, then-it}
+use Rattle.layout.specs.Header.{internalRelocationTableOffset, internalRelocationNum, relocationEntrySize}
+use Rattle.layout.specs.Format.{relocationType, tagSegment, tagOffset}
+use Rattle.layout.specs.Segments.{field, entryAt, segment}
+use Rattle.layout.specs.Relocation.Relocation.{applyRelocation}
+use Rattle.layout.specs.declared.format.RelocationType.{RelocationType}
+use Rattle.layout.specs.declared.format.Segment.{Segment}
+use Rattle.layout.specs.declared.segments.FoundSegment.{FoundSegment}
+use Rattle.layout.specs.declared.segments.FoundSegment.the-variants.{Found, Missing}
+use Rattle.linker_spec.specs.Relocation.{writePlace, relocateFrom, relocateInto, applyInternalRelocation, applyInternalRelocations}
+
+module _ (at base old entry : ℕ) (s : S) {tag y kind x symbol a addend n : ℕ} {into : FoundSegment} {s₁ s₂ s₃ s₄ s₅ : S}
+    (t : (tag, s₁) ≡ runT at (get32 entry) s) (p : y ≡ entry ⊕ 4) (c : (kind, s₂) ≡ runT at (get8 y) s₁) (q : x ≡ entry ⊕ 5)
+    (k : (symbol, s₃) ≡ runT at (get8 x) s₂) (b : a ≡ entry ⊕ 8) (d : (addend, s₄) ≡ runT at (get32 a) s₃) (e : n ≡ tagSegment tag)
+    (i : (into, s₅) ≡ runT at (segment base n) s₄) where
+  internal-is : {v : S} → v ≡ runT at (relocateInto base old into tag kind symbol addend) s₅ .1 → v ≡ runT at (applyInternalRelocation base old entry) s .1
+  unfolding applyInternalRelocation
+  internal-is h =
+      then-it at (get32 entry) s _ t
+      (then-it at (get8 (entry ⊕ 4)) s₁ _ (c ∙ ap (λ p. runT at (get8 p) s₁) p)
+      (then-it at (get8 (entry ⊕ 5)) s₂ _ (k ∙ ap (λ p. runT at (get8 p) s₂) q)
+      (then-it at (get32 (entry ⊕ 8)) s₃ _ (d ∙ ap (λ p. runT at (get32 p) s₃) b)
+      (then-it at (segment base (tagSegment tag)) s₄ (λ r. relocateInto base old r tag kind symbol addend) (i ∙ ap (λ n. runT at (segment base n) s₄) e) h))))
+
+  pub into-missing : into ≡ Missing → s₅ ≡ runT at (applyInternalRelocation base old entry) s .1
+  unfolding relocateInto runT
+  into-missing m = internal-is (rw (m, relocateInto, runT))
+
+  module _ (z : Segment) (f : into ≡ Found z) {offset : ℕ} (o : offset ≡ tagOffset tag) where
+    pub into-past : z .size ≤ offset → s₅ ≡ runT at (applyInternalRelocation base old entry) s .1
+    unfolding relocateInto runT
+    into-past l = internal-is (rw (f, relocateInto, ← o, le-ltb offset (z .size) l, runT))
+
+    module _ (l : offset < z .size) {from : FoundSegment} {s₆ : S} (j : (from, s₆) ≡ runT at (segment base symbol) s₅) where
+      from-is
+          : {v : S} → v ≡ runT at (relocateFrom from (writePlace (z .kind) old offset (z .offset ⊕ offset)) kind addend (z .offset ⊕ offset)) s₆ .1
+          → v ≡ runT at (applyInternalRelocation base old entry) s .1
+      unfolding relocateInto
+      from-is h =
+          internal-is (rw (f, relocateInto, ← o, lt-ltb offset (z .size) l)
+          (then-it at (segment base symbol) s₅
+          (λ from. relocateFrom from (writePlace (z .kind) old offset (z .offset ⊕ offset)) kind addend (z .offset ⊕ offset)) j h))
+
+      pub from-missing : from ≡ Missing → s₆ ≡ runT at (applyInternalRelocation base old entry) s .1
+      unfolding relocateFrom runT
+      from-missing m = from-is (rw (m, relocateFrom, runT))
+
+      pub from-found
+          : (g : Segment) {final target : ℕ} {r : RelocationType} {v : S} → from ≡ Found g → final ≡ z .offset ⊕ offset
+          → target ≡ writePlace (z .kind) old offset final → r ≡ relocationType kind
+          → v ≡ runT at (applyRelocation target r addend (g .offset) final) s₆ .1 → v ≡ runT at (applyInternalRelocation base old entry) s .1
+      unfolding relocateFrom
+      from-found g m ef et r u = from-is (rw (m, relocateFrom, ← ef, ← et, ← r) u)
+
+pub internal-starts
+    : (at base old : ℕ) (s : S) {table count : ℕ} {s₁ s₂ : S} → (table, s₁) ≡ runT at (field base internalRelocationTableOffset) s
+    → (count, s₂) ≡ runT at (field base internalRelocationNum) s₁
+    → runT at (loop (λ i _. applyInternalRelocation base old (entryAt table i relocationEntrySize)) 0 (count - 0) tt) s₂
+    ≡ runT at (applyInternalRelocations base old) s
+unfolding applyInternalRelocations
+internal-starts at base old s {table} {count} {s₁} t n =
+    let z : count - 0 ≡ count = omega arith in
+    rw z
+    (gives at (field base internalRelocationNum) s₁
+    (λ count. loop (λ i _. applyInternalRelocation base old (entryAt table i relocationEntrySize)) 0 count tt) n
+    ∙ gives at (field base internalRelocationTableOffset) s _ t)

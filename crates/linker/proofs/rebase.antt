@@ -1,0 +1,2 @@
+-- What the proofs of `linker::rebase` share.
+pub mod Laws

@@ -1,0 +1,2 @@
+-- What the proofs of `linker` share.
+pub mod Laws

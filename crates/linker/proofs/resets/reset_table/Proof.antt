@@ -1,0 +1,90 @@
+-- A counted loop over the table: `resets-start`, `step-made`, `steps-over`.
+use Prim.Native.Nat.{_-_, _≤_}
+use mathlib.Core.Path.{_≡_, refl, _∙_}
+use native.Mathlib.Omega.{arith}
+use lib.ListN.{length}
+use borrow.Author.Needs.{needs}
+use Rattle.window.specs.Trace.{runT}
+use Rattle.window.specs.Loop.{loop}
+use Rattle.layout.specs.Segments.{entryAt}
+use Rattle.layout.specs.Header.{importIndexedSymbolEntrySize}
+use Rattle.linker_spec.specs.Resets.{resetAt}
+use Rattle.window.specs.TraceRuns.{step-made, steps-over}
+use Rattle.linker.specs.Resets.Tables.{resetTable}
+use Rattle.linker.proofs.resets.Laws.{resets-start}
+use Rattle.linker.proofs.resets.reset_table.Statement.{statement}
+use Rattle.linker.proofs.resets.reset_table.Tie as tie
+
+abbrev Inv-loop : tie.InvT-loop
+Inv-loop at w₀ trace₀ base handler table count index₀ w trace index =
+    (index ≤ count)
+    × (length w ≡ length w₀)
+    × (runT at (loop (λ i _. resetAt base handler (entryAt table i importIndexedSymbolEntrySize)) index (count - index) tt) (w, trace)
+    ≡ runT at (resetTable base handler table count) (w₀, trace₀))
+    × (length trace ≡ length trace₀)
+
+abbrev μ-loop : tie.MeasureT-loop
+μ-loop at w₀ trace₀ base handler table count index₀ w trace index = count - index
+
+loop-holds : tie.Need-loop-holds Inv-loop μ-loop
+loop-holds c =
+    let p2 = c .before .before in
+    let a = p2 .args in
+    (omega arith, refl, resets-start (a .at) (a .base) (a .handler) (a .w .now, a .trace .now) (a .table) (a .count), refl)
+
+entry-address-requires : tie.Need-entry-address-requires Inv-loop μ-loop
+entry-address-requires c κs = search needs
+
+reset-at-requires : tie.Need-reset-at-requires Inv-loop μ-loop
+reset-at-requires c κs = search needs
+
+add-index : tie.Need-add-index Inv-loop μ-loop
+add-index c = omega arith
+
+loop-less : tie.Need-loop-less Inv-loop μ-loop
+loop-less c = omega arith
+
+loop-again : tie.Need-loop-again Inv-loop μ-loop
+loop-again c =
+    let p4 = c .before .before .before .before in
+    let p7 = p4 .before .before .before in
+    let p8 = p7 .before in
+    let p9 = p8 .before in
+    let p12 = p9 .before .before .before in
+    let a = p12 .args in (
+      omega arith,
+      p4 .reset-at .kept .1 .0 ∙ p9 .loop .inv .1,
+      step-made (a .at) (resetAt (a .base) (a .handler)) (λ i. entryAt (a .table) i importIndexedSymbolEntrySize) (p9 .loop .index)
+          (a .count) (p9 .loop .w, p9 .loop .trace) (p9 .loop .inv .2) (p8 .loop-test .taken) (p7 .entry-address .ensures) (p4 .reset-at .ensures),
+      p4 .reset-at .kept .1 .1 .0 ∙ p9 .loop .inv .3,
+    )
+
+same-length : tie.Need-same-length Inv-loop μ-loop
+same-length c = c .before .loop .inv .1
+
+same-length-2 : tie.Need-same-length-2 Inv-loop μ-loop
+same-length-2 c = c .before .loop .inv .3
+
+returns : tie.Need-returns Inv-loop μ-loop
+returns c =
+    let p1 = c .before in
+    let p4 = p1 .before .before .before in
+    let a = p4 .args in
+    steps-over (a .at) (resetAt (a .base) (a .handler)) (λ i. entryAt (a .table) i importIndexedSymbolEntrySize) (p1 .loop .index)
+    (a .count) (p1 .loop .w, p1 .loop .trace) (p1 .loop .inv .2) (c .loop-test .left)
+
+pub reset-table-spec : {M : Type 1} → statement M
+reset-table-spec =
+    tie.close
+    (tie.spec
+    Inv-loop
+    μ-loop
+    loop-holds
+    entry-address-requires
+    reset-at-requires
+    add-index
+    loop-less
+    loop-again
+    same-length
+    same-length-2
+    returns)

@@ -1,0 +1,2 @@
+-- The laws behind the proofs of `linker::sources`.
+pub mod Laws

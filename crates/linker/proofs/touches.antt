@@ -1,0 +1,2 @@
+-- What the proofs of `linker::touches` share.
+pub mod Laws

@@ -1,0 +1,2 @@
+-- What the proofs of `linker::unrebase` share.
+pub mod Laws

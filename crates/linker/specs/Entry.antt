@@ -1,0 +1,2 @@
+-- What the contracts of `linker::entry` cite.
+pub mod Entry

@@ -1,0 +1,241 @@
+// A module's exports, read from its image into a new record of the register. The image is only read; the record is written
+// step by step after the last one, and given up where it has no room.
+ghost use mathlib.Core.Path.{_≡_};
+ghost use mathlib.Core.Bool.{true};
+ghost use mathlib.Core.List.{List, []};
+ghost use Prim.Native.Nat.{ℕ, _+_};
+ghost use Rattle.window.specs.Access.{run};
+ghost use Rattle.layout.specs.Header.{exportNamedSymbolTableOffset, exportIndexedSymbolTableOffset};
+ghost use Rattle.register.specs.Decode.{isRegister, registerOf};
+ghost use Rattle.register.specs.Change.{appended};
+ghost use Rattle.register.specs.Read.Read.{Encoded};
+ghost use Rattle.linker_spec.specs.Exports.{namedExports, indexedExports, readSegments, readModule};
+ghost use Rattle.linker.specs.Record.Read.{headerWord, segmentsTo, namedTo, indexedTo};
+ghost use Rattle.linker.specs.Exports.Modules.{withSegments, withNamed, withIndexeds, Turns, Bare, Unindexed, Empty, Any};
+ghost use Rattle.linker.specs.Exports.Exported.{registerIn, entryAnswer, exported, registerWith};
+use crate::record::at_most_16;
+use crate::record::begin;
+use crate::record::indexed_address;
+use crate::record::kept;
+use crate::record::put_named;
+use crate::record::segment_offset;
+use layout::fields::entry_address;
+use layout::format::EXPORT_INDEXED_SYMBOL_ENTRY_SIZE;
+use layout::format::EXPORT_NAMED_SYMBOL_ENTRY_SIZE;
+use layout::format::SegmentTag;
+use layout::header;
+use layout::peek;
+use layout::segments::Address;
+use register::append::draft;
+use register::append::draft::Draft;
+use register::append::draft::Drafted;
+
+// Whether the module has its record.
+pub enum Indexed {
+    Appended,
+    NoRoom,
+}
+
+// Adds segment i.
+fn add_segment(
+    at: u32,
+    w: &[u8],
+    base: u32,
+    i: u32,
+    records: &mut [u8],
+    names: &mut [u8],
+    before: Draft,
+) -> Drafted
+    ensures { λ r. ⌜ Turns Bare (λ m. withSegments m (segmentsTo at (now (w .entry)) base i))
+        (λ m. withSegments m (segmentsTo at (now (w .entry)) base (i + 1)))
+        before (now (records .entry)) (now (names .entry)) r (now (records .exit)) (now (names .exit)) ⌝ }
+{
+    let address = segment_offset(at, w, base, i);
+    let after = draft::push_segment(records, before, address);
+    kept(records, names, before, after)
+}
+
+// Adds the segments.
+fn add_segments(
+    at: u32,
+    w: &[u8],
+    base: u32,
+    records: &mut [u8],
+    names: &mut [u8],
+    before: Draft,
+) -> Drafted
+    ensures { λ r. ⌜ Turns Bare (λ m. withSegments m []) (λ m. withSegments m (run at (readSegments base) (now (w .entry)) .0))
+        before (now (records .entry)) (now (names .entry)) r (now (records .exit)) (now (names .exit)) ⌝ }
+{
+    let count = at_most_16(peek::field(at, w, base, header::SEGMENT_NUM));
+    let mut last = before;
+    let mut i: u32 = 0;
+    while i < count {
+        match add_segment(at, w, base, i, records, names, last) {
+            Drafted::Full => {
+                return Drafted::Full;
+            }
+            Drafted::Open(next) => {
+                last = next;
+            }
+        }
+        i += 1;
+    }
+    Drafted::Open(last)
+}
+
+// Adds the indexed export of entry i.
+fn add_indexed(
+    at: u32,
+    w: &[u8],
+    base: u32,
+    table: u32,
+    i: u32,
+    records: &mut [u8],
+    names: &mut [u8],
+    before: Draft,
+) -> Drafted
+    ensures { λ r. ⌜ (table ≡ headerWord at (now (w .entry)) base exportIndexedSymbolTableOffset
+        → Turns Any (λ m. withIndexeds m (indexedTo at (now (w .entry)) base i)) (λ m. withIndexeds m (indexedTo at (now (w .entry)) base (i + 1)))
+        before (now (records .entry)) (now (names .entry)) r (now (records .exit)) (now (names .exit))) ⌝ }
+{
+    let entry = entry_address(table, i, EXPORT_INDEXED_SYMBOL_ENTRY_SIZE);
+    let address = indexed_address(at, w, base, entry);
+    let after = draft::push_indexed(records, before, address);
+    kept(records, names, before, after)
+}
+
+// Adds the indexed exports.
+fn add_all_indexed(
+    at: u32,
+    w: &[u8],
+    base: u32,
+    records: &mut [u8],
+    names: &mut [u8],
+    before: Draft,
+) -> Drafted
+    ensures { λ r. ⌜ Turns Any (λ m. withIndexeds m []) (λ m. withIndexeds m (run at (indexedExports base) (now (w .entry)) .0))
+        before (now (records .entry)) (now (names .entry)) r (now (records .exit)) (now (names .exit)) ⌝ }
+{
+    let table = peek::field(at, w, base, header::EXPORT_INDEXED_SYMBOL_TABLE_OFFSET);
+    let count = peek::field(at, w, base, header::EXPORT_INDEXED_SYMBOL_NUM);
+    let mut last = before;
+    let mut i: u32 = 0;
+    while i < count {
+        match add_indexed(at, w, base, table, i, records, names, last) {
+            Drafted::Full => {
+                return Drafted::Full;
+            }
+            Drafted::Open(next) => {
+                last = next;
+            }
+        }
+        i += 1;
+    }
+    Drafted::Open(last)
+}
+
+// Adds the named export of entry i, if its tag gives an address.
+fn add_named(
+    at: u32,
+    w: &[u8],
+    base: u32,
+    table: u32,
+    i: u32,
+    records: &mut [u8],
+    names: &mut [u8],
+    before: Draft,
+) -> Drafted
+    ensures { λ r. ⌜ (table ≡ headerWord at (now (w .entry)) base exportNamedSymbolTableOffset
+        → Turns Unindexed (λ m. withNamed m (namedTo at (now (w .entry)) base i)) (λ m. withNamed m (namedTo at (now (w .entry)) base (i + 1)))
+        before (now (records .entry)) (now (names .entry)) r (now (records .exit)) (now (names .exit))) ⌝ }
+{
+    let entry = entry_address(table, i, EXPORT_NAMED_SYMBOL_ENTRY_SIZE);
+    let place = peek::word(at, w, entry);
+    let tag = SegmentTag(peek::word(at, w, std::num::wrapping_add_u32(entry, 4)));
+    match peek::tag_to_address(at, w, base, tag) {
+        Address::Nowhere => Drafted::Open(before),
+        Address::At(address) => put_named(at, w, place, address, records, names, before),
+    }
+}
+
+// Adds the named exports.
+fn add_all_named(
+    at: u32,
+    w: &[u8],
+    base: u32,
+    records: &mut [u8],
+    names: &mut [u8],
+    before: Draft,
+) -> Drafted
+    ensures { λ r. ⌜ Turns Unindexed (λ m. withNamed m []) (λ m. withNamed m (run at (namedExports base) (now (w .entry)) .0))
+        before (now (records .entry)) (now (names .entry)) r (now (records .exit)) (now (names .exit)) ⌝ }
+{
+    let table = peek::field(at, w, base, header::EXPORT_NAMED_SYMBOL_TABLE_OFFSET);
+    let count = peek::field(at, w, base, header::EXPORT_NAMED_SYMBOL_NUM);
+    let mut last = before;
+    let mut i: u32 = 0;
+    while i < count {
+        match add_named(at, w, base, table, i, records, names, last) {
+            Drafted::Full => {
+                return Drafted::Full;
+            }
+            Drafted::Open(next) => {
+                last = next;
+            }
+        }
+        i += 1;
+    }
+    Drafted::Open(last)
+}
+
+// Adds segments, named and indexed exports to a record that has its name.
+fn add_lists(
+    at: u32,
+    w: &[u8],
+    base: u32,
+    records: &mut [u8],
+    names: &mut [u8],
+    before: Draft,
+) -> Drafted
+    ensures { λ r. ⌜ Turns Empty (λ m. m) (λ m. withIndexeds (withNamed (withSegments m (run at (readSegments base) (now (w .entry)) .0))
+        (run at (namedExports base) (now (w .entry)) .0)) (run at (indexedExports base) (now (w .entry)) .0))
+        before (now (records .entry)) (now (names .entry)) r (now (records .exit)) (now (names .exit)) ⌝ }
+{
+    let Drafted::Open(first) = add_segments(at, w, base, records, names, before) else {
+        return Drafted::Full;
+    };
+    let Drafted::Open(second) = add_all_named(at, w, base, records, names, first) else {
+        return Drafted::Full;
+    };
+    add_all_indexed(at, w, base, records, names, second)
+}
+
+// Reads the module at base into a new record of a register that records and names encode.
+pub fn index_exports(
+    at: u32,
+    w: &[u8],
+    records: &mut [u8],
+    names: &mut [u8],
+    base: u32,
+    size: u32,
+    auto_link: bool,
+) -> Indexed
+    requires { ⌜ Encoded (now records) (now names) ⌝ }
+    ensures { λ r. ⌜ (let old = registerIn (now (records .entry)) (now (names .entry)) in
+        let m = run at (readModule base size «auto_link») (now (w .entry)) .0 in
+        ((entryAnswer (appended old m) r, now (records .exit), now (names .exit)) ≡ exported (now (records .entry)) (now (names .entry)) m)
+        × ((missing : List ℕ) → isRegister (now (records .entry)) (now (names .entry)) missing ≡ true
+        → (isRegister (now (records .exit)) (now (names .exit)) missing ≡ true)
+        × (registerOf (now (records .exit)) (now (names .exit)) missing
+        ≡ registerWith (now (records .entry)) (now (names .entry)) (registerOf (now (records .entry)) (now (names .entry)) missing) m))) ⌝ }
+{
+    let Drafted::Open(first) = begin(at, w, base, size, auto_link, records, names) else {
+        return Indexed::NoRoom;
+    };
+    let Drafted::Open(last) = add_lists(at, w, base, records, names, first) else {
+        return Indexed::NoRoom;
+    };
+    draft::finish_record(records, last);
+    Indexed::Appended
+}

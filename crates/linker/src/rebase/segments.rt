@@ -1,0 +1,133 @@
+// The segments of a load: code and read-only data stay in the module's image, Data and Bss get places of their own.
+ghost use mathlib.Core.Path.{_≡_};
+ghost use Rattle.window.specs.Trace.{runT};
+ghost use Rattle.linker_spec.specs.declared.rebase.Moved.the-variants.{OldPlace};
+ghost use Rattle.linker_spec.specs.Rebase.{at-offset, lentPlace, movedPlace, place, writeBack, moveSegment, moveSegments, lookAtSegments};
+use layout::fields::field;
+use layout::format::Segment;
+use layout::format::SegmentType;
+use layout::header::SEGMENT_NUM;
+use layout::segments::FoundSegment;
+use layout::segments::segment;
+use layout::segments::set_segment;
+use linker_spec::rebase::Lent;
+use linker_spec::rebase::Moved;
+use linker_spec::rebase::Placed;
+
+// The segment at another offset.
+pub fn at_offset(s: Segment, offset: u32) -> Segment
+    ensures { λ r. ⌜ r ≡ at-offset s offset ⌝ }
+{
+    let kind = s.kind;
+    Segment {
+        offset,
+        size: s.size,
+        kind,
+    }
+}
+
+// Data or Bss in the room lent for it, if that suffices.
+fn lent_place(s: Segment, address: u32, size: u32, old: u32) -> Placed
+    ensures { λ r. ⌜ r ≡ lentPlace s address size old ⌝ }
+{
+    if s.size > size {
+        return Placed::Refused;
+    }
+    Placed::Put(at_offset(s, address), old)
+}
+
+// A segment that stays in the image, unless it would start past the end of it.
+fn moved_place(lent: Lent, s: Segment, old: u32) -> Placed
+    ensures { λ r. ⌜ r ≡ movedPlace lent s old ⌝ }
+{
+    if s.offset == 0 {
+        return Placed::Put(s, old);
+    }
+    let offset = std::num::wrapping_add_u32(s.offset, lent.base);
+    if offset > std::num::wrapping_add_u32(lent.base, lent.size) {
+        return Placed::Refused;
+    }
+    Placed::Put(at_offset(s, offset), old)
+}
+
+// Where a load puts a segment; `old` is Data's old place so far.
+fn place(lent: Lent, s: Segment, old: u32) -> Placed
+    ensures { λ r. ⌜ r ≡ place lent s (s .kind) old ⌝ }
+{
+    let kind = s.kind;
+    match kind {
+        SegmentType::Code => moved_place(lent, s, old),
+        SegmentType::RoData => moved_place(lent, s, old),
+        SegmentType::Data => {
+            if s.size == 0 {
+                return moved_place(lent, s, old);
+            }
+            let from = std::num::wrapping_add_u32(s.offset, lent.base);
+            lent_place(s, lent.data_at, lent.data_size, from)
+        }
+        SegmentType::Bss => {
+            if s.size == 0 {
+                return moved_place(lent, s, old);
+            }
+            lent_place(s, lent.bss_at, lent.bss_size, old)
+        }
+    }
+}
+
+// Writes a segment that got its place.
+fn write_back(
+    at: u32,
+    w: &mut [u8],
+    trace: &mut [u8],
+    base: u32,
+    index: u32,
+    placed: Placed,
+) -> Moved
+    ensures { λ r. ⌜ (r, (now (w .exit), now (trace .exit))) ≡ runT at (writeBack base index placed) (now (w .entry), now (trace .entry)) ⌝ }
+{
+    let Placed::Put(s, old) = placed else {
+        return Moved::Bad;
+    };
+    set_segment(at, w, trace, base, index, s);
+    Moved::OldPlace(old)
+}
+
+// Moves one segment; a lookup that finds none passes it over.
+fn move_segment(at: u32, w: &mut [u8], trace: &mut [u8], lent: Lent, index: u32, old: u32) -> Moved
+    ensures { λ r. ⌜ (r, (now (w .exit), now (trace .exit))) ≡ runT at (moveSegment lent index (OldPlace old)) (now (w .entry), now (trace .entry)) ⌝ }
+{
+    let base = lent.base;
+    let FoundSegment::Found(s) = segment(at, w, trace, base, index) else {
+        return Moved::OldPlace(old);
+    };
+    write_back(at, w, trace, base, index, place(lent, s, old))
+}
+
+// Moves the segments in order, up to the first that is refused.
+pub fn move_segments(at: u32, w: &mut [u8], trace: &mut [u8], lent: Lent) -> Moved
+    ensures { λ r. ⌜ (r, (now (w .exit), now (trace .exit))) ≡ runT at (moveSegments lent) (now (w .entry), now (trace .entry)) ⌝ }
+{
+    let base = lent.base;
+    let count = field(at, w, trace, base, SEGMENT_NUM);
+    let mut old: u32 = 0;
+    for index in 0..count {
+        let Moved::OldPlace(next) = move_segment(at, w, trace, lent, index, old) else {
+            return Moved::Bad;
+        };
+        old = next;
+    }
+    Moved::OldPlace(old)
+}
+
+// Looks every segment up and changes none. Once a touch is kept the lookups left cannot add one, however many a false count asks for.
+pub fn look_at_segments(at: u32, w: &[u8], trace: &mut [u8], base: u32)
+    ensures { λ _. ⌜ (now (w .entry), now (trace .exit)) ≡ runT at (lookAtSegments base) (now (w .entry), now (trace .entry)) .1 ⌝ }
+{
+    let count = field(at, w, trace, base, SEGMENT_NUM);
+    for i in 0..count {
+        if window::said(trace) {
+            return;
+        }
+        segment(at, w, trace, base, i);
+    }
+}

@@ -1,2 +1,0 @@
--- The laws behind the proofs of `linker_entry`.
-pub mod Laws

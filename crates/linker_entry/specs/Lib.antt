@@ -1,2 +1,0 @@
--- What the contracts of `linker_entry` cite.
-pub mod Entry

@@ -1,3 +1,0 @@
--- What the proofs of `linker_header` share.
-pub mod ListLaws
-pub mod FixLaws

@@ -1,4 +1,0 @@
--- The laws behind the proofs of `linker_imports`.
-pub mod Laws
-pub mod Missing
-pub mod Walks

@@ -1,3 +1,0 @@
-// Imports: what a new module takes, and what it serves to the others. The port of that part of cro/mod.rs.
-pub mod others;
-pub mod own;

@@ -1,2 +1,0 @@
--- What the proofs of `linker_internal` share.
-pub mod Laws

@@ -1,2 +1,0 @@
--- What the proofs of `linker_rebase` share.
-pub mod Laws

@@ -1,2 +1,0 @@
--- What the proofs of `linker_relocation` share.
-pub mod Laws

@@ -1,2 +1,0 @@
--- The definitions that only helpers of `linker_relocation` cite.
-pub mod Entry

@@ -1,2 +1,0 @@
-// External relocations of a module: the port of that part of cro/mod.rs.
-pub mod relocation;

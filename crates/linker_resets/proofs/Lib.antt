@@ -1,3 +1,0 @@
--- The laws behind the proofs of `linker_resets`.
-pub mod Laws
-pub mod Walks

@@ -1,3 +1,0 @@
--- What the contracts of `linker_resets` cite.
-pub mod Modules
-pub mod Tables

@@ -1,4 +1,0 @@
--- What the contracts of `linker_sources` cite, and laws that its proofs and those above it share.
-pub mod Source
-pub mod Laws
-pub mod Walks

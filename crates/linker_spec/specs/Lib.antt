@@ -1,0 +1,24 @@
+-- The steps of cro/mod.rs as programs of accesses, in the order of its reads and writes, a file a step.
+pub mod Rebase
+pub mod Relocation
+pub mod Exports
+pub mod Imports
+pub mod Resets
+pub mod Lists
+pub mod Fix
+pub mod Unrebase
+pub mod Calls
+pub mod Shape
+pub mod OtherList
+pub mod Outcome
+pub mod Touches
+pub mod Refusals
+pub mod Gives
+pub mod Answers
+pub mod Room
+pub mod Removed
+pub mod Reads
+pub mod Valid
+pub mod Fit
+pub mod Numbers
+pub mod Cases

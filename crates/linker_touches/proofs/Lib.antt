@@ -1,2 +1,0 @@
--- What the proofs of `linker_touches` share.
-pub mod Laws

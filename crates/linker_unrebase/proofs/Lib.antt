@@ -1,2 +1,0 @@
--- What the proofs of `linker_unrebase` share.
-pub mod Laws

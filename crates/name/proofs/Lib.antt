@@ -1,2 +1,0 @@
--- What the proofs of `name` share.
-pub mod Laws

@@ -1,0 +1,2 @@
+-- What the proofs of `register::append` share.
+pub mod Laws

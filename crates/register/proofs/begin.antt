@@ -1,0 +1,2 @@
+-- What the proofs of `register::begin` share.
+mod Laws

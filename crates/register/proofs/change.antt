@@ -1,0 +1,2 @@
+-- What the proofs of `register::change` share.
+pub mod Laws

@@ -1,0 +1,3 @@
+-- What the proofs of `register::read` share.
+pub mod Laws
+pub mod Searches

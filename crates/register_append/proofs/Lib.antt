@@ -1,2 +1,0 @@
--- What the proofs of `register_append` share.
-pub mod Laws

@@ -1,2 +1,0 @@
--- What the proofs of `register_begin` share.
-mod Laws

@@ -1,2 +1,0 @@
--- What the proofs of `register_change` share.
-pub mod Laws

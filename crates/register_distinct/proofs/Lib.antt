@@ -1,2 +1,0 @@
--- What the proofs of `register_distinct` share.
-mod Laws

@@ -1,2 +1,0 @@
--- What the proofs of `register_header` share.
-mod Laws

@@ -1,3 +1,0 @@
--- What the proofs of `register_records` share.
-mod Laws
-mod Loops

@@ -1,0 +1,2 @@
+-- What the proofs of `register_test::distinct` share.
+mod Laws

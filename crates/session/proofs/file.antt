@@ -1,0 +1,2 @@
+-- What the proofs of `session::file` share.
+pub mod Laws

@@ -1,0 +1,2 @@
+-- What the proofs of `session::head` share.
+pub mod Laws

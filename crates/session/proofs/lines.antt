@@ -1,0 +1,2 @@
+-- What the proofs of `session::lines` share.
+pub mod Laws

@@ -1,0 +1,2 @@
+-- What the proofs of `session::register_lines` share.
+pub mod Laws

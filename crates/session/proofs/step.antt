@@ -1,0 +1,3 @@
+-- What the proofs of `session::step` share.
+pub mod Laws
+pub mod Reading

@@ -1,0 +1,3 @@
+-- The definitions that the contracts of `session::register_lines` cite.
+pub mod Lines
+pub mod Examples

@@ -1,0 +1,82 @@
+// A call of a session: any of the three exported calls, by value, with demand 3 in its contract.
+ghost use mathlib.Core.Path.{_≡_};
+ghost use Rattle.linker_spec.specs.Touches.{touchesOf};
+ghost use Rattle.linker.specs.Calls.Steps.{lent, left};
+ghost use Rattle.session.specs.Continues.{turn, Continues};
+use linker::calls::initialize;
+use linker::calls::load;
+use linker::calls::unload;
+use linker_spec::call::Call;
+
+// What a call answered.
+pub struct Answered {
+    pub number: u32,
+    pub value: u32,
+}
+
+// Makes the call. Its outcome is document 01's; a session with it added is one again, so under demand 3's premises every import then
+// holds its address, and no byte differs from another session that ends alike.
+pub fn make_call(
+    call: Call,
+    at: u32,
+    window: &mut [u8],
+    records: &mut [u8],
+    names: &mut [u8],
+    missing: &mut [u8],
+    touched: &mut u32,
+    first: &mut u32,
+) -> Answered
+    ensures { λ r. ⌜ Continues (turn call at
+        (lent (now (window .entry)) (now (records .entry)) (now (names .entry)) (now (missing .entry)))
+        (left (r .number) (r .value) (lent (now (window .exit)) (now (records .exit)) (now (names .exit)) (now (missing .exit))))) ⌝ }
+    ensures touches { λ _. ⌜ (now (touched .exit), now (first .exit))
+        ≡ touchesOf call at (lent (now (window .entry)) (now (records .entry)) (now (names .entry)) (now (missing .entry))) ⌝ }
+{
+    let mut value: u32 = 0;
+    let number = match call {
+        Call::Initialize(base, size) => {
+            initialize(
+                at,
+                window,
+                records,
+                names,
+                missing,
+                base,
+                size,
+                &mut value,
+                touched,
+                first,
+            )
+        }
+        Call::Load(l, auto_link, level) => load(
+            at,
+            window,
+            records,
+            names,
+            missing,
+            l.base,
+            l.size,
+            l.data_at,
+            l.data_size,
+            l.bss_at,
+            l.bss_size,
+            auto_link,
+            level,
+            &mut value,
+            touched,
+            first,
+        ),
+        Call::Unload(base) => unload(
+            at,
+            window,
+            records,
+            names,
+            missing,
+            base,
+            &mut value,
+            touched,
+            first,
+        ),
+    };
+    Answered { number, value }
+}

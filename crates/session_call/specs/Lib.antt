@@ -1,2 +1,0 @@
--- What the contract of `make_call` cites.
-pub mod Continues

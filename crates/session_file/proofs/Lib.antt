@@ -1,2 +1,0 @@
--- What the proofs of `session_file` share.
-pub mod Laws

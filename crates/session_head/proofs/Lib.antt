@@ -1,2 +1,0 @@
--- What the proofs of `session_head` share.
-pub mod Laws

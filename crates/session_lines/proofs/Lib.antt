@@ -1,2 +1,0 @@
--- What the proofs of `session_lines` share.
-pub mod Laws

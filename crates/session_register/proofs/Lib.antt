@@ -1,2 +1,0 @@
--- What the proofs of `session_register` share.
-pub mod Laws

@@ -1,3 +1,0 @@
--- What the proofs of `session_step` share.
-pub mod Laws
-pub mod Reading

@@ -1,0 +1,2 @@
+-- What the proofs of `window::name` share.
+pub mod Laws
