@@ -55,7 +55,7 @@ uint32_t initialize(uint32_t at,
 
 /* Loads the module at `base`, `size` bytes long, its data and bss segments at the addresses given, with their sizes.
  * auto_link: 0, or anything else for a module whose named exports others may use.
- * level: 1, 2 or 3 drops the tables that the level says; any other level drops none.
+ * fix_level: 1, 2 or 3 drops the tables that the level says; any other level drops none.
  * *value becomes the bytes of the module that are left after fixing, 0 where the level drops nothing. */
 uint32_t load(uint32_t at,
               uint8_t *window, size_t window_length,
@@ -63,9 +63,9 @@ uint32_t load(uint32_t at,
               uint8_t *names, size_t names_length,
               uint8_t *missing, size_t missing_length,
               uint32_t base, uint32_t size,
-              uint32_t data_at, uint32_t data_size,
-              uint32_t bss_at, uint32_t bss_size,
-              uint32_t auto_link, uint32_t level,
+              uint32_t data_segment, uint32_t data_segment_size,
+              uint32_t bss_segment, uint32_t bss_segment_size,
+              uint32_t auto_link, uint32_t fix_level,
               uint32_t *value, uint32_t *touched, uint32_t *first);
 
 /* Unloads the first module whose record has `base`: the batches of auto-linked modules that it served go back to their

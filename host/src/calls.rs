@@ -31,12 +31,12 @@ mod library {
             missing_length: usize,
             base: u32,
             size: u32,
-            data_at: u32,
-            data_size: u32,
-            bss_at: u32,
-            bss_size: u32,
+            data_segment: u32,
+            data_segment_size: u32,
+            bss_segment: u32,
+            bss_segment_size: u32,
             auto_link: u32,
-            level: u32,
+            fix_level: u32,
             value: *mut u32,
             touched: *mut u32,
             first: *mut u32,
@@ -128,14 +128,14 @@ pub fn load(
     lent: Lent,
     base: u32,
     size: u32,
-    data_at: u32,
-    data_size: u32,
-    bss_at: u32,
-    bss_size: u32,
+    data_segment: u32,
+    data_segment_size: u32,
+    bss_segment: u32,
+    bss_segment_size: u32,
     auto_link: u32,
-    level: u32,
+    fix_level: u32,
 ) -> Answer {
-    call!(load, lent, base, size, data_at, data_size, bss_at, bss_size, auto_link, level)
+    call!(load, lent, base, size, data_segment, data_segment_size, bss_segment, bss_segment_size, auto_link, fix_level)
 }
 
 pub fn unload(lent: Lent, base: u32) -> Answer {

@@ -1,8 +1,8 @@
 // The buffers of a stored call: laid out before it, and compared after it. The program call_cases says how a case is stored.
 ghost use mathlib.Core.Path.{_≡_};
-ghost use Rattle.linker.specs.Calls.Steps.{lent};
+ghost use Rattle.linker.specs.Calls.Steps.{buffers};
 ghost use Rattle.call_cases.specs.Buffers.{laid, compared};
-use case_reader::append::Next;
+use case_reader::append::NextPlace;
 use case_reader::put_pieces;
 use register::exports::same_name;
 use register::words::word;
@@ -21,20 +21,20 @@ pub enum Verdict {
 }
 
 // Lays the pieces at `at` that stand before the call over both buffers, and those that it must change over `after`.
-pub fn lay(before: &mut [u8], after: &mut [u8], file: &[u8], at: usize) -> Next
+pub fn lay(before: &mut [u8], after: &mut [u8], file: &[u8], at: usize) -> NextPlace
     ensures { λ r. ⌜ (r, now (before .exit), now (after .exit))
         ≡ laid (now (file .entry)) at (now (before .entry)) (now (after .entry)) ⌝ }
 {
     if file.len() / 4 < at {
-        return Next::Full;
+        return NextPlace::Full;
     }
     let standing = word(file, at);
     let changed = word(file, at + 1);
-    let Next::At(next) = put_pieces(before, file, at + 2, standing) else {
-        return Next::Full;
+    let NextPlace::At(next) = put_pieces(before, file, at + 2, standing) else {
+        return NextPlace::Full;
     };
-    let Next::At(_) = put_pieces(after, file, at + 2, standing) else {
-        return Next::Full;
+    let NextPlace::At(_) = put_pieces(after, file, at + 2, standing) else {
+        return NextPlace::Full;
     };
     put_pieces(after, file, next, changed)
 }
@@ -50,8 +50,8 @@ pub fn compare(
     missing: &[u8],
     missing_after: &[u8],
 ) -> Verdict
-    ensures { λ r. ⌜ r ≡ compared (lent (now (window .entry)) (now (records .entry)) (now (names .entry)) (now (missing .entry)))
-        (lent (now («window_after» .entry)) (now («records_after» .entry)) (now («names_after» .entry)) (now («missing_after» .entry))) ⌝ }
+    ensures { λ r. ⌜ r ≡ compared (buffers (now (window .entry)) (now (records .entry)) (now (names .entry)) (now (missing .entry)))
+        (buffers (now («window_after» .entry)) (now («records_after» .entry)) (now («names_after» .entry)) (now («missing_after» .entry))) ⌝ }
 {
     if !same_name(window, window_after) {
         return Verdict::Window;

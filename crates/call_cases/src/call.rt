@@ -3,7 +3,7 @@ ghost use mathlib.Core.Path.{_≡_};
 ghost use Prim.Native.Nat.{_/_, _≤_};
 ghost use lib.ListN.{length};
 ghost use Rattle.register.specs.Words.{wordsIn};
-ghost use Rattle.linker.specs.Calls.Steps.{lent, left};
+ghost use Rattle.linker.specs.Calls.Steps.{buffers, outcome};
 ghost use Rattle.call_cases.specs.Case.{called, touchedBy};
 use linker::calls::initialize;
 use linker::calls::load;
@@ -23,12 +23,12 @@ pub fn call(
     first: &mut u32,
 ) -> u32
     requires { ⌜ at ≤ length (now file) / 4 ⌝ }
-    ensures { λ r. ⌜ left r (now (value .exit)) (lent (now (window .exit)) (now (records .exit)) (now (names .exit)) (now (missing .exit)))
+    ensures { λ r. ⌜ outcome r (now (value .exit)) (buffers (now (window .exit)) (now (records .exit)) (now (names .exit)) (now (missing .exit)))
         ≡ called (wordsIn (now (file .entry))) at
-        (lent (now (window .entry)) (now (records .entry)) (now (names .entry)) (now (missing .entry))) ⌝ }
+        (buffers (now (window .entry)) (now (records .entry)) (now (names .entry)) (now (missing .entry))) ⌝ }
     ensures touches { λ _. ⌜ (now (touched .exit), now (first .exit))
         ≡ touchedBy (wordsIn (now (file .entry))) at
-        (lent (now (window .entry)) (now (records .entry)) (now (names .entry)) (now (missing .entry))) ⌝ }
+        (buffers (now (window .entry)) (now (records .entry)) (now (names .entry)) (now (missing .entry))) ⌝ }
 {
     let from = word(file, at + 2);
     let base = word(file, at + 7);

@@ -13,7 +13,7 @@ use crate::buffers::Verdict;
 use crate::buffers::compare;
 use crate::buffers::lay;
 use crate::call::call;
-use case_reader::append::Next;
+use case_reader::append::NextPlace;
 use register::words::word;
 
 fn main() {
@@ -63,16 +63,16 @@ fn run_case(file: &[u8], at: usize) -> Verdict
     let mut records_after = [0u8; 8192];
     let mut names_after = [0u8; 8192];
     let mut missing_after = [0u8; 32900];
-    let Next::At(a) = lay(&mut window, &mut window_after, file, at + 19) else {
+    let NextPlace::At(a) = lay(&mut window, &mut window_after, file, at + 19) else {
         return Verdict::Unreadable;
     };
-    let Next::At(b) = lay(&mut records, &mut records_after, file, a) else {
+    let NextPlace::At(b) = lay(&mut records, &mut records_after, file, a) else {
         return Verdict::Unreadable;
     };
-    let Next::At(c) = lay(&mut names, &mut names_after, file, b) else {
+    let NextPlace::At(c) = lay(&mut names, &mut names_after, file, b) else {
         return Verdict::Unreadable;
     };
-    let Next::At(_) = lay(&mut missing, &mut missing_after, file, c) else {
+    let NextPlace::At(_) = lay(&mut missing, &mut missing_after, file, c) else {
         return Verdict::Unreadable;
     };
     judge(

@@ -1,15 +1,13 @@
 -- Pieces of a stored buffer: what they leave in it, and the place after them.
-use Prim.Native.Nat.{ℕ, zero, suc, _+_, _*_, _/_, _<_, _≤_}
-use mathlib.Core.Path.{_≡_, refl}
+use Prim.Native.Nat.{ℕ, zero, suc, _+_, _*_, _/_}
 use mathlib.Core.List.{List}
 use lib.ListN.{length, getD}
 use lib.Dec.{leb}
-use borrow.Author.Tests.{le-leb, lt-leb}
 use Rattle.window.specs.Memory.{if_then_else_}
 use Rattle.register.specs.Words.{wordsIn, part}
 use Rattle.case_reader.specs.Append.{appended}
-use Rattle.case_reader.specs.declared.append.Next.{Next}
-use Rattle.case_reader.specs.declared.append.Next.the-variants.{At, Full}
+use Rattle.case_reader.specs.declared.append.NextPlace.{NextPlace}
+use Rattle.case_reader.specs.declared.append.NextPlace.the-variants.{At, Full}
 
 -- the bytes of the piece at a place, as its second word says, and the words that it takes
 unfoldable pub pieceLength : List ℕ → ℕ → ℕ
@@ -19,11 +17,11 @@ unfoldable pub pieceSize : ℕ → ℕ
 pieceSize n = 2 + (n + 3) / 4
 
 -- the place after a piece that was laid
-unfoldable pub placed : ℕ → Next × List ℕ → Next × List ℕ
+unfoldable pub placed : ℕ → NextPlace × List ℕ → NextPlace × List ℕ
 placed e (At i, b) = (At e, b)
 placed e (Full, b) = (Full, b)
 
-unfoldable pub piece : List ℕ → ℕ → List ℕ → Next × List ℕ
+unfoldable pub piece : List ℕ → ℕ → List ℕ → NextPlace × List ℕ
 piece file at b =
     if leb (at + pieceSize (pieceLength file at)) (length file / 4)
     then placed (at + pieceSize (pieceLength file at))
@@ -31,10 +29,10 @@ piece file at b =
     else (Full, b)
 
 -- what comes after a piece that was laid
-unfoldable pub andThen : Next × List ℕ → (ℕ → List ℕ → Next × List ℕ) → Next × List ℕ
+unfoldable pub andThen : NextPlace × List ℕ → (ℕ → List ℕ → NextPlace × List ℕ) → NextPlace × List ℕ
 andThen (At e, b) f = f e b
 andThen (Full, b) f = (Full, b)
 
-unfoldable pub pieces : ℕ → List ℕ → ℕ → List ℕ → Next × List ℕ
+unfoldable pub pieces : ℕ → List ℕ → ℕ → List ℕ → NextPlace × List ℕ
 pieces zero file at b = (At at, b)
 pieces (suc k) file at b = andThen (piece file at b) (pieces k file)

@@ -5,7 +5,7 @@ ghost use lib.Dec.{leb};
 ghost use Rattle.case_reader.specs.Append.{appended};
 
 // Where the next text goes, or that this one does not fit.
-pub enum Next {
+pub enum NextPlace {
     At(usize),
     Full,
 }
@@ -21,17 +21,17 @@ fn has_room(at: usize, n: usize, all: usize) -> bool
 }
 
 // Puts the bytes of `text` at place `at`. A buffer too short for them stays as it is.
-pub fn put_bytes(buffer: &mut [u8], at: usize, text: &[u8]) -> Next
+pub(crate) fn put_bytes(buffer: &mut [u8], at: usize, text: &[u8]) -> NextPlace
     ensures { λ r. ⌜ (r, now (buffer .exit)) ≡ appended (now (text .entry)) at (now (buffer .entry)) ⌝ }
 {
     let n = text.len();
     if !has_room(at, n, buffer.len()) {
-        return Next::Full;
+        return NextPlace::Full;
     }
     let mut i: usize = 0;
     while i < n {
         buffer[at + i] = text[i];
         i += 1;
     }
-    Next::At(at + n)
+    NextPlace::At(at + n)
 }

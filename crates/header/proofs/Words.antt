@@ -77,10 +77,10 @@ word-first (b ∷ s) t k e =
     rw (not-true (eqb b 32) (f .0), word-first s t k (f .1)) (omega arith)
 
 -- w stands in l from place a to place b
-abbrev pub Stands : List ℕ → List ℕ → ℕ → ℕ → Type 0
-Stands w l a b = (a ≤ b) × (b ≤ length l) × (take (b - a) (drop a l) ≡ w)
+abbrev pub StandsBetween : List ℕ → List ℕ → ℕ → ℕ → Type 0
+StandsBetween w l a b = (a ≤ b) × (b ≤ length l) × (take (b - a) (drop a l) ≡ w)
 
-further : (p l w : List ℕ) (a b : ℕ) → Stands w l a b → Stands w (p ++ l) (length p + a) (length p + b)
+further : (p l w : List ℕ) (a b : ℕ) → StandsBetween w l a b → StandsBetween w (p ++ l) (length p + a) (length p + b)
 further p l w a b s =
     let d : length p + b - (length p + a) ≡ b - a = omega arith in
     (omega arith, simp length-append (omega arith), rw (d, drop-append-add p l a) (s .2))
@@ -88,7 +88,7 @@ further p l w a b s =
 -- name k stands after the k names before it
 named
     : (ps : List (String × ℕ)) (k : ℕ) → plain ps ≡ true → k < length ps
-    → Stands (word (getD ps k ("", 0) .0)) (names ps) (wordsLength k (names ps)) (wordsLength (suc k) (names ps))
+    → StandsBetween (word (getD ps k ("", 0) .0)) (names ps) (wordsLength k (names ps)) (wordsLength (suc k) (names ps))
 unfolding wordsLength
 named [] k e h = absurd (omega arith)
 named (p ∷ ps) zero e h =
@@ -103,6 +103,6 @@ named (p ∷ ps) (suc k) e h =
 
 pub line-name
     : (k : ℕ) {a b : ℕ} → k < 42 → a ≡ wordsLength k (names headerLines) → b ≡ wordsLength (k + 1) (names headerLines)
-    → Stands (word (lineAt k .0)) (names headerLines) a b
+    → StandsBetween (word (lineAt k .0)) (names headerLines) a b
 unfolding headerLines lineAt bytes
 line-name k h f g = rw (f, g, add-one) (named headerLines k refl h)

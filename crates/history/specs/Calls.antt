@@ -1,5 +1,5 @@
 -- What each call does to the modules that stand and to the register.
-pub mod Scene
+pub mod LinkedState
 pub mod Linked
 pub mod Bringing
 pub mod Loads

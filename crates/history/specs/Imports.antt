@@ -11,7 +11,7 @@ use Rattle.layout.specs.declared.relocation.Patch.the-variants.{Word}
 use Rattle.layout.specs.declared.segments.Address.the-variants.{At}
 use Rattle.linker_spec.specs.Relocation.{batchLimit}
 use Rattle.history.specs.Image.{Table, namedImports, indexedImports, anonymousImports, moduleEntries, externals, count, entry, nameOf, moduleName, tag, kind, endMark, addend}
-use Rattle.history.specs.Arrival.{Image, isCrs, address, exportOf, indexedOf, anonymousOf}
+use Rattle.history.specs.LoadedModule.{Image, isCrs, address, exportOf, indexedOf, anonymousOf}
 
 -- an entry of one of the header's three tables of imports
 pub data Import : Type 0 where
@@ -87,7 +87,7 @@ Exports x m (anonymous i) p =
 
 -- x is the exporter; the CRS never is of its own imports
 unfoldable pub Exporter : Image → Image → Import → ℕ → Type 0
-Exporter x m i p = Exports x m i p × (isCrs (m .coming) ≡ true → isCrs (x .coming) ≡ true → ⊥)
+Exporter x m i p = Exports x m i p × (isCrs (m .loadCall) ≡ true → isCrs (x .loadCall) ≡ true → ⊥)
 
 -- "An import holds an address if each batch entry of kind 2, 3 or 10 with a usable tag has the word that this address as symbol gives."
 unfoldable pub Holds : (ℕ → ℕ) → Image → Import → ℕ → Type 0

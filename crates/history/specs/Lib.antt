@@ -1,7 +1,7 @@
 -- Demand 3: what a well-laid image is, what a session is, and what two sessions that end alike have in common.
 pub mod Below
 pub mod Image
-pub mod Arrival
+pub mod LoadedModule
 pub mod Imports
 pub mod WellLaid
 pub mod Sessions

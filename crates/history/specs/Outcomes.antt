@@ -8,24 +8,24 @@ use Rattle.register.specs.Module.{Module, Register}
 use Rattle.register.specs.Read.Read.{addressOf}
 use Rattle.linker_spec.specs.declared.call.Call.{Call}
 use Rattle.linker_spec.specs.declared.call.Call.the-variants.{Initialize, Load, Unload}
-use Rattle.linker_spec.specs.Outcome.{Bytes, Outcome, initializeOutcome, loadOutcome, unloadOutcome}
+use Rattle.linker_spec.specs.Outcome.{Buffers, Outcome, initializeOutcome, loadOutcome, unloadOutcome}
 use Rattle.linker_spec.specs.Refusals.{lentRegister}
 use Rattle.linker_spec.specs.Valid.{Valid}
 use Rattle.history.specs.Below.{Each}
-use Rattle.history.specs.Sessions.{given, Turn, SameBytes}
+use Rattle.history.specs.Sessions.{given, CallRecord, SameBytes}
 
 -- which outcomes a linker may give for a call, the window's address and the lent bytes; one that gives none makes no session
 abbrev pub Linker : Type 1
-Linker = Call → ℕ → Bytes → Outcome → Type 0
+Linker = Call → ℕ → Buffers → Outcome → Type 0
 
 -- such a linker may have made the call, and each of the calls
-abbrev pub Gave : Linker → Turn → Type 0
+abbrev pub Gave : Linker → CallRecord → Type 0
 Gave L t = L (t .call) (t .at) (t .before) (t .gave)
 
-abbrev pub Made : Linker → List Turn → Type 0
+abbrev pub Made : Linker → List CallRecord → Type 0
 Made L ts = Each (Gave L) ts
 
--- what the exported calls promise: their contracts, word for word, a load's six places as one `Lent`
+-- what the exported calls promise: their contracts, word for word, a load's six places as one `LoadArguments`
 unfoldable pub Promised : Linker
 Promised (Initialize base size) at b o = o ≡ initializeOutcome base size at b
 Promised (Load l auto level) at b o = o ≡ loadOutcome l auto level at b
@@ -54,7 +54,7 @@ pub record SameRegister (r s : Register) : Type 0 where
   pub missing : r .missing ≡ s .missing
 
 -- encodings of one register but for that order, in buffers of the same lengths and with the same header words
-pub record SameEncoded (b c : Bytes) : Type 0 where
+pub record SameEncoded (b c : Buffers) : Type 0 where
   pub header : take 32 (b .records) ≡ take 32 (c .records)
   pub records : length (b .records) ≡ length (c .records)
   pub names : length (b .names) ≡ length (c .names)
@@ -62,7 +62,7 @@ pub record SameEncoded (b c : Bytes) : Type 0 where
   pub registers : SameRegister (lentRegister b) (lentRegister c)
 
 -- document 01's outcome: "One thing is left free", and only where the definition changes the register
-pub record Follows (c : Call) (at : ℕ) (b : Bytes) (o : Outcome) : Type 0 where
+pub record Follows (c : Call) (at : ℕ) (b : Buffers) (o : Outcome) : Type 0 where
   pub number : o .number ≡ given c at b .number
   pub value : o .value ≡ given c at b .value
   pub window : o .left .window ≡ given c at b .left .window

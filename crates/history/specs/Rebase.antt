@@ -1,6 +1,6 @@
 -- What rebasing and the external reset do to the bytes of a well-laid image, a file a step.
 pub mod Cells
-pub mod Stage
+pub mod PartlyRebased
 pub mod Header
 pub mod Fields
 pub mod Placing

@@ -18,116 +18,116 @@ use Rattle.register.specs.declared.words.Crs.the-variants.{Unknown}
 use Rattle.linker_spec.specs.declared.call.Call.{Call}
 use Rattle.linker_spec.specs.declared.call.Call.the-variants.{Initialize, Load, Unload}
 use Rattle.linker_spec.specs.Calls.{BadWindow, NoRegister, number}
-use Rattle.linker_spec.specs.Outcome.{Bytes, Outcome, initializeOutcome, loadOutcome, unloadOutcome}
+use Rattle.linker_spec.specs.Outcome.{Buffers, Outcome, initializeOutcome, loadOutcome, unloadOutcome}
 use Rattle.linker_spec.specs.Refusals.{lentRegister}
 use Rattle.linker_spec.specs.Valid.{AreBytes}
-use Rattle.history.specs.Arrival.{initialized, loaded, Arrival, imageOf, baseOf, isCrs, Area}
+use Rattle.history.specs.LoadedModule.{initialized, loaded, LoadedModule, imageOf, baseOf, isCrs, Area}
 
 -- what the definition gives
-unfoldable pub given : Call → ℕ → Bytes → Outcome
+unfoldable pub given : Call → ℕ → Buffers → Outcome
 given (Initialize base size) at b = initializeOutcome base size at b
 given (Load l auto level) at b = loadOutcome l auto level at b
 given (Unload base) at b = unloadOutcome base at b
 
 -- a call of a session: the window's address and the bytes that it was lent, and what it gave; sessions list their calls from the last one back
-pub record Turn : Type 0 where
+pub record CallRecord : Type 0 where
   pub call : Call
   pub at : ℕ
-  pub before : Bytes
+  pub before : Buffers
   pub gave : Outcome
 
-abbrev pub after : Turn → Bytes
+abbrev pub after : CallRecord → Buffers
 after t = t .gave .left
 
 -- "Which calls are refused, and what a call gave, are read from this document, whatever the linker under test answers."
-abbrev pub expected : Turn → Outcome
+abbrev pub expected : CallRecord → Outcome
 expected t = given (t .call) (t .at) (t .before)
 
-unfoldable pub done : Turn → Bool
+unfoldable pub done : CallRecord → Bool
 done t = eqb (expected t .number) 0
 
 -- lent a window or a register that breaks its rule: 3 or 4
-unfoldable pub unfit : Turn → Bool
+unfoldable pub unfit : CallRecord → Bool
 unfit t = eqb (expected t .number) (number BadWindow) || eqb (expected t .number) (number NoRegister)
 
 -- the calls lent a window and a register that keep their rules: these are the session's own
-unfoldable pub own : List Turn → List Turn
+unfoldable pub own : List CallRecord → List CallRecord
 own [] = []
 own (t ∷ ts) = if unfit t then own ts else t ∷ own ts
 
 -- the module that a call brings, if it does; "An auto-link parameter other than 0 counts as 1."
-unfoldable pub comes : Call → (ℕ → ℕ) → List Arrival
-comes (Initialize base size) M = record { coming = initialized base size; bytes = M } ∷ []
-comes (Load l auto level) M = record { coming = loaded l (not (eqb auto 0)) level; bytes = M } ∷ []
+unfoldable pub comes : Call → (ℕ → ℕ) → List LoadedModule
+comes (Initialize base size) M = record { loadCall = initialized base size; bytes = M } ∷ []
+comes (Load l auto level) M = record { loadCall = loaded l (not (eqb auto 0)) level; bytes = M } ∷ []
 comes (Unload base) M = []
 
-unfoldable pub brought : Turn → List Arrival
+unfoldable pub brought : CallRecord → List LoadedModule
 brought t = if done t then comes (t .call) (byteAt (t .at) (t .before .window)) else []
 
 -- all that came, in order
-unfoldable pub arrived : List Turn → List Arrival
-arrived [] = []
-arrived (t ∷ ts) = arrived ts ++ brought t
+unfoldable pub loadedModules : List CallRecord → List LoadedModule
+loadedModules [] = []
+loadedModules (t ∷ ts) = loadedModules ts ++ brought t
 
 -- those with another base, and the CRS
-unfoldable pub others : ℕ → List Arrival → List Arrival
+unfoldable pub others : ℕ → List LoadedModule → List LoadedModule
 others base [] = []
 others base (a ∷ S) =
-    if isCrs (a .coming) || not (eqb (baseOf (a .coming)) base) then a ∷ others base S else others base S
+    if isCrs (a .loadCall) || not (eqb (baseOf (a .loadCall)) base) then a ∷ others base S else others base S
 
-unfoldable pub stay : Call → List Arrival → List Arrival
+unfoldable pub stay : Call → List LoadedModule → List LoadedModule
 stay (Initialize base size) S = S
 stay (Load l auto level) S = S
 stay (Unload base) S = others base S
 
 -- "a module stands if a load of its base so far gave 0 and no later unload of that base so far did; the CRS from its initialize on"
-unfoldable pub standing : List Turn → List Arrival
+unfoldable pub standing : List CallRecord → List LoadedModule
 standing [] = []
 standing (t ∷ ts) = (if done t then stay (t .call) (standing ts) else standing ts) ++ brought t
 
 -- the address lies in an area of one of them
-unfoldable pub Areas : List Arrival → ℕ → Type 0
+unfoldable pub Areas : List LoadedModule → ℕ → Type 0
 Areas [] q = ⊥
 Areas (a ∷ S) q = Area (imageOf a) q ⊎ Areas S q
 
 -- "The register starts with no module and no CRS."
-unfoldable pub Fresh : Bytes → Type 0
+unfoldable pub Fresh : Buffers → Type 0
 Fresh b = (lentRegister b .modules ≡ []) × (lentRegister b .crs ≡ Unknown)
 
 -- arguments are 32-bit numbers
-unfoldable pub Words : Call → Type 0
-Words (Initialize base size) = (base < 2 ^ 32) × (size < 2 ^ 32)
-Words (Load l auto level) =
-    (l .base < 2 ^ 32) × (l .size < 2 ^ 32) × (l .«data_at» < 2 ^ 32) × (l .«data_size» < 2 ^ 32) × (l .«bss_at» < 2 ^ 32)
-    × (l .«bss_size» < 2 ^ 32) × (auto < 2 ^ 32) × (level < 2 ^ 32)
-Words (Unload base) = base < 2 ^ 32
+unfoldable pub WordArguments : Call → Type 0
+WordArguments (Initialize base size) = (base < 2 ^ 32) × (size < 2 ^ 32)
+WordArguments (Load l auto level) =
+    (l .base < 2 ^ 32) × (l .size < 2 ^ 32) × (l .«data_segment» < 2 ^ 32) × (l .«data_segment_size» < 2 ^ 32) × (l .«bss_segment» < 2 ^ 32)
+    × (l .«bss_segment_size» < 2 ^ 32) × (auto < 2 ^ 32) × (level < 2 ^ 32)
+WordArguments (Unload base) = base < 2 ^ 32
 
 -- and the window and the records lent are bytes
-abbrev pub Typed : Turn → Type 0
-Typed t = Words (t .call) × AreBytes (t .before)
+abbrev pub Typed : CallRecord → Type 0
+Typed t = WordArguments (t .call) × AreBytes (t .before)
 
 -- the same register bytes
-abbrev pub SameBytes : Bytes → Bytes → Type 0
+abbrev pub SameBytes : Buffers → Buffers → Type 0
 SameBytes b c = (b .records ≡ c .records) × (b .names ≡ c .names) × (b .missing ≡ c .missing)
 
 module _ (at : ℕ) where
   -- "Each call gets window and register as the last left them, save window bytes outside all areas loaded so far"
-  pub record Between (ts : List Turn) (left got : Bytes) : Type 0 where
+  pub record Between (ts : List CallRecord) (left got : Buffers) : Type 0 where
     pub register : SameBytes left got
     pub length-kept : length (left .window) ≡ length (got .window)
-    pub areas-kept : Agree (Areas (arrived ts)) (byteAt at (left .window)) (byteAt at (got .window))
+    pub areas-kept : Agree (Areas (loadedModules ts)) (byteAt at (left .window)) (byteAt at (got .window))
 
   -- what the next call may be lent, after the session's own calls ts
-  unfoldable pub Lends : List Turn → Bytes → Type 0
+  unfoldable pub Lends : List CallRecord → Buffers → Type 0
   Lends [] b = Fresh b
   Lends (t ∷ ts) b = Between (t ∷ ts) (after t) b
 
   -- the next call is lent that, at the session's address; or what breaks a rule, after which the last bytes stand:
   -- "A refused call that leaves all unchanged (1, 3 and 4 always do) may come anywhere, even before the CRS"
-  unfoldable pub Next : List Turn → Turn → Type 0
+  unfoldable pub Next : List CallRecord → CallRecord → Type 0
   Next ts t = unfit t ≡ false → (t .at ≡ at) × Lends (own ts) (t .before)
 
   -- "A session is a list of .. calls, of any length, on a window and register of its own." What made them is said apart (`Made`).
-  unfoldable pub Trace : List Turn → Type 0
+  unfoldable pub Trace : List CallRecord → Type 0
   Trace [] = Unit {0}
   Trace (t ∷ ts) = Typed t × Next ts t × Trace ts

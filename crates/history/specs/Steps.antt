@@ -3,7 +3,7 @@ pub mod Wp
 pub mod Windowed
 pub mod View
 pub mod Parts
-pub mod Shows
+pub mod ModuleBytes
 pub mod Reading
 pub mod Batch
 pub mod Links
@@ -16,13 +16,13 @@ pub mod Asking
 pub mod Importing
 pub mod Serving
 pub mod Resetting
-pub mod World
+pub mod AllModulesShow
 pub mod Listing
 pub mod Leaving
 pub mod Gathered
 pub mod Recording
 pub mod Fixing
-pub mod Final
+pub mod LinksResolved
 pub mod Once
 pub mod Conclusions
 pub mod Own

@@ -12,7 +12,7 @@ use Rattle.layout.specs.declared.relocation.Patch.the-variants.{Word}
 use Rattle.layout.specs.declared.segments.Address.the-variants.{At}
 use Rattle.linker_spec.specs.Relocation.{writePlace}
 use Rattle.history.specs.Image.{Table, tables, segments, namedExports, exportTree, moduleEntries, externals, namedImports, staticAnonymous, internals, staticRelocations, start, count, entry, fileSegment, tag, kind, symbolSegment}
-use Rattle.history.specs.Arrival.{Coming, initialized, loaded, Image, baseOf, sizeOf, oldPlace, address, handler, Area}
+use Rattle.history.specs.LoadedModule.{LoadCall, initialized, loaded, Image, baseOf, sizeOf, oldPlace, address, handler, Area}
 use Rattle.history.specs.Imports.{Import, named, indexed, anonymous, importTable, IsImport, importEntry, batch, runStart, runCount, InRun, BatchOf}
 
 -- what must lie in the image apart from each other: the header, table number n, the string that a pointer gives
@@ -104,7 +104,7 @@ module _ (a : Image) where
       ≡ writePlace (fileSegment (a .file) (tagSegment (tag (a .file) internals i)) .kind) (oldPlace a) (tagOffset (tag (a .file) internals i)) q)
 
   -- a CRS's list words
-  unfoldable pub NoList : Coming → Type 0
+  unfoldable pub NoList : LoadCall → Type 0
   NoList (initialized base size) = (word (a .file) nextCro ≡ 0) × (word (a .file) previousCro ≡ 0)
   NoList (loaded l auto level) = Unit {0}
 
@@ -116,12 +116,12 @@ module _ (a : Image) where
     -- "or anything else the linker reads or writes, the whole header included"
     pub words-off
         : (r : Relocated) (p : ℕ) → WordAt r p → (s : Part) (o : ℕ) → InPart (a .file) s o → Touched (a .file) s o
-        → In p 4 (baseOf (a .coming) + o) → ⊥
+        → In p 4 (baseOf (a .loadCall) + o) → ⊥
     -- "Its handler address is not 0."
     pub handler-there : handler a ≢ 0
     -- "For a CRS the same, and its words at 0x088 and 0x08C are 0 before `initialize`"
-    pub no-list : NoList (a .coming)
+    pub no-list : NoList (a .loadCall)
 
   pub record WellLaid : Type 0 where
-    pub alone : LaidAlone (a .file) (sizeOf (a .coming))
+    pub alone : LaidAlone (a .file) (sizeOf (a .loadCall))
     pub in-place : LaidInPlace

@@ -5,9 +5,9 @@ use mathlib.Core.List.{List, [], _∷_}
 use mathlib.Core.Bool.{true}
 use Rattle.register.specs.declared.words.Crs.the-variants.{Known}
 use Rattle.register.specs.Module.{Module, Register}
-use Rattle.linker_spec.specs.declared.rebase.Lent.{Lent}
+use Rattle.linker_spec.specs.declared.rebase.LoadArguments.{LoadArguments}
 use Rattle.linker_spec.specs.declared.call.Call.the-variants.{Initialize, Load, Unload}
-use Rattle.linker_spec.specs.Outcome.{Bytes, Outcome}
+use Rattle.linker_spec.specs.Outcome.{Buffers, Outcome}
 use Rattle.history.specs.Sessions.{given}
 use Rattle.history.specs.Windows.{program}
 use Rattle.history_witness.specs.Image.{zeros, cro, join, c-words, m-words, n-words, change, c-rebased, c-linked, m-loaded, m-linked, n-loaded, lent-words, page}
@@ -69,43 +69,43 @@ abbrev pub register : List Module → List (List ℕ) → Register
 register ms missing = record { modules = ms; crs = Known 0x100000; missing = missing }
 
 -- a window, and a zeroed register in so many bytes of records and names
-abbrev pub fresh : ℕ → ℕ → List ℕ → Bytes
+abbrev pub fresh : ℕ → ℕ → List ℕ → Buffers
 fresh records names w =
     record { window = w; records = zeros records; names = zeros names; missing = zeros 32896 }
 
-abbrev pub small : ℕ → ℕ → Lent
+abbrev pub small : ℕ → ℕ → LoadArguments
 small base size =
-    record { base = base; size = size; «data_at» = 0; «data_size» = 0; «bss_at» = 0; «bss_size» = 0 }
+    record { base = base; size = size; «data_segment» = 0; «data_segment_size» = 0; «bss_segment» = 0; «bss_segment_size» = 0 }
 
 -- what is lent with `m`: 0x10 bytes of data and 0x10 bytes of bss, outside its image
-abbrev pub large : Lent
+abbrev pub large : LoadArguments
 large =
-    record { base = 0x100200; size = 0x210; «data_at» = 0x1005a0; «data_size» = 0x10; «bss_at» = 0x1005b0; «bss_size» = 0x10 }
+    record { base = 0x100200; size = 0x210; «data_segment» = 0x1005a0; «data_segment_size» = 0x10; «bss_segment» = 0x1005b0; «bss_segment_size» = 0x10 }
 
 -- the bytes of the first session: the records are full once `n` stands
-abbrev pub b₀ : Bytes
+abbrev pub b₀ : Buffers
 b₀ = fresh 192 8 (page₀ 0)
 
-abbrev pub b₁ : ℕ → Bytes
+abbrev pub b₁ : ℕ → Buffers
 b₁ magic = stored 192 8 (register (c-module ∷ []) []) (page₁ magic)
 
-abbrev pub b₂ : Bytes
+abbrev pub b₂ : Buffers
 b₂ = stored 192 8 (register (c-module ∷ m-module ∷ []) ((0x67 ∷ []) ∷ [])) page₂
 
-abbrev pub b₃ : Bytes
+abbrev pub b₃ : Buffers
 b₃ = stored 192 8 (register (c-module ∷ m-module ∷ n-module ∷ []) ((0x67 ∷ []) ∷ [])) page₃
 
 -- the bytes of the second, but for the page in front: `n` comes before `m`, so that nothing is missing
-abbrev pub d₀ : Bytes
+abbrev pub d₀ : Buffers
 d₀ = fresh 512 64 (page₀ cro)
 
-abbrev pub d₁ : Bytes
+abbrev pub d₁ : Buffers
 d₁ = stored 512 64 (register (c-module ∷ []) []) (page₁ cro)
 
 abbrev pub page₄ : List ℕ
 page₄ = page (change ((0x088, 0x100420) ∷ []) c-rebased) (m-words cro) (change ((0x08c, 0x100420) ∷ []) n-loaded) (lent-words 0 0)
 
-abbrev pub d₂ : Bytes
+abbrev pub d₂ : Buffers
 d₂ = stored 512 64 (register (c-module ∷ n-module ∷ []) []) page₄
 
 abbrev pub page₅ : List ℕ
@@ -113,23 +113,23 @@ page₅ =
     page (change ((0x088, 0x100420) ∷ []) c-linked) (change ((0x088, 0) ∷ []) m-linked) (change ((0x088, 0x100200) ∷ []) n-loaded)
     (lent-words 0x100584 0x100580)
 
-abbrev pub d₃ : Bytes
+abbrev pub d₃ : Buffers
 d₃ = stored 512 64 (register (c-module ∷ n-module ∷ m-module ∷ []) []) page₅
 
-abbrev pub d₄ : Bytes
+abbrev pub d₄ : Buffers
 d₄ = stored 512 64 (register (c-module ∷ m-module ∷ []) []) page₂
 
 -- lent in between: 4,095 bytes, which are no window, and a register of 65 modules, which is none
-abbrev pub short : Bytes
+abbrev pub short : Buffers
 short = fresh 32 0 (zeros 4095)
 
-abbrev pub wrong : Bytes
+abbrev pub wrong : Buffers
 wrong = record { window = zeros 4096; records = 65 ∷ zeros 31; names = []; missing = [] }
 
-abbrev pub done : ℕ → Bytes → Outcome
+abbrev pub done : ℕ → Buffers → Outcome
 done value b = record { number = 0; value = value; left = b }
 
-abbrev pub refused : ℕ → Bytes → Outcome
+abbrev pub refused : ℕ → Buffers → Outcome
 refused number b = record { number = number; value = 0; left = b }
 
 -- the images' words and pages, to be unfolded by one name

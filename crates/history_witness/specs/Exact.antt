@@ -15,58 +15,58 @@ use Rattle.register.specs.Buffers.{Below}
 use Rattle.linker_spec.specs.Calls.{number}
 use Rattle.linker_spec.specs.declared.call.Call.{Call}
 use Rattle.linker_spec.specs.declared.call.Call.the-variants.{Initialize, Load, Unload}
-use Rattle.linker_spec.specs.Outcome.{Bytes}
+use Rattle.linker_spec.specs.Outcome.{Buffers}
 use Rattle.linker_spec.specs.Valid.{AreBytes}
-use Rattle.history.specs.Arrival.{Arrival, Image, Area}
+use Rattle.history.specs.LoadedModule.{LoadedModule, Image, Area}
 use Rattle.history.specs.WellLaid.{WellLaid}
-use Rattle.history.specs.Sessions.{given, Turn, expected, done, unfit, own, comes, brought, arrived, stay, standing, Between, Lends, Next}
+use Rattle.history.specs.Sessions.{given, CallRecord, expected, done, unfit, own, comes, brought, loadedModules, stay, standing, Between, Lends, Next}
 use Rattle.history.specs.Outcomes.{Made, Promised}
 use Rattle.history.specs.Below.{Each, Pairs}
 use Rattle.history.specs.Demand3.{Harmless, InOrder, CrsFirst, AutoLinked, ImportsKept, BaseNot0, InWindow, Apart, OtherName, OtherExports, ExportsOnce, Premises, images}
 
 -- each turn gave what the definition gives
-abbrev pub Exact : List Turn → Type 0
+abbrev pub Exact : List CallRecord → Type 0
 Exact ts = Each (λ t. expected t ≡ t .gave) ts
 
-abbrev pub succeeds : Turn → Bool
+abbrev pub succeeds : CallRecord → Bool
 succeeds t = eqb (t .gave .number) 0
 
-unfoldable pub ours : List Turn → List Turn
+unfoldable pub ours : List CallRecord → List CallRecord
 ours [] = []
 ours (t ∷ ts) = if eqb (t .gave .number) 3 || eqb (t .gave .number) 4 then ours ts else t ∷ ours ts
 
-unfoldable pub brings : Turn → List Arrival
+unfoldable pub brings : CallRecord → List LoadedModule
 brings t = if succeeds t then comes (t .call) (byteAt (t .at) (t .before .window)) else []
 
-unfoldable pub came : List Turn → List Arrival
+unfoldable pub came : List CallRecord → List LoadedModule
 came [] = []
 came (t ∷ ts) = came ts ++ brings t
 
-unfoldable pub stood : List Turn → List Arrival
+unfoldable pub stood : List CallRecord → List LoadedModule
 stood [] = []
 stood (t ∷ ts) = (if succeeds t then stay (t .call) (stood ts) else stood ts) ++ brings t
 
-pub ours-are : (ts : List Turn) → Exact ts → own ts ≡ ours ts
+pub ours-are : (ts : List CallRecord) → Exact ts → own ts ≡ ours ts
 unfolding own ours unfit Each number
 ours-are [] h = refl
 ours-are (t ∷ ts) h = rw (h .0, ours-are ts (h .1)) refl
 
-brought-are : (t : Turn) → expected t ≡ t .gave → brought t ≡ brings t
+brought-are : (t : CallRecord) → expected t ≡ t .gave → brought t ≡ brings t
 unfolding brought brings done
 brought-are t h = rw h refl
 
-pub came-are : (ts : List Turn) → Exact ts → arrived ts ≡ came ts
-unfolding arrived came Each
+pub came-are : (ts : List CallRecord) → Exact ts → loadedModules ts ≡ came ts
+unfolding loadedModules came Each
 came-are [] h = refl
 came-are (t ∷ ts) h = rw (came-are ts (h .1), brought-are t (h .0)) refl
 
-pub stood-are : (ts : List Turn) → Exact ts → standing ts ≡ stood ts
+pub stood-are : (ts : List CallRecord) → Exact ts → standing ts ≡ stood ts
 unfolding standing stood done Each
 stood-are [] h = refl
 stood-are (t ∷ ts) h = rw (brought-are t (h .0), stood-are ts (h .1), h .0) refl
 
 -- the exported calls promise that
-made-one : (t : Turn) → expected t ≡ t .gave → Promised (t .call) (t .at) (t .before) (t .gave)
+made-one : (t : CallRecord) → expected t ≡ t .gave → Promised (t .call) (t .at) (t .before) (t .gave)
 unfolding Promised given
 made-one t h = go (t .call) h
   where
@@ -75,16 +75,16 @@ made-one t h = go (t .call) h
     go (Load l auto level) e = sym e
     go (Unload base) e = sym e
 
-pub promised : (ts : List Turn) → Exact ts → Made Promised ts
+pub promised : (ts : List CallRecord) → Exact ts → Made Promised ts
 unfolding Each
 promised [] h = tt
 promised (t ∷ ts) h = (made-one t (h .0), promised ts (h .1))
 
 -- a refused call leaves all as it was
-abbrev pub Quiet : Turn → Type 0
+abbrev pub Quiet : CallRecord → Type 0
 Quiet t = succeeds t ≡ false → t .gave .left ≡ t .before
 
-pub quiet : (ts : List Turn) → Exact ts → Each Quiet ts → Each Harmless ts
+pub quiet : (ts : List CallRecord) → Exact ts → Each Quiet ts → Each Harmless ts
 unfolding Each Harmless done
 quiet [] h g = tt
 quiet (t ∷ ts) h g = ((λ e. ap (λ o. o .left) (h .0) ∙ g .0 (rw (h .0) at e)), quiet ts (h .1) (g .1))
@@ -93,11 +93,11 @@ pub not-both : {X : Type 0} (b : Bool) → b ≡ true → b ≡ false → X
 not-both b h e = let z : _≡_ {A = ℕ} 0 1 = cc in absurd (omega arith)
 
 -- each call that is done comes in order
-unfoldable pub Ordered : List Turn → Type 0
+unfoldable pub Ordered : List CallRecord → Type 0
 Ordered [] = Unit {0}
 Ordered (t ∷ ts) = (succeeds t ≡ true → InOrder (t .call) (came ts)) × Ordered ts
 
-pub ordered : (ts : List Turn) → Exact ts → Ordered ts → CrsFirst ts
+pub ordered : (ts : List CallRecord) → Exact ts → Ordered ts → CrsFirst ts
 unfolding Ordered CrsFirst Each done
 ordered [] h g = tt
 ordered (t ∷ ts) h g = ((λ e. rw (came-are ts (h .1)) (g .0 (rw (h .0) at e))), ordered ts (h .1) (g .1))
@@ -113,29 +113,29 @@ small-true [] h i = lit< tt
 small-true (b ∷ l) h zero = ltb-true b 256 (both (ltb b 256) (small-all l) h .0)
 small-true (b ∷ l) h (suc i) = small-true l (both (ltb b 256) (small-all l) h .1) i
 
-pub are-bytes : (b : Bytes) → small-all (b .window) ≡ true → small-all (b .records) ≡ true → AreBytes b
+pub are-bytes : (b : Buffers) → small-all (b .window) ≡ true → small-all (b .records) ≡ true → AreBytes b
 are-bytes b w r = (small-true (b .window) w, small-true (b .records) r)
 
 -- what the last call left
-pub same-between : (at : ℕ) (ts : List Turn) (b : Bytes) → Between at ts b b
+pub same-between : (at : ℕ) (ts : List CallRecord) (b : Buffers) → Between at ts b b
 same-between at ts b = record { register = (refl, refl, refl); length-kept = refl; areas-kept = λ q h. refl }
 
 -- a call on the session's own window and register, or one that is lent what breaks a rule
 pub next-own
-    : (at : ℕ) (t : Turn) (ts : List Turn) → Exact ts → t .at ≡ at → Lends at (ours ts) (t .before) → Next at ts t
+    : (at : ℕ) (t : CallRecord) (ts : List CallRecord) → Exact ts → t .at ≡ at → Lends at (ours ts) (t .before) → Next at ts t
 unfolding Next
 next-own at t ts h e l = λ u. (e, rw (ours-are ts h) l)
 
 pub next-unfit
-    : (at : ℕ) (t : Turn) (ts : List Turn) → expected t ≡ t .gave → (eqb (t .gave .number) 3 || eqb (t .gave .number) 4) ≡ true → Next at ts t
+    : (at : ℕ) (t : CallRecord) (ts : List CallRecord) → expected t ≡ t .gave → (eqb (t .gave .number) 3 || eqb (t .gave .number) 4) ≡ true → Next at ts t
 unfolding Next unfit number
 next-unfit at t ts h e = λ u. not-both _ e (rw h at u)
 
 -- the premises on the images that came
 pub record Suits (S : List Image) : Type 0 where
-  pub auto-linked : Each (λ m. AutoLinked (m .coming)) S
-  pub imports-kept : Each (λ m. ImportsKept (m .coming)) S
-  pub base-not-0 : Each (λ m. BaseNot0 (m .coming)) S
+  pub auto-linked : Each (λ m. AutoLinked (m .loadCall)) S
+  pub imports-kept : Each (λ m. ImportsKept (m .loadCall)) S
+  pub base-not-0 : Each (λ m. BaseNot0 (m .loadCall)) S
   pub areas-apart : Pairs Apart S
   pub other-names : Pairs OtherName S
   pub other-exports : Pairs OtherExports S
@@ -167,7 +167,7 @@ front S T h =
     }
 
 pub premises-of
-    : (ts : List Turn) (S : List Image) → Exact ts → images ts ≡ S → Suits S → Each Quiet ts → Ordered ts → Each (InWindow (ours ts)) S → Premises ts
+    : (ts : List CallRecord) (S : List Image) → Exact ts → images ts ≡ S → Suits S → Each Quiet ts → Ordered ts → Each (InWindow (ours ts)) S → Premises ts
 premises-of ts S e i s q o w =
     record {
       harmless = quiet ts e q;
@@ -185,7 +185,7 @@ premises-of ts S e i s q o w =
 
 -- a window of n bytes holds their areas
 pub windows-of
-    : (t : Turn) (ts : List Turn) (n : ℕ) (S : List Image) → length (t .before .window) ≡ n → Each (λ a. (q : ℕ) → Area a q → In (t .at) n q) S
+    : (t : CallRecord) (ts : List CallRecord) (n : ℕ) (S : List Image) → length (t .before .window) ≡ n → Each (λ a. (q : ℕ) → Area a q → In (t .at) n q) S
     → Each (InWindow (t ∷ ts)) S
 unfolding InWindow
 windows-of t ts n S e h = subst (λ k. Each (λ a. (q : ℕ) → Area a q → In (t .at) k q) S) (sym e) h

@@ -6,7 +6,7 @@ use mathlib.Core.Option.{Option, some, none}
 use mathlib.Core.Bool.{Bool, not}
 use lib.Dec.{eqb}
 use Rattle.window.specs.Memory.{if_then_else_, _⊕_}
-use Rattle.window.specs.Access.{Prog, ret, get32, put8, _>>=_, _>>_}
+use Rattle.window.specs.Access.{Prog, ret, _>>=_, _>>_, get32, put8}
 use Rattle.window.specs.Loop.{loop}
 use Rattle.window.specs.Name.{nameAt}
 use Rattle.layout.specs.Header.{importNamedSymbolTableOffset, importNamedSymbolNum, importNamedSymbolEntrySize, importModuleTableOffset, importModuleNum, importModuleEntrySize, importIndexedSymbolEntrySize, importAnonymousSymbolEntrySize}
@@ -17,14 +17,14 @@ use Rattle.register.specs.Words.{same}
 use Rattle.register.specs.Read.Read.{lookupIn, exportOf, entryOf}
 use Rattle.register.specs.declared.read.Symbol.{Symbol}
 use Rattle.register.specs.declared.read.Symbol.the-variants.{At, Nothing}
-use Rattle.linker_spec.specs.declared.rebase.Lent.{Lent}
+use Rattle.linker_spec.specs.declared.rebase.LoadArguments.{LoadArguments}
 use Rattle.linker_spec.specs.declared.call.Call.{Call}
 use Rattle.linker_spec.specs.declared.call.Call.the-variants.{Initialize, Load, Unload}
 use Rattle.linker_spec.specs.Relocation.{walk}
-use Rattle.linker_spec.specs.Imports.{anonymousOf, isUnresolved, noted, moduleByName}
+use Rattle.linker_spec.specs.Imports.{anonymousOf, isUnresolved, addMissing, moduleByName}
 use Rattle.linker_spec.specs.Fix.{fix}
-use Rattle.linker_spec.specs.Calls.{Answer, Done, rebase, enter, listed, missingNow}
-use Rattle.linker_spec.specs.Outcome.{Bytes, Outcome, outcome}
+use Rattle.linker_spec.specs.Calls.{Answer, Done, rebase, addRecord, listed, missingNow}
+use Rattle.linker_spec.specs.Outcome.{Buffers, Outcome, callOutcome}
 use Rattle.history.specs.Sessions.{given}
 
 -- one entry, and the mark
@@ -42,7 +42,7 @@ importNamed ms base entry missing = do
     p ← get32 entry
     name ← nameAt p
     resolve base batch (lookupIn ms name)
-    ret (noted (lookupIn ms name) name missing)) else ret missing
+    ret (addMissing (lookupIn ms name) name missing)) else ret missing
 
 unfoldable pub applyImportNamedSymbols : List Module → ℕ → List (List ℕ) → Prog (List (List ℕ))
 applyImportNamedSymbols ms base missing = do
@@ -57,7 +57,7 @@ importFrom symbol base entry = do
   unresolved ← isUnresolved batch
   if unresolved then resolve base batch (symbol x) else ret tt
 
-unfoldable pub linkFrom : Option Module → ℕ → ℕ → ℕ → ℕ → ℕ → Prog (Unit {0})
+unfoldable pub linkFrom : Option Module → (base indexed n anonymous m : ℕ) → Prog (Unit {0})
 linkFrom none base indexed n anonymous m = ret tt
 linkFrom (some source) base indexed n anonymous m = do
   loop (λ i _. importFrom (entryOf (source .indexed)) base (entryAt indexed i importIndexedSymbolEntrySize)) 0 n tt
@@ -113,7 +113,7 @@ applyExportsToLoaded new (m ∷ ms) = do
   serve new (m .base)
   applyExportsToLoaded new ms
 
-unfoldable pub linked : Register → Lent → Bool → ℕ → Module → Prog Answer
+unfoldable pub linked : Register → LoadArguments → Bool → ℕ → Module → Prog Answer
 linked r l auto level m = do
   listed (r .crs) (l .base) auto
   missing ← applyImportNamedSymbols (appended r m .modules) (l .base) (r .missing)
@@ -122,14 +122,14 @@ linked r l auto level m = do
   fixed ← fix (l .base) (l .size) level
   ret (Done fixed (missingNow (appended r m) missing))
 
-unfoldable pub load : Lent → Bool → ℕ → ℕ → ℕ → Register → Prog Answer
+unfoldable pub load : LoadArguments → Bool → (level records names : ℕ) → Register → Prog Answer
 load l auto level records names r = do
   x ← rebase l
-  enter records names r (l .base) (l .size) auto (linked r l auto level) x
+  addRecord records names r (l .base) (l .size) auto (linked r l auto level) x
 
-unfoldable pub firstEntryOnly : Call → ℕ → Bytes → Outcome
+unfoldable pub firstEntryOnly : Call → ℕ → Buffers → Outcome
 firstEntryOnly (Initialize base size) at b = given (Initialize base size) at b
-firstEntryOnly (Load l auto level) at b = outcome (load l (not (eqb auto 0)) level) at b
+firstEntryOnly (Load l auto level) at b = callOutcome (load l (not (eqb auto 0)) level) at b
 firstEntryOnly (Unload base) at b = given (Unload base) at b
 
 -- all of it, to be unfolded by one name

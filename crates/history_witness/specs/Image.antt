@@ -13,7 +13,7 @@ cro = 0x304f5243
 abbrev pair : ℕ → ℕ → List ℕ
 pair a b = a ∷ b ∷ []
 
-abbrev triple : ℕ → ℕ → ℕ → List ℕ
+abbrev triple : (a b c : ℕ) → List ℕ
 triple a b c = a ∷ b ∷ c ∷ []
 
 unfoldable pub join : List (List ℕ) → List ℕ

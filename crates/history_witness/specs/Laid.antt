@@ -19,7 +19,7 @@ use Rattle.layout.specs.declared.segments.Address.{Address}
 use Rattle.layout.specs.declared.segments.Address.the-variants.{At, Nowhere}
 use Rattle.linker_spec.specs.Relocation.{batchLimit, writePlace}
 use Rattle.history.specs.Image.{Table, tables, namedExports, moduleEntries, externals, namedImports, indexedImports, anonymousImports, internals, start, count, entry, fileSegment, tag, endMark}
-use Rattle.history.specs.Arrival.{Coming, initialized, loaded, Image, baseOf, sizeOf, oldPlace, address, handler, Area, Lent-area}
+use Rattle.history.specs.LoadedModule.{LoadCall, initialized, loaded, Image, baseOf, sizeOf, oldPlace, address, handler, Area, LentArea}
 use Rattle.history.specs.Imports.{Import, named, indexed, anonymous, importTable, IsImport, batch, runStart, runCount, BatchOf}
 use Rattle.history.specs.WellLaid.{Part, header, table, string, tableNumber, Pointer, of-module, of-export, of-import, of-entry, InPart, LaidAlone, Relocated, external, internal, WordAt, NoList, WellLaid}
 use Rattle.history_witness.specs.Tests.{all, each, meets, nth, either, apart, never-both, alike, alike-true}
@@ -382,13 +382,13 @@ module _ (a : Image) where
       (each _ (λ i. usable (λ q. f (internal i) (target i q)) (address a (tag F internals i))) (nth (words f) h 1) i (w .0)))
 
   -- the four bytes from p on lie among n from b on; in an area of the module
-  unfoldable pub among : ℕ → ℕ → ℕ → Bool
+  unfoldable pub among : (b n p : ℕ) → Bool
   among b n p = leb b p && leb (p + 4) (b + n)
 
-  unfoldable pub in-area : Coming → ℕ → Bool
+  unfoldable pub in-area : LoadCall → ℕ → Bool
   in-area (initialized base size) p = among base size p
   in-area (loaded l auto level) p =
-      among (l .base) (l .size) p || (among (l .«data_at») (l .«data_size») p || among (l .«bss_at») (l .«bss_size») p)
+      among (l .base) (l .size) p || (among (l .«data_segment») (l .«data_segment_size») p || among (l .«bss_segment») (l .«bss_segment_size») p)
 
   among-in : (b n p q : ℕ) → among b n p ≡ true → In p 4 q → In b n q
   unfolding among
@@ -396,7 +396,7 @@ module _ (a : Image) where
       let e = both (leb b p) (leb (p + 4) (b + n)) h in
       (omega (arith, leb-true b p (e .0)), omega (arith, leb-true (p + 4) (b + n) (e .1)))
 
-  unfoldable pub no-list : Coming → List Bool
+  unfoldable pub no-list : LoadCall → List Bool
   no-list (initialized base size) = eqb (word F nextCro) 0 ∷ eqb (word F previousCro) 0 ∷ []
   no-list (loaded l auto level) = []
 
@@ -404,23 +404,23 @@ module _ (a : Image) where
   clear r p s q = same-word r s || apart p (p + 4) q (q + 4)
 
   abbrev aside : ℕ → Part → Bool
-  aside p s = apart p (p + 4) (baseOf (a .coming) + low F s) (baseOf (a .coming) + high F s)
+  aside p s = apart p (p + 4) (baseOf (a .loadCall) + low F s) (baseOf (a .loadCall) + high F s)
 
   -- what depends on its place; no table and no string is passed over
   unfoldable pub place-tests : List Bool
   place-tests =
-      meets (words (λ r p. in-area (a .coming) p))
+      meets (words (λ r p. in-area (a .loadCall) p))
       ∷ meets (words (λ r p. meets (words (λ s q. clear r p s q))))
       ∷ meets (words (λ r p. meets (parts F (λ s. aside p s))))
       ∷ not (eqb (handler a) 0)
-      ∷ meets (no-list (a .coming))
+      ∷ meets (no-list (a .loadCall))
       ∷ []
 
   unfoldable pub laid-tests : List Bool
-  laid-tests = meets (alone-tests F (sizeOf (a .coming))) ∷ meets place-tests ∷ []
+  laid-tests = meets (alone-tests F (sizeOf (a .loadCall))) ∷ meets place-tests ∷ []
 
   module _ (passed : meets laid-tests ≡ true) where
-    first : meets (alone-tests F (sizeOf (a .coming))) ≡ true
+    first : meets (alone-tests F (sizeOf (a .loadCall))) ≡ true
     unfolding laid-tests
     first = nth laid-tests passed 0
 
@@ -428,21 +428,21 @@ module _ (a : Image) where
     unfolding laid-tests
     second = nth laid-tests passed 1
 
-    inside : (c : Coming) (p q : ℕ) → in-area c p ≡ true → In p 4 q → In (baseOf c) (sizeOf c) q ⊎ Lent-area a c q
-    unfolding in-area Lent-area
+    inside : (c : LoadCall) (p q : ℕ) → in-area c p ≡ true → In p 4 q → In (baseOf c) (sizeOf c) q ⊎ LentArea a c q
+    unfolding in-area LentArea
     inside (initialized base size) p q h i = inl (among-in base size p q h i)
     inside (loaded l auto level) p q h i = go (either (among (l .base) (l .size) p) _ h)
       where
-        lent : (among (l .«data_at») (l .«data_size») p ≡ true) ⊎ (among (l .«bss_at») (l .«bss_size») p ≡ true)
-            → Lent-area a (loaded l auto level) q
-        lent (inl e) = inl (among-in (l .«data_at») (l .«data_size») p q e i)
-        lent (inr e) = inr (among-in (l .«bss_at») (l .«bss_size») p q e i)
+        lent : (among (l .«data_segment») (l .«data_segment_size») p ≡ true) ⊎ (among (l .«bss_segment») (l .«bss_segment_size») p ≡ true)
+            → LentArea a (loaded l auto level) q
+        lent (inl e) = inl (among-in (l .«data_segment») (l .«data_segment_size») p q e i)
+        lent (inr e) = inr (among-in (l .«bss_segment») (l .«bss_segment_size») p q e i)
 
         go : (among (l .base) (l .size) p ≡ true)
-            ⊎ ((among (l .«data_at») (l .«data_size») p || among (l .«bss_at») (l .«bss_size») p) ≡ true)
-            → In (l .base) (l .size) q ⊎ Lent-area a (loaded l auto level) q
+            ⊎ ((among (l .«data_segment») (l .«data_segment_size») p || among (l .«bss_segment») (l .«bss_segment_size») p) ≡ true)
+            → In (l .base) (l .size) q ⊎ LentArea a (loaded l auto level) q
         go (inl e) = inl (among-in (l .base) (l .size) p q e i)
-        go (inr e) = inr (lent (either (among (l .«data_at») (l .«data_size») p) _ e))
+        go (inr e) = inr (lent (either (among (l .«data_segment») (l .«data_segment_size») p) _ e))
 
     words-apart : (r s : Relocated) → r ≢ s → (p q : ℕ) → WordAt a r p → WordAt a s q → (x : ℕ) → In p 4 x → In q 4 x → ⊥
     unfolding place-tests
@@ -456,15 +456,15 @@ module _ (a : Image) where
         go (inr e) = never-both p (p + 4) q (q + 4) x e (i .0) (i .1) (j .0) (j .1)
 
     words-off
-        : (r : Relocated) (p : ℕ) → WordAt a r p → (s : Part) (o : ℕ) → InPart F s o → In p 4 (baseOf (a .coming) + o) → ⊥
+        : (r : Relocated) (p : ℕ) → WordAt a r p → (s : Part) (o : ℕ) → InPart F s o → In p 4 (baseOf (a .loadCall) + o) → ⊥
     unfolding place-tests
     words-off r p v s o i j =
         let f : meets (parts F (λ s. aside p s)) ≡ true =
         each-word (λ r p. meets (parts F (λ s. aside p s))) (nth place-tests second 2) r p v in
-        let g = within F (sizeOf (a .coming)) first s o i in
-        never-both p (p + 4) _ _ (baseOf (a .coming) + o) (each-part F (λ s. aside p s) f s o i) (j .0) (j .1) (omega arith) (omega arith)
+        let g = within F (sizeOf (a .loadCall)) first s o i in
+        never-both p (p + 4) _ _ (baseOf (a .loadCall) + o) (each-part F (λ s. aside p s) f s o i) (j .0) (j .1) (omega arith) (omega arith)
 
-    listed : (c : Coming) → meets (no-list c) ≡ true → NoList a c
+    listed : (c : LoadCall) → meets (no-list c) ≡ true → NoList a c
     unfolding no-list NoList
     listed (initialized base size) h =
         let l = no-list (initialized base size) in (eqb-true _ _ (nth l h 0), eqb-true _ _ (nth l h 1))
@@ -474,13 +474,13 @@ module _ (a : Image) where
     unfolding place-tests Area
     laid =
         record {
-          alone = laid-alone F (sizeOf (a .coming)) first;
+          alone = laid-alone F (sizeOf (a .loadCall)) first;
           in-place =
               record {
-                words-inside = λ r p w q i. inside (a .coming) p q (each-word _ (nth place-tests second 0) r p w) i;
+                words-inside = λ r p w q i. inside (a .loadCall) p q (each-word _ (nth place-tests second 0) r p w) i;
                 words-apart = words-apart;
                 words-off = λ r p w s o i t j. words-off r p w s o i j;
                 handler-there = not-eqb _ _ (nth place-tests second 3);
-                no-list = listed (a .coming) (nth place-tests second 4);
+                no-list = listed (a .loadCall) (nth place-tests second 4);
               };
         }

@@ -58,7 +58,7 @@ unfolding
     linkerRelocation.relocateAt linkerRelocation.resetEntry linkerRelocation.resetExternalRelocations linkerRelocation.walk
     linkerRelocation.applyRelocationBatch linkerRelocation.batchIsResolved linkerExports.putUsable linkerExports.namedExport
     linkerExports.namedExports linkerExports.indexedExport linkerExports.indexedExports linkerExports.readSegments linkerExports.readModule
-    linkerImports.anonymousOf linkerImports.isUnresolved linkerImports.resolve linkerImports.noted linkerImports.importNamed
+    linkerImports.anonymousOf linkerImports.isUnresolved linkerImports.resolve linkerImports.addMissing linkerImports.importNamed
     linkerImports.applyImportNamedSymbols linkerImports.importFrom linkerImports.linkFrom linkerImports.importsOf linkerImports.moduleByName
     linkerImports.importModule linkerImports.applyModuleImports linkerImports.serveNamed linkerImports.serveModule linkerImports.serve
     linkerImports.applyExportsToLoaded linkerResets.reset linkerResets.resetAt linkerResets.resetNamed linkerResets.resetModule
@@ -66,9 +66,9 @@ unfolding
     linkerLists.newTail linkerLists.tailLeaves linkerLists.otherLeaves linkerLists.leaves linkerLists.unregister linkerFix.alignUp
     linkerFix.fixedTo linkerFix.fixPair linkerFix.fixFrom linkerFix.fix linkerUnrebase.offsetBack linkerUnrebase.leavesAs
     linkerUnrebase.unmoveFound linkerUnrebase.unmoveSegments linkerUnrebase.unrebase linkerCalls.number linkerCalls.value linkerCalls.relocate
-    linkerCalls.rebaseWith linkerCalls.rebase linkerCalls.rebaseStatic linkerCalls.fits linkerCalls.enter linkerCalls.initialized
+    linkerCalls.rebaseWith linkerCalls.rebase linkerCalls.rebaseStatic linkerCalls.fits linkerCalls.addRecord linkerCalls.initialized
     linkerCalls.initialize linkerCalls.listed linkerCalls.missingNow linkerCalls.linked linkerCalls.load linkerCalls.firstWithBase
-    linkerCalls.unlisted linkerCalls.leave linkerCalls.unload linkerOutcome.registerAfter linkerOutcome.settle linkerOutcome.outcome
+    linkerCalls.unlisted linkerCalls.leave linkerCalls.unload linkerOutcome.registerAfter linkerOutcome.outcomeOf linkerOutcome.callOutcome
     linkerOutcome.initializeOutcome linkerOutcome.loadOutcome linkerOutcome.unloadOutcome linkerLists.becomesHead linkerLists.becomesTail
     linkerFix.endTables linkerUnrebase.unmoveSegment
     sessions.given sessions.Fresh

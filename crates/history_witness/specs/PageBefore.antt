@@ -21,7 +21,7 @@ use Rattle.register.specs.Buffers.{encodeRecords, encodeNames, encodeMissing}
 use Rattle.linker_spec.specs.declared.call.Call.{Call}
 use Rattle.linker_spec.specs.Calls as calls
 use Rattle.linker_spec.specs.Calls.{Done}
-use Rattle.linker_spec.specs.Outcome.{Bytes, registerAfter, settle, outcome}
+use Rattle.linker_spec.specs.Outcome.{Buffers, registerAfter, outcomeOf, callOutcome}
 use Rattle.linker_spec.specs.Refusals.{lentRegister}
 use Rattle.history.specs.Sessions.{given}
 use Rattle.history.specs.Windows.{program, given-program}
@@ -127,7 +127,7 @@ run-pageBefore (writePrivileged p v k) w e h =
     let b = chosen (lies 4 p) (tried k (putPrivileged at w p v)) h in
     rw (upward-pageBefore 4 w p v e (b .0)) (run-pageBefore k (putPrivileged at w p v) (length-putPrivileged at w p v ∙ e) (b .1))
 
-abbrev pub lentPageBefore : Bytes → Bytes
+abbrev pub lentPageBefore : Buffers → Buffers
 lentPageBefore b = record { window = pageBefore (b .window); records = b .records; names = b .names; missing = b .missing }
 
 good-bt : (w : List ℕ) → length w ≡ 4096 → goodWindow bt (pageBefore w) ≡ true
@@ -135,7 +135,7 @@ unfolding goodWindow pageBefore
 good-bt w e = let n : length (pageBefore w) ≡ 8192 = length-append (zeros 4096) w ∙ rw e refl in rw n refl
 
 -- a call in the page alone: so many bytes of records and names, and what it comes to
-pub record Tried (c : Call) (b : Bytes) (records names v : ℕ) (r : Register) (w : List ℕ) : Type 0 where
+pub record Tried (c : Call) (b : Buffers) (records names v : ℕ) (r : Register) (w : List ℕ) : Type 0 where
   pub whole : length (b .window) ≡ 4096
   pub records-are : length (b .records) ≡ records
   pub names-are : length (b .names) ≡ names
@@ -143,14 +143,14 @@ pub record Tried (c : Call) (b : Bytes) (records names v : ℕ) (r : Register) (
   pub leads : tried (program c records names (lentRegister b)) (b .window) ≡ some (Done v r, w)
 
 -- a window, and the encoding of a register in so many bytes of records and names
-abbrev pub stored : ℕ → ℕ → Register → List ℕ → Bytes
+abbrev pub stored : ℕ → ℕ → Register → List ℕ → Buffers
 stored records names r w =
     record { window = w; records = encodeRecords records r; names = encodeNames names r; missing = encodeMissing r }
 
 pub given-pageBefore
-    : (c : Call) (b : Bytes) {records names v : ℕ} {r : Register} {w : List ℕ} → Tried c b records names v r w
+    : (c : Call) (b : Buffers) {records names v : ℕ} {r : Register} {w : List ℕ} → Tried c b records names v r w
     → given c bt (lentPageBefore b) ≡ record { number = 0; value = v; left = stored records names r (pageBefore w) }
-unfolding outcome settle registerAfter calls.number calls.value
+unfolding callOutcome outcomeOf registerAfter calls.number calls.value
 given-pageBefore c b {records} {names} h =
     given-program c bt (lentPageBefore b)
     ∙ rw (

@@ -9,8 +9,8 @@ use lib.ListN.{length}
 use Rattle.window.specs.Memory.{byteAt}
 use Rattle.window.specs.Within.{In}
 use Rattle.linker_spec.specs.Valid.{AreBytes}
-use Rattle.history.specs.Arrival.{Arrival, Image, baseOf, isCrs, Area}
-use Rattle.history.specs.Sessions.{Words, Between, Lends, Trace, comes, arrived, Areas, Fresh}
+use Rattle.history.specs.LoadedModule.{LoadedModule, Image, baseOf, isCrs, Area}
+use Rattle.history.specs.Sessions.{WordArguments, Between, Lends, Trace, comes, loadedModules, Areas, Fresh}
 use Rattle.history.specs.Outcomes.{Made, Promised}
 use Rattle.history.specs.Below.{Each}
 use Rattle.history.specs.Demand3.{InOrder, AutoLinked, ImportsKept, Premises}
@@ -47,7 +47,7 @@ fresh-b : Fresh (lentPageBefore d₀)
 unfolding opened shown
 fresh-b = (refl, refl)
 
-came-first : arrived (t₄ ∷ t₁ ∷ []) ≡ c ∷ []
+came-first : loadedModules (t₄ ∷ t₁ ∷ []) ≡ c ∷ []
 unfolding Each came brings comes
 came-first = came-are (t₄ ∷ t₁ ∷ []) (o₄, (o₁, tt))
 
@@ -66,8 +66,8 @@ others-write =
     record { register = (refl, refl, refl); length-kept = same-lengths; areas-kept = λ q h. first-kept q (rw came-first at h) }
 
 -- arguments are 32-bit numbers
-words-are : Words (t₁ .call) × Words (t₂ .call) × Words (t₃ .call) × Words (t₆ .call) × Words (t₇ .call) × Words (u₃ .call)
-unfolding Words
+words-are : WordArguments (t₁ .call) × WordArguments (t₂ .call) × WordArguments (t₃ .call) × WordArguments (t₆ .call) × WordArguments (t₇ .call) × WordArguments (u₃ .call)
+unfolding WordArguments
 words-are = omega arith
 
 pub trace-a : Trace at A
@@ -177,12 +177,12 @@ pub long
 unfolding opened shown pageBefore
 long = (refl, refl, refl, refl, refl)
 
-some-come : {a : Arrival} {S : List Arrival} → a ∷ S ≢ []
+some-come : {a : LoadedModule} {S : List LoadedModule} → a ∷ S ≢ []
 some-come {a} {S} e = let z : length (a ∷ S) ≡ 0 = ap length e in absurd (omega (arith, z))
 
 -- the CRS has another base than `n`
-abbrev NotCrs : Arrival → Type 0
-NotCrs a = isCrs (a .coming) ≡ true → baseOf (a .coming) ≢ 0x100420
+abbrev NotCrs : LoadedModule → Type 0
+NotCrs a = isCrs (a .loadCall) ≡ true → baseOf (a .loadCall) ≢ 0x100420
 
 others-base : Each NotCrs (c ∷ m ∷ n ∷ []) × Each NotCrs (c′ ∷ n′ ∷ m′ ∷ [])
 unfolding Each

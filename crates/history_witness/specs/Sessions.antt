@@ -14,9 +14,9 @@ use Rattle.window.specs.Within.{In}
 use Rattle.register.specs.Words.{flat}
 use Rattle.linker_spec.specs.declared.call.Call.{Call}
 use Rattle.linker_spec.specs.declared.call.Call.the-variants.{Initialize, Load, Unload}
-use Rattle.linker_spec.specs.Outcome.{Bytes, Outcome}
-use Rattle.history.specs.Arrival.{Coming, initialized, loaded, Arrival, Image, cut, imageOf, baseOf, sizeOf, Area, Lent-area}
-use Rattle.history.specs.Sessions.{Turn, comes, arrived, others, stay, standing}
+use Rattle.linker_spec.specs.Outcome.{Buffers, Outcome}
+use Rattle.history.specs.LoadedModule.{LoadCall, initialized, loaded, LoadedModule, Image, cut, imageOf, baseOf, sizeOf, Area, LentArea}
+use Rattle.history.specs.Sessions.{CallRecord, comes, loadedModules, others, stay, standing}
 use Rattle.history.specs.Below.{Each}
 use Rattle.history.specs.Demand3.{SameStanding, images}
 use Rattle.history_witness.specs.Image.{zeros, cro, c-words, m-words, n-words}
@@ -27,55 +27,55 @@ use Rattle.history_witness.specs.Exact.{Exact, came, stood, brings, came
 use Rattle.history_witness.specs.PageBefore.{at, bt, pageBefore, lentPageBefore}
 use Rattle.history_witness.specs.Computed.{page₀, page₁, page₄, small, large, b₀, b₁, b₂, b₃, d₀, d₁, d₂, d₃, d₄, short, wrong, done, shown, o₁, o₂, o₃, o₄, o₅, o₆, o₇, o₈, o₉, q₁, q₂, q₃, q₄, refused}
 
-abbrev turn : Call → ℕ → Bytes → Outcome → Turn
+abbrev turn : Call → ℕ → Buffers → Outcome → CallRecord
 turn c at b o = record { call = c; at = at; before = b; gave = o }
 
 -- before the CRS: a load of `m` while it has no magic word, and two calls that are lent what breaks a rule
-abbrev pub t₁ : Turn
+abbrev pub t₁ : CallRecord
 t₁ = turn (Load large 1 1) at b₀ (refused 1 b₀)
 
-abbrev pub t₂ : Turn
+abbrev pub t₂ : CallRecord
 t₂ = turn (Unload 0x100420) at short (refused 3 short)
 
-abbrev pub t₃ : Turn
+abbrev pub t₃ : CallRecord
 t₃ = turn (Initialize 0x100000 0x178) at wrong (refused 4 wrong)
 
 -- the CRS comes; others write the magic word; `m` comes; `n` comes; a load finds no room; `n` leaves, and an unload of its base then removes nothing
-abbrev pub t₄ : Turn
+abbrev pub t₄ : CallRecord
 t₄ = turn (Initialize 0x100000 0x178) at b₀ (done 0 (b₁ 0))
 
-abbrev pub t₅ : Turn
+abbrev pub t₅ : CallRecord
 t₅ = turn (Load large 1 1) at (b₁ cro) (done 0x210 b₂)
 
-abbrev pub t₆ : Turn
+abbrev pub t₆ : CallRecord
 t₆ = turn (Load (small 0x100420 0x168) 1 0) at b₂ (done 0 b₃)
 
-abbrev pub t₇ : Turn
+abbrev pub t₇ : CallRecord
 t₇ = turn (Load (small 0x100560 0x138) 1 0) at b₃ (refused 5 b₃)
 
-abbrev pub t₈ : Turn
+abbrev pub t₈ : CallRecord
 t₈ = turn (Unload 0x100420) at b₃ (done 1 b₂)
 
-abbrev pub t₉ : Turn
+abbrev pub t₉ : CallRecord
 t₉ = turn (Unload 0x100420) at b₂ (done 0 b₂)
 
-abbrev pub A : List Turn
+abbrev pub A : List CallRecord
 A = t₉ ∷ t₈ ∷ t₇ ∷ t₆ ∷ t₅ ∷ t₄ ∷ t₃ ∷ t₂ ∷ t₁ ∷ []
 
 -- on another window, in larger buffers: the CRS, `n` and `m` come, `m` with another auto-link parameter; `n` leaves
-abbrev pub u₁ : Turn
+abbrev pub u₁ : CallRecord
 u₁ = turn (Initialize 0x100000 0x178) bt (lentPageBefore d₀) (done 0 (lentPageBefore d₁))
 
-abbrev pub u₂ : Turn
+abbrev pub u₂ : CallRecord
 u₂ = turn (Load (small 0x100420 0x168) 1 0) bt (lentPageBefore d₁) (done 0 (lentPageBefore d₂))
 
-abbrev pub u₃ : Turn
+abbrev pub u₃ : CallRecord
 u₃ = turn (Load large 2 1) bt (lentPageBefore d₂) (done 0x210 (lentPageBefore d₃))
 
-abbrev pub u₄ : Turn
+abbrev pub u₄ : CallRecord
 u₄ = turn (Unload 0x100420) bt (lentPageBefore d₃) (done 1 (lentPageBefore d₄))
 
-abbrev pub B : List Turn
+abbrev pub B : List CallRecord
 B = u₄ ∷ u₃ ∷ u₂ ∷ u₁ ∷ []
 
 pub exact-a : Exact A
@@ -87,29 +87,29 @@ unfolding Each
 exact-b = (q₄, (q₃, (q₂, (q₁, tt))))
 
 -- what comes
-abbrev pub c : Arrival
-c = record { coming = initialized 0x100000 0x178; bytes = byteAt at (page₀ 0) }
+abbrev pub c : LoadedModule
+c = record { loadCall = initialized 0x100000 0x178; bytes = byteAt at (page₀ 0) }
 
-abbrev pub m : Arrival
-m = record { coming = loaded large true 1; bytes = byteAt at (page₁ cro) }
+abbrev pub m : LoadedModule
+m = record { loadCall = loaded large true 1; bytes = byteAt at (page₁ cro) }
 
-abbrev pub n : Arrival
-n = record { coming = loaded (small 0x100420 0x168) true 0; bytes = byteAt at (b₂ .window) }
+abbrev pub n : LoadedModule
+n = record { loadCall = loaded (small 0x100420 0x168) true 0; bytes = byteAt at (b₂ .window) }
 
-abbrev pub c′ : Arrival
-c′ = record { coming = initialized 0x100000 0x178; bytes = byteAt bt (pageBefore (page₀ cro)) }
+abbrev pub c′ : LoadedModule
+c′ = record { loadCall = initialized 0x100000 0x178; bytes = byteAt bt (pageBefore (page₀ cro)) }
 
-abbrev pub n′ : Arrival
-n′ = record { coming = loaded (small 0x100420 0x168) true 0; bytes = byteAt bt (pageBefore (page₁ cro)) }
+abbrev pub n′ : LoadedModule
+n′ = record { loadCall = loaded (small 0x100420 0x168) true 0; bytes = byteAt bt (pageBefore (page₁ cro)) }
 
-abbrev pub m′ : Arrival
-m′ = record { coming = loaded large true 1; bytes = byteAt bt (pageBefore page₄) }
+abbrev pub m′ : LoadedModule
+m′ = record { loadCall = loaded large true 1; bytes = byteAt bt (pageBefore page₄) }
 
-pub came-a : arrived A ≡ c ∷ m ∷ n ∷ []
+pub came-a : loadedModules A ≡ c ∷ m ∷ n ∷ []
 unfolding came brings comes
 came-a = came-are A exact-a
 
-pub came-b : arrived B ≡ c′ ∷ n′ ∷ m′ ∷ []
+pub came-b : loadedModules B ≡ c′ ∷ n′ ∷ m′ ∷ []
 unfolding came brings comes
 came-b = came-are B exact-b
 
@@ -126,20 +126,20 @@ abbrev file : List ℕ → ℕ → ℕ
 file words o = getD (flat words) o 0
 
 abbrev pub C : Image
-C = record { coming = initialized 0x100000 0x178; file = file c-words }
+C = record { loadCall = initialized 0x100000 0x178; file = file c-words }
 
 abbrev pub M : Image
-M = record { coming = loaded large true 1; file = file (m-words cro) }
+M = record { loadCall = loaded large true 1; file = file (m-words cro) }
 
 abbrev pub N : Image
-N = record { coming = loaded (small 0x100420 0x168) true 0; file = file n-words }
+N = record { loadCall = loaded (small 0x100420 0x168) true 0; file = file n-words }
 
 -- an image at place i of a window, read from its base on
 image-is
-    : (f : Coming) (at i s : ℕ) (w l : List ℕ) → place at (baseOf f) ≡ i → sizeOf f ≡ s → i + s ≤ 2 ^ 31 → take s (drop i w) ≡ l → length l ≡ s
-    → imageOf (record { coming = f; bytes = byteAt at w }) ≡ record { coming = f; file = λ o. getD l o 0 }
+    : (f : LoadCall) (at i s : ℕ) (w l : List ℕ) → place at (baseOf f) ≡ i → sizeOf f ≡ s → i + s ≤ 2 ^ 31 → take s (drop i w) ≡ l → length l ≡ s
+    → imageOf (record { loadCall = f; bytes = byteAt at w }) ≡ record { loadCall = f; file = λ o. getD l o 0 }
 unfolding cut byteAt place
-image-is f at i s w l b z h e len = ap (λ F. record { coming = f; file = F }) (fun-ext (λ o. go o (decLt o s)))
+image-is f at i s w l b z h e len = ap (λ F. record { loadCall = f; file = F }) (fun-ext (λ o. go o (decLt o s)))
   where
     go : (o : ℕ) → Dec (o < s) → cut f (byteAt at w) o ≡ getD l o 0
     go o (yes q) =
@@ -149,27 +149,27 @@ image-is f at i s w l b z h e len = ap (λ F. record { coming = f; file = F }) (
 
 pub c-is : imageOf c ≡ C
 unfolding opened shown
-c-is = image-is (c .coming) at 0 0x178 (page₀ 0) (flat c-words) refl refl (omega arith) refl refl
+c-is = image-is (c .loadCall) at 0 0x178 (page₀ 0) (flat c-words) refl refl (omega arith) refl refl
 
 pub m-is : imageOf m ≡ M
 unfolding opened shown
-m-is = image-is (m .coming) at 0x200 0x210 (page₁ cro) (flat (m-words cro)) refl refl (omega arith) refl refl
+m-is = image-is (m .loadCall) at 0x200 0x210 (page₁ cro) (flat (m-words cro)) refl refl (omega arith) refl refl
 
 pub n-is : imageOf n ≡ N
 unfolding opened shown
-n-is = image-is (n .coming) at 0x420 0x168 (b₂ .window) (flat n-words) refl refl (omega arith) refl refl
+n-is = image-is (n .loadCall) at 0x420 0x168 (b₂ .window) (flat n-words) refl refl (omega arith) refl refl
 
 pub c′-is : imageOf c′ ≡ C
 unfolding opened shown pageBefore
-c′-is = image-is (c′ .coming) bt 0x1000 0x178 (pageBefore (page₀ cro)) (flat c-words) refl refl (omega arith) refl refl
+c′-is = image-is (c′ .loadCall) bt 0x1000 0x178 (pageBefore (page₀ cro)) (flat c-words) refl refl (omega arith) refl refl
 
 pub n′-is : imageOf n′ ≡ N
 unfolding opened shown pageBefore
-n′-is = image-is (n′ .coming) bt 0x1420 0x168 (pageBefore (page₁ cro)) (flat n-words) refl refl (omega arith) refl refl
+n′-is = image-is (n′ .loadCall) bt 0x1420 0x168 (pageBefore (page₁ cro)) (flat n-words) refl refl (omega arith) refl refl
 
 pub m′-is : imageOf m′ ≡ M
 unfolding opened shown pageBefore
-m′-is = image-is (m′ .coming) bt 0x1200 0x210 (pageBefore page₄) (flat (m-words cro)) refl refl (omega arith) refl refl
+m′-is = image-is (m′ .loadCall) bt 0x1200 0x210 (pageBefore page₄) (flat (m-words cro)) refl refl (omega arith) refl refl
 
 pub images-a : images A ≡ C ∷ M ∷ N ∷ []
 images-a = ap (map imageOf) came-a ∙ rw (c-is, m-is, n-is) refl
@@ -214,7 +214,7 @@ carried
 carried u w i n q e l h = same-part u w i n q e l h ∙ sym (shifted w q (omega (arith, h), omega (arith, h)))
 
 same-m : (q : ℕ) → Area M q → byteAt at (page₁ cro) q ≡ byteAt bt (pageBefore page₄) q
-unfolding Area Lent-area
+unfolding Area LentArea
 same-m q (inl h) = carried (page₁ cro) page₄ 0x200 0x210 q (same-pages .2) (omega arith) h
 same-m q (inr (inl h)) = carried (page₁ cro) page₄ 0x5a0 0x10 q (same-pages .3) (omega arith) h
 same-m q (inr (inr h)) = carried (page₁ cro) page₄ 0x5b0 0x10 q (same-pages .4) (omega arith) h

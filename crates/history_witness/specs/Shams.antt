@@ -9,8 +9,8 @@ use lib.Dec.{eqb}
 use Rattle.window.specs.Memory.{if_then_else_, byteAt}
 use Rattle.linker_spec.specs.declared.call.Call.{Call}
 use Rattle.linker_spec.specs.declared.call.Call.the-variants.{Initialize, Load, Unload}
-use Rattle.linker_spec.specs.Outcome.{Bytes, Outcome, outcome}
-use Rattle.linker_spec.specs.Calls.{Answer, Kept, Done, Standing, unknown, stands, firstWithBase, unlisted, number}
+use Rattle.linker_spec.specs.Outcome.{Buffers, Outcome, callOutcome}
+use Rattle.linker_spec.specs.Calls.{Answer, NotLoaded, Done, FirstWithBase, unknown, stands, firstWithBase, unlisted, number}
 use Rattle.linker_spec.specs.Unrebase.{unrebase}
 use Rattle.window.specs.Access.{Prog, ret, _>>=_, _>>_}
 use Rattle.register.specs.Module.{Register}
@@ -23,9 +23,9 @@ use Rattle.layout.specs.declared.relocation.Patch.the-variants.{Word}
 use Rattle.layout.specs.declared.segments.Address.the-variants.{At, Nowhere}
 use Rattle.history.specs.Image.{externals, nameOf, tag, kind, addend}
 use Rattle.history.specs.Imports.{named, IsImport, wanted, Exports, Exporter, Holds}
-use Rattle.history.specs.Arrival.{Image, imageOf, address, handler, exportOf}
+use Rattle.history.specs.LoadedModule.{Image, imageOf, address, handler, exportOf}
 use Rattle.history.specs.Sessions as sessions
-use Rattle.history.specs.Sessions.{given, Turn, expected, unfit, own, comes, brought, arrived, others, stay, standing, Next, Trace}
+use Rattle.history.specs.Sessions.{given, CallRecord, expected, unfit, own, comes, brought, loadedModules, others, stay, standing, Next, Trace}
 use Rattle.history.specs.Outcomes.{Linker, Made, Follows}
 use Rattle.history.specs.Below.{Each}
 use Rattle.history.specs.Demand3.{Harmless, CrsFirst, InWindow, Premises, images, bytesLeft, bytesAfter, ImportClause, AllHold, Linked, Demand3}
@@ -44,29 +44,29 @@ abbrev two : List Image
 two = C ∷ M ∷ []
 
 -- the same call of the same bytes, which gave something else
-abbrev pub told : Turn → Outcome → Turn
+abbrev pub told : CallRecord → Outcome → CallRecord
 told t o = record { call = t .call; at = t .at; before = t .before; gave = o }
 
 -- that is still a session, and the premises are still met: they read the definition
-module _ (t : Turn) (ts : List Turn) (o : Outcome) where
+module _ (t : CallRecord) (ts : List CallRecord) (o : Outcome) where
   trace-told : (at : ℕ) → Trace at (t ∷ ts) → Trace at (told t o ∷ ts)
   unfolding Trace Next unfit
   trace-told at h = h
 
-  window-told : (b : Bool) (us : List Turn) (a : Image) → InWindow (if b then us else t ∷ us) a → InWindow (if b then us else told t o ∷ us) a
+  window-told : (b : Bool) (us : List CallRecord) (a : Image) → InWindow (if b then us else t ∷ us) a → InWindow (if b then us else told t o ∷ us) a
   unfolding InWindow
   window-told true us a h = h
   window-told false us a h = h
 
   windows-told
-      : (b : Bool) (us : List Turn) (S : List Image) → Each (InWindow (if b then us else t ∷ us)) S
+      : (b : Bool) (us : List CallRecord) (S : List Image) → Each (InWindow (if b then us else t ∷ us)) S
       → Each (InWindow (if b then us else told t o ∷ us)) S
   unfolding Each
   windows-told b us [] h = tt
   windows-told b us (a ∷ S) h = (window-told b us a (h .0), windows-told b us S (h .1))
 
   premises-told : Premises (t ∷ ts) → Premises (told t o ∷ ts)
-  unfolding Each Harmless CrsFirst arrived brought sessions.done own unfit
+  unfolding Each Harmless CrsFirst loadedModules brought sessions.done own unfit
   premises-told h =
       record {
         harmless = h .harmless;
@@ -94,30 +94,30 @@ module _ (t : Turn) (ts : List Turn) (o : Outcome) where
 
 -- no call at all
 none : Premises []
-unfolding Each arrived Ordered
+unfolding Each loadedModules Ordered
 none = premises-of [] [] tt refl (front [] three suits-three) tt tt tt
 
-gives : (L : Linker) (at : ℕ) (ts : List Turn) → Trace at ts → Made L ts → Premises ts → Demand3 L → Made Follows ts × Linked ts
+gives : (L : Linker) (at : ℕ) (ts : List CallRecord) → Trace at ts → Made L ts → Premises ts → Demand3 L → Made Follows ts × Linked ts
 unfolding Demand3 Trace Each
 gives L at ts x m p d = d at at ts [] x tt m tt p none .0
 
 -- the first calls of the session: before the CRS; the CRS; `m`; `n`; the refused load and the unload
-abbrev s₁ : List Turn
+abbrev s₁ : List CallRecord
 s₁ = t₁ ∷ []
 
-abbrev s₃ : List Turn
+abbrev s₃ : List CallRecord
 s₃ = t₃ ∷ t₂ ∷ s₁
 
-abbrev s₄ : List Turn
+abbrev s₄ : List CallRecord
 s₄ = t₄ ∷ s₃
 
-abbrev s₅ : List Turn
+abbrev s₅ : List CallRecord
 s₅ = t₅ ∷ s₄
 
-abbrev s₆ : List Turn
+abbrev s₆ : List CallRecord
 s₆ = t₆ ∷ s₅
 
-abbrev s₈ : List Turn
+abbrev s₈ : List CallRecord
 s₈ = t₈ ∷ t₇ ∷ s₆
 
 -- that each of them tells what the definition gives
@@ -142,7 +142,7 @@ unfolding Each
 exact₁ = exact₄ .1 .1 .1
 
 -- and meets the premises
-images-are : (ts : List Turn) {S : List Image} → Exact ts → map imageOf (came ts) ≡ S → images ts ≡ S
+images-are : (ts : List CallRecord) {S : List Image} → Exact ts → map imageOf (came ts) ≡ S → images ts ≡ S
 images-are ts e h = rw (came-are ts e) h
 
 premises₁ : Premises s₁
@@ -176,24 +176,24 @@ premises₈ =
     (crs-first-a .1) (windows-of t₈ _ 4096 three (long .3) windows-a)
 
 -- a linker that gives something else in the place of what the definition gives
-abbrev Change : Type 0
-Change = Call → Bytes → Outcome → Outcome
+abbrev Alteration : Type 0
+Alteration = Call → Buffers → Outcome → Outcome
 
-abbrev pub Sham : Change → Linker
+abbrev pub Sham : Alteration → Linker
 Sham g c at b o = o ≡ g c b (given c at b)
 
-abbrev changed : Change → Turn → Outcome
+abbrev changed : Alteration → CallRecord → Outcome
 changed g t = g (t .call) (t .before) (t .gave)
 
-module _ (g : Change) where
-  made-same : (ts : List Turn) → Exact ts → Each (λ t. changed g t ≡ t .gave) ts → Made (Sham g) ts
+module _ (g : Alteration) where
+  made-same : (ts : List CallRecord) → Exact ts → Each (λ t. changed g t ≡ t .gave) ts → Made (Sham g) ts
   unfolding Each
   made-same [] e h = tt
   made-same (t ∷ ts) e h = (sym (h .0) ∙ rw (← (e .0)) refl, made-same ts (e .1) (h .1))
 
   -- its last call is not what the definition gives
   by-outcome
-      : (t : Turn) (ts : List Turn) → Exact (t ∷ ts) → Trace at (t ∷ ts) → Premises (t ∷ ts) → Each (λ t. changed g t ≡ t .gave) ts
+      : (t : CallRecord) (ts : List CallRecord) → Exact (t ∷ ts) → Trace at (t ∷ ts) → Premises (t ∷ ts) → Each (λ t. changed g t ≡ t .gave) ts
       → (changed g t .number ≡ t .gave .number → changed g t .value ≡ t .gave .value → ⊥) → Demand3 (Sham g) → ⊥
   unfolding Each
   by-outcome t ts e x p s n d =
@@ -224,7 +224,7 @@ unfolding Trace
 trace₁ = trace₄ .2 .2 .2
 
 -- "one answering 5 while bytes are free": where a module would come
-unfoldable pub fullWhileFree : Change
+unfoldable pub fullWhileFree : Alteration
 fullWhileFree (Initialize base size) b o = if eqb (o .number) 0 then refused 5 b else o
 fullWhileFree (Load l auto level) b o = if eqb (o .number) 0 then refused 5 b else o
 fullWhileFree (Unload base) b o = o
@@ -234,7 +234,7 @@ unfolding fullWhileFree Each
 full-while-free-fails = by-outcome fullWhileFree t₄ s₃ exact₄ trace₄ premises₄ (refl, (refl, (refl, tt))) (λ e h. omega arith)
 
 -- "one inventing the fixed size"
-unfoldable pub inventedSize : Change
+unfoldable pub inventedSize : Alteration
 inventedSize (Initialize base size) b o = o
 inventedSize (Load l auto level) b o = record { number = o .number; value = if eqb (o .number) 0 then 4096 else 0; left = o .left }
 inventedSize (Unload base) b o = o
@@ -244,7 +244,7 @@ unfolding inventedSize Each
 invented-size-fails = by-outcome inventedSize t₅ s₄ exact₅ trace₅ premises₅ (refl, (refl, (refl, (refl, tt)))) (λ e h. omega arith)
 
 -- "one always returning 0; one always 2"
-unfoldable pub always : ℕ → Change
+unfoldable pub always : ℕ → Alteration
 always n c b o = record { number = n; value = o .value; left = o .left }
 
 pub always-0-fails : Demand3 (Sham (always 0)) → ⊥
@@ -257,23 +257,23 @@ always-2-fails = by-outcome (always 2) t₁ [] exact₁ trace₁ premises₁ tt 
 
 -- what the import clause says of a last call: of the modules that stand and the bytes that it leaves
 held
-    : (t : Turn) (ts : List Turn) (o : Outcome) (S : List Image) → Exact (t ∷ ts) → map imageOf (stood (t ∷ ts)) ≡ S
+    : (t : CallRecord) (ts : List CallRecord) (o : Outcome) (S : List Image) → Exact (t ∷ ts) → map imageOf (stood (t ∷ ts)) ≡ S
     → (eqb (t .gave .number) 3 || eqb (t .gave .number) 4) ≡ false → Linked (told t o ∷ ts) → AllHold S (byteAt (t .at) (o .left .window))
 unfolding Each Linked
 held t ts o S e i u l = rw (standing-told t ts o, stood-are (t ∷ ts) e, i, bytes-told t ts o (e .0) u) at (l .0)
 
 -- a linker that gives what f computes
-module _ (f : Call → ℕ → Bytes → Outcome) where
+module _ (f : Call → ℕ → Buffers → Outcome) where
   abbrev pub Computes : Linker
   Computes c at b o = o ≡ f c at b
 
-  made-computed : (ts : List Turn) → Each (λ t. f (t .call) (t .at) (t .before) ≡ t .gave) ts → Made Computes ts
+  made-computed : (ts : List CallRecord) → Each (λ t. f (t .call) (t .at) (t .before) ≡ t .gave) ts → Made Computes ts
   unfolding Each
   made-computed [] h = tt
   made-computed (t ∷ ts) h = (sym (h .0), made-computed ts (h .1))
 
   by-imports
-      : (t : Turn) (ts : List Turn) (o : Outcome) → Trace at (t ∷ ts) → Premises (t ∷ ts)
+      : (t : CallRecord) (ts : List CallRecord) (o : Outcome) → Trace at (t ∷ ts) → Premises (t ∷ ts)
       → Each (λ t. f (t .call) (t .at) (t .before) ≡ t .gave) (told t o ∷ ts) → (Linked (told t o ∷ ts) → ⊥) → Demand3 Computes → ⊥
   by-imports t ts o x p h u d =
       u (gives Computes at (told t o ∷ ts) (trace-told t ts o at x) (made-computed (told t o ∷ ts) h) (premises-told t ts o p) d .1)
@@ -312,20 +312,20 @@ no-exporter x h p e =
     omega arith
 
 -- "one that unloads without resetting": the program but for that line
-unfoldable pub leave : Register → ℕ → Standing → Prog Answer
-leave r base unknown = ret Kept
+unfoldable pub leave : Register → ℕ → FirstWithBase → Prog Answer
+leave r base unknown = ret NotLoaded
 leave r base (stands m k) = do
   unlisted (r .crs) base
   unrebase base
   ret (Done 1 (removed r k))
 
-unfoldable pub withoutResets : Call → ℕ → Bytes → Outcome
+unfoldable pub withoutResets : Call → ℕ → Buffers → Outcome
 withoutResets (Initialize base size) at b = given (Initialize base size) at b
 withoutResets (Load l auto level) at b = given (Load l auto level) at b
-withoutResets (Unload base) at b = outcome (λ records names r. leave r base (firstWithBase base (r .modules) 0)) at b
+withoutResets (Unload base) at b = callOutcome (λ records names r. leave r base (firstWithBase base (r .modules) 0)) at b
 
 -- what it leaves: the words of `g` are still those that `n` gave
-abbrev left₅ : Bytes
+abbrev left₅ : Buffers
 left₅ =
     stored 192 8 (register (c-module ∷ m-module ∷ []) ((0x67 ∷ []) ∷ []))
     (page c-linked (change ((0x088, 0) ∷ (0x08c, 0x100200) ∷ []) m-linked) n-words (lent-words 0x100584 0x100580))
@@ -358,7 +358,7 @@ without-resets-fails =
     (unload-left, (o₇, (o₆, (o₅, (o₄, (o₃, (unload-short, (o₁, tt)))))))) without-resets-unlinked
 
 -- "One patching a batch's first entry and marking it resolved": the second word of `g` is still the handler's
-abbrev left₆ : Bytes
+abbrev left₆ : Buffers
 left₆ =
     stored 192 8 (register (c-module ∷ m-module ∷ n-module ∷ []) ((0x67 ∷ []) ∷ []))
     (page c-linked (change ((0x208, 0x100408) ∷ []) m-linked) n-loaded (lent-words 0x100584 0x100580))

@@ -1,7 +1,7 @@
 -- All that the tests of images compute with, to be unfolded as one.
 use Rattle.window.specs.Mirror as mirror
 use Rattle.history.specs.Image as image
-use Rattle.history.specs.Arrival as arrival
+use Rattle.history.specs.LoadedModule as arrival
 use Rattle.history.specs.Imports as imports
 use Rattle.history_witness.specs.Tests as tests
 use Rattle.history_witness.specs.Laid as laid

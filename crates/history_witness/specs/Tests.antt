@@ -37,7 +37,7 @@ either true b h = inl refl
 either false b h = inr h
 
 -- two ranges, from l to before h and from k to before m: one ends before the other begins
-unfoldable pub apart : ℕ → ℕ → ℕ → ℕ → Bool
+unfoldable pub apart : (l h k m : ℕ) → Bool
 apart l h k m = leb h k || leb m l
 
 pub never-both : (l h k m o : ℕ) → apart l h k m ≡ true → l ≤ o → o < h → k ≤ o → o < m → ⊥

@@ -13,7 +13,7 @@ use Rattle.layout.specs.declared.segments.Address.the-variants.{At}
 use Rattle.register.specs.Words.{same}
 use Rattle.register.specs.Lists.{same-true, same-refl}
 use Rattle.history.specs.Image.{segments, namedExports, count, moduleName, fileSegment}
-use Rattle.history.specs.Arrival.{Coming, initialized, loaded, Image, baseOf, sizeOf, segmentPlace, Lent-area, Area, laterExport, exportName, exportAddress, exportAmong, exportOf}
+use Rattle.history.specs.LoadedModule.{LoadCall, initialized, loaded, Image, baseOf, sizeOf, segmentPlace, LentArea, Area, laterExport, exportName, exportAddress, exportAmong, exportOf}
 use Rattle.history.specs.Below.{Each, Pairs}
 use Rattle.history.specs.Demand3.{Apart, OtherName, OtherExports, ExportsOnce}
 use Rattle.history_witness.specs.Tests.{all, each, meets, nth, either, apart, never-both}
@@ -43,32 +43,32 @@ unequal a b h e =
 
 module _ (a : Image) where
   -- the ranges of its areas
-  unfoldable pub lent-ranges : Coming → (ℕ → ℕ → Bool) → Bool
+  unfoldable pub lent-ranges : LoadCall → (ℕ → ℕ → Bool) → Bool
   lent-ranges (initialized base size) f = all (count (a .file) segments) (λ i. f (segmentPlace a i) (fileSegment (a .file) i .size))
-  lent-ranges (loaded l auto level) f = meets (f (l .«data_at») (l .«data_size») ∷ f (l .«bss_at») (l .«bss_size») ∷ [])
+  lent-ranges (loaded l auto level) f = meets (f (l .«data_segment») (l .«data_segment_size») ∷ f (l .«bss_segment») (l .«bss_segment_size») ∷ [])
 
   unfoldable pub ranges : (ℕ → ℕ → Bool) → List Bool
-  ranges f = f (baseOf (a .coming)) (sizeOf (a .coming)) ∷ lent-ranges (a .coming) f ∷ []
+  ranges f = f (baseOf (a .loadCall)) (sizeOf (a .loadCall)) ∷ lent-ranges (a .loadCall) f ∷ []
 
-  abbrev Found : (ℕ → ℕ → Bool) → ℕ → Type 0
-  Found f q = (l : ℕ) × (n : ℕ) × (f l n ≡ true) × In l n q
+  abbrev Covered : (ℕ → ℕ → Bool) → ℕ → Type 0
+  Covered f q = (l : ℕ) × (n : ℕ) × (f l n ≡ true) × In l n q
 
-  each-lent : (f : ℕ → ℕ → Bool) (c : Coming) → lent-ranges c f ≡ true → (q : ℕ) → Lent-area a c q → Found f q
-  unfolding lent-ranges Lent-area
+  each-lent : (f : ℕ → ℕ → Bool) (c : LoadCall) → lent-ranges c f ≡ true → (q : ℕ) → LentArea a c q → Covered f q
+  unfolding lent-ranges LentArea
   each-lent f (initialized base size) h q i =
       (_, _, each _ (λ i. f (segmentPlace a i) (fileSegment (a .file) i .size)) h (i .0) (i .1), i .2)
   each-lent f (loaded l auto level) h q (inl i) =
-      (_, _, nth (f (l .«data_at») (l .«data_size») ∷ f (l .«bss_at») (l .«bss_size») ∷ []) h 0, i)
+      (_, _, nth (f (l .«data_segment») (l .«data_segment_size») ∷ f (l .«bss_segment») (l .«bss_segment_size») ∷ []) h 0, i)
   each-lent f (loaded l auto level) h q (inr i) =
-      (_, _, nth (f (l .«data_at») (l .«data_size») ∷ f (l .«bss_at») (l .«bss_size») ∷ []) h 1, i)
+      (_, _, nth (f (l .«data_segment») (l .«data_segment_size») ∷ f (l .«bss_segment») (l .«bss_segment_size») ∷ []) h 1, i)
 
-  pub each-range : (f : ℕ → ℕ → Bool) → meets (ranges f) ≡ true → (q : ℕ) → Area a q → Found f q
+  pub each-range : (f : ℕ → ℕ → Bool) → meets (ranges f) ≡ true → (q : ℕ) → Area a q → Covered f q
   unfolding ranges Area
   each-range f h q (inl i) = (_, _, nth (ranges f) h 0, i)
-  each-range f h q (inr i) = each-lent f (a .coming) (nth (ranges f) h 1) q i
+  each-range f h q (inr i) = each-lent f (a .loadCall) (nth (ranges f) h 1) q i
 
   -- all in n bytes from p on
-  abbrev covers : ℕ → ℕ → ℕ → ℕ → Bool
+  abbrev covers : (p n l k : ℕ) → Bool
   covers p n l k = eqb k 0 || (leb p l && leb (l + k) (p + n))
 
   unfoldable pub in-test : ℕ → ℕ → Bool
@@ -89,19 +89,19 @@ module _ (a : Image) where
           (omega arith, omega arith)
 
   -- an export's name is the name of one of the table
-  abbrev Named : ℕ → List ℕ → Type 0
-  Named n name = (i : ℕ) × (i < n) × (name ≡ exportName a i)
+  abbrev ExportNamed : ℕ → List ℕ → Type 0
+  ExportNamed n name = (i : ℕ) × (i < n) × (name ≡ exportName a i)
 
-  more : (n : ℕ) (name : List ℕ) → Named n name → Named (suc n) name
+  more : (n : ℕ) (name : List ℕ) → ExportNamed n name → ExportNamed (suc n) name
   more n name (i, l, e) = (i, omega arith, e)
 
-  export-named : (n : ℕ) (name : List ℕ) (p : ℕ) → exportAmong a n name ≡ At p → Named n name
+  export-named : (n : ℕ) (name : List ℕ) (p : ℕ) → exportAmong a n name ≡ At p → ExportNamed n name
   unfolding exportAmong laterExport
   export-named zero name p h = let z : _≡_ {A = ℕ} 0 1 = cc in absurd (omega arith)
   export-named (suc n) name p h = go (λ g. export-named n name p g) (same name (exportName a n)) refl h
     where
-      go : (exportAmong a n name ≡ At p → Named n name) → (b : Bool) → same name (exportName a n) ≡ b
-          → laterExport b (exportAddress a n) (exportAmong a n name) ≡ At p → Named (suc n) name
+      go : (exportAmong a n name ≡ At p → ExportNamed n name) → (b : Bool) → same name (exportName a n) ≡ b
+          → laterExport b (exportAddress a n) (exportAmong a n name) ≡ At p → ExportNamed (suc n) name
       go f true s g = (n, omega arith, same-true name (exportName a n) s)
       go f false s g = more n name (f g)
 

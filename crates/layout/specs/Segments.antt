@@ -19,11 +19,11 @@ use Rattle.layout.specs.declared.segments.Address.the-variants.{At, Nowh
 unfoldable pub field : ℕ → ℕ → Prog ℕ
 field base x = get32 (base ⊕ x)
 
-unfoldable pub setField : ℕ → ℕ → ℕ → Prog (Unit {0})
+unfoldable pub setField : (base x v : ℕ) → Prog (Unit {0})
 setField base x v = put32 (base ⊕ x) v
 
 -- "32-bit sums and products wrap": entry i of a table
-abbrev pub entryAt : ℕ → ℕ → ℕ → ℕ
+abbrev pub entryAt : (table i size : ℕ) → ℕ
 entryAt table i size = (table + i * size) % 2 ^ 32
 
 -- the three words of a segment's entry, read and written back
@@ -85,7 +85,7 @@ unfolding field Reads
 field-reads base x = λ v. tt
 
 -- where the entry of segment i stands, and what stands there
-abbrev pub segmentPlace : ℕ → List ℕ → ℕ → ℕ → ℕ
+abbrev pub segmentPlace : (at : ℕ) → List ℕ → (base i : ℕ) → ℕ
 segmentPlace at w base i = entryAt (wordAt at w (base ⊕ segmentTableOffset)) i segmentEntrySize
 
 abbrev pub segmentAt : ℕ → List ℕ → ℕ → Segment

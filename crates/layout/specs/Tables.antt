@@ -25,9 +25,9 @@ tableEntrySizes =
     ∷ []
 
 -- a table whose entries hold pointers: its field, count field, entry size, number of pointers, and where in an entry they are
-abbrev pub pointerTable : ℕ → ℕ → ℕ → ℕ → ℕ → ℕ → ℕ → PointerTable
-pointerTable t c s n a b d =
-    record { table = t; count = c; «entry_size» = s; pointers = n; first = a; second = b; third = d }
+abbrev pub pointerTable : (table count entrySize pointers first second third : ℕ) → PointerTable
+pointerTable table count entrySize pointers first second third =
+    record { table = table; count = count; «entry_size» = entrySize; pointers = pointers; first = first; second = second; third = third }
 
 -- its words, in this order
 abbrev pub pointerWords : PointerTable → List ℕ

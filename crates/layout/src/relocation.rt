@@ -10,7 +10,7 @@ pub enum Patch {
     Nothing,
 }
 
-pub fn relocated_word(kind: RelocationType, addend: u32, symbol: u32, target_final: u32) -> Patch
+fn relocated_word(kind: RelocationType, addend: u32, symbol: u32, target_final: u32) -> Patch
     ensures { λ r. ⌜ r ≡ relocatedWord kind addend symbol «target_final» ⌝ }
 {
     match kind {

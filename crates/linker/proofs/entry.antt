@@ -1,2 +1,2 @@
--- The laws behind the proofs of `linker::entry`.
+-- What the proofs of `linker::entry` share.
 pub mod Laws

@@ -1,2 +1,2 @@
--- What ties the code to the definitions.
+-- What the proofs of `linker::exports` share.
 pub mod Laws

@@ -1,2 +1,2 @@
--- What the proofs of `linker` share.
+-- What the proofs of `linker::fix` share.
 pub mod Laws

@@ -1,4 +1,4 @@
--- The laws behind the proofs of `linker::imports`.
+-- What the proofs of `linker::imports` share.
 pub mod Laws
 pub mod Missing
 pub mod Walks

@@ -1,2 +1,2 @@
--- What the proofs of `linker` share.
+-- What the proofs of `linker::lists` share.
 pub mod Laws

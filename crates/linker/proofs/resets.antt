@@ -1,3 +1,3 @@
--- The laws behind the proofs of `linker::resets`.
+-- What the proofs of `linker::resets` share.
 pub mod Laws
 pub mod Walks

@@ -1,2 +1,2 @@
--- The laws behind the proofs of `linker::sources`.
+-- What the proofs of `linker::sources` share.
 pub mod Laws

@@ -1,3 +1,4 @@
+-- What only `linker`'s own contracts and proofs cite, a folder a module of the code. The steps themselves are defined in `linker_spec`.
 pub mod Relocation
 pub mod Sources
 pub mod Imports

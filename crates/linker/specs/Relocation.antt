@@ -1,2 +1,2 @@
--- The definitions that only helpers of `linker` cite.
+-- What the contracts of `linker::relocation` cite.
 pub mod Entry

@@ -1,15 +1,15 @@
 // The three calls of the title's loader, for any bytes lent: `initialize`, `load` and `unload`.
 // Each answers a number, and lends its value through `value`; a call that answers 1 to 5 leaves the register as it was.
 // `touched` becomes 1 where an access had a byte outside the window, and `first` where the first such access started.
-pub(crate) mod traced;
+mod traced;
 
 ghost use mathlib.Core.Path.{_≡_};
 ghost use Rattle.window.specs.Trace.{touchOf};
 ghost use Rattle.linker_spec.specs.Outcome.{initializeOutcome, loadOutcome, unloadOutcome};
 ghost use Rattle.linker_spec.specs.Touches.{initializeTouches, loadTouches, unloadTouches};
-ghost use Rattle.linker.specs.Calls.Steps.{lent, left, toLoad};
-use crate::entry::tested;
-use linker_spec::rebase::Lent;
+ghost use Rattle.linker.specs.Calls.Steps.{buffers, outcome, loadArguments};
+use crate::entry::refusal_of_buffers;
+use linker_spec::rebase::LoadArguments;
 
 // No value and no touch, whatever the call before left in their places.
 fn clear(value: &mut u32, touched: &mut u32, first: &mut u32)
@@ -42,20 +42,20 @@ pub extern "C" fn initialize(
     touched: &mut u32,
     first: &mut u32,
 ) -> u32
-    ensures { λ r. ⌜ left r (now (value .exit)) (lent (now (window .exit)) (now (records .exit)) (now (names .exit)) (now (missing .exit)))
+    ensures { λ r. ⌜ outcome r (now (value .exit)) (buffers (now (window .exit)) (now (records .exit)) (now (names .exit)) (now (missing .exit)))
         ≡ initializeOutcome base size at
-        (lent (now (window .entry)) (now (records .entry)) (now (names .entry)) (now (missing .entry))) ⌝ }
+        (buffers (now (window .entry)) (now (records .entry)) (now (names .entry)) (now (missing .entry))) ⌝ }
     ensures touches { λ _. ⌜ (now (touched .exit), now (first .exit))
         ≡ initializeTouches base size at
-        (lent (now (window .entry)) (now (records .entry)) (now (names .entry)) (now (missing .entry))) ⌝ }
+        (buffers (now (window .entry)) (now (records .entry)) (now (names .entry)) (now (missing .entry))) ⌝ }
 {
     clear(value, touched, first);
-    let refused = tested(at, window, records, names, missing);
+    let refused = refusal_of_buffers(at, window, records, names, missing);
     if refused != 0 {
         return refused;
     }
     let mut trace = [0u8; 16];
-    let number = traced::initialize(
+    let initialized = traced::initialize(
         at,
         window,
         &mut trace[..],
@@ -67,7 +67,7 @@ pub extern "C" fn initialize(
         value,
     );
     tell(&trace[..], touched, first);
-    number
+    initialized
 }
 
 // Loads a module: links it, and gives as value how much of it is left.
@@ -80,38 +80,38 @@ pub extern "C" fn load(
     missing: &mut [u8],
     base: u32,
     size: u32,
-    data_at: u32,
-    data_size: u32,
-    bss_at: u32,
-    bss_size: u32,
+    data_segment: u32,
+    data_segment_size: u32,
+    bss_segment: u32,
+    bss_segment_size: u32,
     auto_link: u32,
-    level: u32,
+    fix_level: u32,
     value: &mut u32,
     touched: &mut u32,
     first: &mut u32,
 ) -> u32
-    ensures { λ r. ⌜ left r (now (value .exit)) (lent (now (window .exit)) (now (records .exit)) (now (names .exit)) (now (missing .exit)))
-        ≡ loadOutcome (toLoad base size «data_at» «data_size» «bss_at» «bss_size») «auto_link» level at
-        (lent (now (window .entry)) (now (records .entry)) (now (names .entry)) (now (missing .entry))) ⌝ }
+    ensures { λ r. ⌜ outcome r (now (value .exit)) (buffers (now (window .exit)) (now (records .exit)) (now (names .exit)) (now (missing .exit)))
+        ≡ loadOutcome (loadArguments base size «data_segment» «data_segment_size» «bss_segment» «bss_segment_size») «auto_link» «fix_level» at
+        (buffers (now (window .entry)) (now (records .entry)) (now (names .entry)) (now (missing .entry))) ⌝ }
     ensures touches { λ _. ⌜ (now (touched .exit), now (first .exit))
-        ≡ loadTouches (toLoad base size «data_at» «data_size» «bss_at» «bss_size») «auto_link» level at
-        (lent (now (window .entry)) (now (records .entry)) (now (names .entry)) (now (missing .entry))) ⌝ }
+        ≡ loadTouches (loadArguments base size «data_segment» «data_segment_size» «bss_segment» «bss_segment_size») «auto_link» «fix_level» at
+        (buffers (now (window .entry)) (now (records .entry)) (now (names .entry)) (now (missing .entry))) ⌝ }
 {
     clear(value, touched, first);
-    let refused = tested(at, window, records, names, missing);
+    let refused = refusal_of_buffers(at, window, records, names, missing);
     if refused != 0 {
         return refused;
     }
     let mut trace = [0u8; 16];
-    let given = Lent {
+    let given = LoadArguments {
         base,
         size,
-        data_at,
-        data_size,
-        bss_at,
-        bss_size,
+        data_segment,
+        data_segment_size,
+        bss_segment,
+        bss_segment_size,
     };
-    let number = traced::load(
+    let loaded = traced::load(
         at,
         window,
         &mut trace[..],
@@ -120,11 +120,11 @@ pub extern "C" fn load(
         missing,
         given,
         auto_link,
-        level,
+        fix_level,
         value,
     );
     tell(&trace[..], touched, first);
-    number
+    loaded
 }
 
 // Unloads the first module with that base: the modules that linked on their own no longer use it, and its record is gone.
@@ -141,20 +141,20 @@ pub extern "C" fn unload(
     touched: &mut u32,
     first: &mut u32,
 ) -> u32
-    ensures { λ r. ⌜ left r (now (value .exit)) (lent (now (window .exit)) (now (records .exit)) (now (names .exit)) (now (missing .exit)))
+    ensures { λ r. ⌜ outcome r (now (value .exit)) (buffers (now (window .exit)) (now (records .exit)) (now (names .exit)) (now (missing .exit)))
         ≡ unloadOutcome base at
-        (lent (now (window .entry)) (now (records .entry)) (now (names .entry)) (now (missing .entry))) ⌝ }
+        (buffers (now (window .entry)) (now (records .entry)) (now (names .entry)) (now (missing .entry))) ⌝ }
     ensures touches { λ _. ⌜ (now (touched .exit), now (first .exit))
         ≡ unloadTouches base at
-        (lent (now (window .entry)) (now (records .entry)) (now (names .entry)) (now (missing .entry))) ⌝ }
+        (buffers (now (window .entry)) (now (records .entry)) (now (names .entry)) (now (missing .entry))) ⌝ }
 {
     clear(value, touched, first);
-    let refused = tested(at, window, records, names, missing);
+    let refused = refusal_of_buffers(at, window, records, names, missing);
     if refused != 0 {
         return refused;
     }
     let mut trace = [0u8; 16];
-    let number = traced::unload(
+    let unloaded = traced::unload(
         at,
         window,
         &mut trace[..],
@@ -165,5 +165,5 @@ pub extern "C" fn unload(
         value,
     );
     tell(&trace[..], touched, first);
-    number
+    unloaded
 }

@@ -3,8 +3,8 @@ ghost use mathlib.Core.Path.{_≡_};
 ghost use Rattle.window.specs.Memory.{goodWindow};
 ghost use Rattle.register.specs.Decode.{isRegister};
 ghost use Rattle.register.specs.Read.Read.{Encoded};
-ghost use Rattle.linker.specs.Entry.Entry.{tested, entered};
-use crate::exports::Indexed;
+ghost use Rattle.linker.specs.Entry.Entry.{refusalOfBuffers, recordAdded};
+use crate::exports::IndexResult;
 use crate::exports::index_exports;
 use crate::relocation::reset_external_relocations;
 use crate::touches::touch_module;
@@ -12,8 +12,14 @@ use linker_spec::rebase::Rebased;
 use register_test::is_register;
 
 // The tests that come first: 3 where the window breaks its rule, then 4 where the buffers are no register.
-pub fn tested(at: u32, w: &[u8], records: &[u8], names: &[u8], missing: &[u8]) -> u32
-    ensures { λ r. ⌜ r ≡ tested (goodWindow at (now (w .entry))) (isRegister (now (records .entry)) (now (names .entry)) (now (missing .entry))) ⌝ }
+pub(crate) fn refusal_of_buffers(
+    at: u32,
+    w: &[u8],
+    records: &[u8],
+    names: &[u8],
+    missing: &[u8],
+) -> u32
+    ensures { λ r. ⌜ r ≡ refusalOfBuffers (goodWindow at (now (w .entry))) (isRegister (now (records .entry)) (now (names .entry)) (now (missing .entry))) ⌝ }
 {
     if !window::good_window(at, w) {
         return 3;
@@ -26,7 +32,7 @@ pub fn tested(at: u32, w: &[u8], records: &[u8], names: &[u8], missing: &[u8]) -
 
 // Gives a rebased module its record: 0, or the number of what hinders it. What the Rust reads for a record is touched in
 // its order once the record stands: with 5 nothing of it counts.
-pub fn enter(
+pub(crate) fn add_record(
     at: u32,
     w: &mut [u8],
     trace: &mut [u8],
@@ -39,7 +45,7 @@ pub fn enter(
 ) -> u32
     requires { ⌜ Encoded (now records) (now names) ⌝ }
     ensures { λ r. ⌜ (r, (now (w .exit), now (trace .exit)), now (records .exit), now (names .exit))
-        ≡ entered at (now (records .entry)) (now (names .entry)) base size «auto_link» rebased (now (w .entry), now (trace .entry)) ⌝ }
+        ≡ recordAdded at (now (records .entry)) (now (names .entry)) base size «auto_link» rebased (now (w .entry), now (trace .entry)) ⌝ }
 {
     match rebased {
         Rebased::NotACro => 1,
@@ -47,8 +53,8 @@ pub fn enter(
         Rebased::Done => {
             reset_external_relocations(at, w, trace, base);
             match index_exports(at, w, records, names, base, size, auto_link) {
-                Indexed::NoRoom => 5,
-                Indexed::Appended => {
+                IndexResult::NoRoom => 5,
+                IndexResult::Appended => {
                     touch_module(at, w, trace, base);
                     0
                 }

@@ -11,12 +11,12 @@ ghost use Rattle.register.specs.Change.{appended};
 ghost use Rattle.register.specs.Read.Read.{Encoded};
 ghost use Rattle.linker_spec.specs.Exports.{namedExports, indexedExports, readSegments, readModule};
 ghost use Rattle.linker.specs.Record.Read.{headerWord, segmentsTo, namedTo, indexedTo};
-ghost use Rattle.linker.specs.Exports.Modules.{withSegments, withNamed, withIndexeds, Turns, Bare, Unindexed, Empty, Any};
+ghost use Rattle.linker.specs.Exports.Modules.{withSegments, withNamed, withIndexeds, DraftStep, Bare, Unindexed, EmptyModule, AnyModule};
 ghost use Rattle.linker.specs.Exports.Exported.{registerIn, entryAnswer, exported, registerWith};
 use crate::record::at_most_16;
 use crate::record::begin;
 use crate::record::indexed_address;
-use crate::record::kept;
+use crate::record::keep_or_give_up;
 use crate::record::put_named;
 use crate::record::segment_offset;
 use layout::fields::entry_address;
@@ -31,7 +31,7 @@ use register::append::draft::Draft;
 use register::append::draft::Drafted;
 
 // Whether the module has its record.
-pub enum Indexed {
+pub(crate) enum IndexResult {
     Appended,
     NoRoom,
 }
@@ -46,13 +46,13 @@ fn add_segment(
     names: &mut [u8],
     before: Draft,
 ) -> Drafted
-    ensures { λ r. ⌜ Turns Bare (λ m. withSegments m (segmentsTo at (now (w .entry)) base i))
+    ensures { λ r. ⌜ DraftStep Bare (λ m. withSegments m (segmentsTo at (now (w .entry)) base i))
         (λ m. withSegments m (segmentsTo at (now (w .entry)) base (i + 1)))
         before (now (records .entry)) (now (names .entry)) r (now (records .exit)) (now (names .exit)) ⌝ }
 {
     let address = segment_offset(at, w, base, i);
     let after = draft::push_segment(records, before, address);
-    kept(records, names, before, after)
+    keep_or_give_up(records, names, before, after)
 }
 
 // Adds the segments.
@@ -64,7 +64,7 @@ fn add_segments(
     names: &mut [u8],
     before: Draft,
 ) -> Drafted
-    ensures { λ r. ⌜ Turns Bare (λ m. withSegments m []) (λ m. withSegments m (run at (readSegments base) (now (w .entry)) .0))
+    ensures { λ r. ⌜ DraftStep Bare (λ m. withSegments m []) (λ m. withSegments m (run at (readSegments base) (now (w .entry)) .0))
         before (now (records .entry)) (now (names .entry)) r (now (records .exit)) (now (names .exit)) ⌝ }
 {
     let count = at_most_16(peek::field(at, w, base, header::SEGMENT_NUM));
@@ -96,13 +96,13 @@ fn add_indexed(
     before: Draft,
 ) -> Drafted
     ensures { λ r. ⌜ (table ≡ headerWord at (now (w .entry)) base exportIndexedSymbolTableOffset
-        → Turns Any (λ m. withIndexeds m (indexedTo at (now (w .entry)) base i)) (λ m. withIndexeds m (indexedTo at (now (w .entry)) base (i + 1)))
+        → DraftStep AnyModule (λ m. withIndexeds m (indexedTo at (now (w .entry)) base i)) (λ m. withIndexeds m (indexedTo at (now (w .entry)) base (i + 1)))
         before (now (records .entry)) (now (names .entry)) r (now (records .exit)) (now (names .exit))) ⌝ }
 {
     let entry = entry_address(table, i, EXPORT_INDEXED_SYMBOL_ENTRY_SIZE);
     let address = indexed_address(at, w, base, entry);
     let after = draft::push_indexed(records, before, address);
-    kept(records, names, before, after)
+    keep_or_give_up(records, names, before, after)
 }
 
 // Adds the indexed exports.
@@ -114,7 +114,7 @@ fn add_all_indexed(
     names: &mut [u8],
     before: Draft,
 ) -> Drafted
-    ensures { λ r. ⌜ Turns Any (λ m. withIndexeds m []) (λ m. withIndexeds m (run at (indexedExports base) (now (w .entry)) .0))
+    ensures { λ r. ⌜ DraftStep AnyModule (λ m. withIndexeds m []) (λ m. withIndexeds m (run at (indexedExports base) (now (w .entry)) .0))
         before (now (records .entry)) (now (names .entry)) r (now (records .exit)) (now (names .exit)) ⌝ }
 {
     let table = peek::field(at, w, base, header::EXPORT_INDEXED_SYMBOL_TABLE_OFFSET);
@@ -147,7 +147,7 @@ fn add_named(
     before: Draft,
 ) -> Drafted
     ensures { λ r. ⌜ (table ≡ headerWord at (now (w .entry)) base exportNamedSymbolTableOffset
-        → Turns Unindexed (λ m. withNamed m (namedTo at (now (w .entry)) base i)) (λ m. withNamed m (namedTo at (now (w .entry)) base (i + 1)))
+        → DraftStep Unindexed (λ m. withNamed m (namedTo at (now (w .entry)) base i)) (λ m. withNamed m (namedTo at (now (w .entry)) base (i + 1)))
         before (now (records .entry)) (now (names .entry)) r (now (records .exit)) (now (names .exit))) ⌝ }
 {
     let entry = entry_address(table, i, EXPORT_NAMED_SYMBOL_ENTRY_SIZE);
@@ -168,7 +168,7 @@ fn add_all_named(
     names: &mut [u8],
     before: Draft,
 ) -> Drafted
-    ensures { λ r. ⌜ Turns Unindexed (λ m. withNamed m []) (λ m. withNamed m (run at (namedExports base) (now (w .entry)) .0))
+    ensures { λ r. ⌜ DraftStep Unindexed (λ m. withNamed m []) (λ m. withNamed m (run at (namedExports base) (now (w .entry)) .0))
         before (now (records .entry)) (now (names .entry)) r (now (records .exit)) (now (names .exit)) ⌝ }
 {
     let table = peek::field(at, w, base, header::EXPORT_NAMED_SYMBOL_TABLE_OFFSET);
@@ -198,7 +198,7 @@ fn add_lists(
     names: &mut [u8],
     before: Draft,
 ) -> Drafted
-    ensures { λ r. ⌜ Turns Empty (λ m. m) (λ m. withIndexeds (withNamed (withSegments m (run at (readSegments base) (now (w .entry)) .0))
+    ensures { λ r. ⌜ DraftStep EmptyModule (λ m. m) (λ m. withIndexeds (withNamed (withSegments m (run at (readSegments base) (now (w .entry)) .0))
         (run at (namedExports base) (now (w .entry)) .0)) (run at (indexedExports base) (now (w .entry)) .0))
         before (now (records .entry)) (now (names .entry)) r (now (records .exit)) (now (names .exit)) ⌝ }
 {
@@ -212,7 +212,7 @@ fn add_lists(
 }
 
 // Reads the module at base into a new record of a register that records and names encode.
-pub fn index_exports(
+pub(crate) fn index_exports(
     at: u32,
     w: &[u8],
     records: &mut [u8],
@@ -220,7 +220,7 @@ pub fn index_exports(
     base: u32,
     size: u32,
     auto_link: bool,
-) -> Indexed
+) -> IndexResult
     requires { ⌜ Encoded (now records) (now names) ⌝ }
     ensures { λ r. ⌜ (let old = registerIn (now (records .entry)) (now (names .entry)) in
         let m = run at (readModule base size «auto_link») (now (w .entry)) .0 in
@@ -231,11 +231,11 @@ pub fn index_exports(
         ≡ registerWith (now (records .entry)) (now (names .entry)) (registerOf (now (records .entry)) (now (names .entry)) missing) m))) ⌝ }
 {
     let Drafted::Open(first) = begin(at, w, base, size, auto_link, records, names) else {
-        return Indexed::NoRoom;
+        return IndexResult::NoRoom;
     };
     let Drafted::Open(last) = add_lists(at, w, base, records, names, first) else {
-        return Indexed::NoRoom;
+        return IndexResult::NoRoom;
     };
     draft::finish_record(records, last);
-    Indexed::Appended
+    IndexResult::Appended
 }

@@ -132,10 +132,17 @@ fn fix_from(at: u32, w: &mut [u8], trace: &mut [u8], base: u32, size: u32, barri
 }
 
 // Drops the tables that a level of 1, 2 or 3 says, and gives how much of the module is left; 0 at any other level.
-pub fn fix(at: u32, w: &mut [u8], trace: &mut [u8], base: u32, size: u32, level: u32) -> u32
-    ensures { λ r. ⌜ (r, (now (w .exit), now (trace .exit))) ≡ runT at (fix base size level) (now (w .entry), now (trace .entry)) ⌝ }
+pub(crate) fn fix(
+    at: u32,
+    w: &mut [u8],
+    trace: &mut [u8],
+    base: u32,
+    size: u32,
+    fix_level: u32,
+) -> u32
+    ensures { λ r. ⌜ (r, (now (w .exit), now (trace .exit))) ≡ runT at (fix base size «fix_level») (now (w .entry), now (trace .entry)) ⌝ }
 {
-    if level == 1 {
+    if fix_level == 1 {
         return fix_from(
             at,
             w,
@@ -145,10 +152,10 @@ pub fn fix(at: u32, w: &mut [u8], trace: &mut [u8], base: u32, size: u32, level:
             STATIC_ANONYMOUS_SYMBOL_TABLE_OFFSET,
         );
     }
-    if level == 2 {
+    if fix_level == 2 {
         return fix_from(at, w, trace, base, size, IMPORT_MODULE_TABLE_OFFSET);
     }
-    if level == 3 {
+    if fix_level == 3 {
         return fix_from(at, w, trace, base, size, EXPORT_NAMED_SYMBOL_TABLE_OFFSET);
     }
     0

@@ -1,3 +1,3 @@
-// Imports: what a new module takes, and what it serves to the others. The port of that part of cro/mod.rs.
+// Imports: what a new module takes, and what it serves to the others.
 pub(crate) mod others;
 pub(crate) mod own;

@@ -67,7 +67,13 @@ fn apply_internal_relocation(
 }
 
 // Applies the relocations that point within the module; the Data segment's bytes still stand at `old`.
-pub fn apply_internal_relocations(at: u32, w: &mut [u8], trace: &mut [u8], base: u32, old: u32)
+pub(crate) fn apply_internal_relocations(
+    at: u32,
+    w: &mut [u8],
+    trace: &mut [u8],
+    base: u32,
+    old: u32,
+)
     ensures { λ _. ⌜ (now (w .exit), now (trace .exit)) ≡ runT at (applyInternalRelocations base old) (now (w .entry), now (trace .entry)) .1 ⌝ }
 {
     let table = field(at, w, trace, base, INTERNAL_RELOCATION_TABLE_OFFSET);

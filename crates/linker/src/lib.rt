@@ -1,5 +1,5 @@
-// External relocations of a module: the port of that part of cro/mod.rs.
-// The steps that touch only words of headers: the lists that the title walks, and fixing. The port of that part of cro/mod.rs.
+// The linker: the port of cro/mod.rs, a module a step, with the Rust's names. The exported calls stand in `calls`.
+// What each step does is defined in `linker_spec`; every contract here cites those definitions.
 pub mod calls;
 mod entry;
 mod exports;

@@ -35,7 +35,14 @@ fn become_tail(at: u32, w: &mut [u8], trace: &mut [u8], head: u32, base: u32)
 }
 
 // Puts a module at the end of its list.
-pub fn register(at: u32, w: &mut [u8], trace: &mut [u8], crs: u32, base: u32, auto_link: bool)
+pub(crate) fn register(
+    at: u32,
+    w: &mut [u8],
+    trace: &mut [u8],
+    crs: u32,
+    base: u32,
+    auto_link: bool,
+)
     ensures { λ _. ⌜ (now (w .exit), now (trace .exit)) ≡ runT at (register crs base «auto_link») (now (w .entry), now (trace .entry)) .1 ⌝ }
 {
     let x = head_field(auto_link);
@@ -121,7 +128,7 @@ fn leaves(at: u32, w: &mut [u8], trace: &mut [u8], crs: u32, base: u32, next: u3
 }
 
 // Takes a module out of the list it is in; one whose previous is 0 is in none.
-pub fn unregister(at: u32, w: &mut [u8], trace: &mut [u8], crs: u32, base: u32)
+pub(crate) fn unregister(at: u32, w: &mut [u8], trace: &mut [u8], crs: u32, base: u32)
     ensures { λ _. ⌜ (now (w .exit), now (trace .exit)) ≡ runT at (unregister crs base) (now (w .entry), now (trace .entry)) .1 ⌝ }
 {
     let next = field(at, w, trace, base, NEXT_CRO);

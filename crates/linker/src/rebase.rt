@@ -1,4 +1,3 @@
-// Rebasing a module: the port of that part of cro/mod.rs.
 // Rebasing: every stored offset becomes an address, and the relocations within the module are applied.
 pub(crate) mod segments;
 pub(crate) mod tables;
@@ -16,7 +15,7 @@ use crate::rebase::tables::move_tables;
 use crate::rebase::words::move_header;
 use layout::fields::field;
 use layout::header::MAGIC;
-use linker_spec::rebase::Lent;
+use linker_spec::rebase::LoadArguments;
 use linker_spec::rebase::Moved;
 use linker_spec::rebase::Rebased;
 
@@ -40,7 +39,7 @@ fn relocate(at: u32, w: &mut [u8], trace: &mut [u8], base: u32, old: u32) -> Reb
 }
 
 // Prepares a module that a load lends.
-pub(crate) fn rebase(at: u32, w: &mut [u8], trace: &mut [u8], lent: Lent) -> Rebased
+pub(crate) fn rebase(at: u32, w: &mut [u8], trace: &mut [u8], lent: LoadArguments) -> Rebased
     ensures { λ r. ⌜ (r, (now (w .exit), now (trace .exit))) ≡ runT at (rebase lent) (now (w .entry), now (trace .entry)) ⌝ }
 {
     let base = lent.base;

@@ -18,7 +18,12 @@ use register::append::draft::Draft;
 use register::append::draft::Drafted;
 
 // The draft that a step gives; where the step had no room the record is given up.
-pub fn kept(records: &mut [u8], names: &mut [u8], before: Draft, after: Drafted) -> Drafted
+pub(crate) fn keep_or_give_up(
+    records: &mut [u8],
+    names: &mut [u8],
+    before: Draft,
+    after: Drafted,
+) -> Drafted
     ensures { λ r. ⌜ (r, now (records .exit), now (names .exit)) ≡ tried before after (now (records .entry)) (now (names .entry)) ⌝ }
 {
     match after {
@@ -31,7 +36,7 @@ pub fn kept(records: &mut [u8], names: &mut [u8], before: Draft, after: Drafted)
 }
 
 // The address of segment i, 0 where there is none.
-pub fn segment_offset(at: u32, w: &[u8], base: u32, i: u32) -> u32
+pub(crate) fn segment_offset(at: u32, w: &[u8], base: u32, i: u32) -> u32
     ensures { λ r. ⌜ r ≡ segmentOf at (now (w .entry)) base i ⌝ }
 {
     match peek::segment(at, w, base, i) {
@@ -41,7 +46,7 @@ pub fn segment_offset(at: u32, w: &[u8], base: u32, i: u32) -> u32
 }
 
 // A record keeps 16 segments.
-pub fn at_most_16(n: u32) -> u32
+pub(crate) fn at_most_16(n: u32) -> u32
     ensures { λ r. ⌜ r ≡ atMost16 n ⌝ }
 {
     if 16 < n {
@@ -51,7 +56,7 @@ pub fn at_most_16(n: u32) -> u32
 }
 
 // The address that the tag at `entry` gives, 0 where it gives none.
-pub fn indexed_address(at: u32, w: &[u8], base: u32, entry: u32) -> u32
+pub(crate) fn indexed_address(at: u32, w: &[u8], base: u32, entry: u32) -> u32
     ensures { λ r. ⌜ r ≡ addressOr0 (run at (tagToAddress base (wordAt at (now (w .entry)) entry)) (now (w .entry)) .0) ⌝ }
 {
     let tag = SegmentTag(peek::word(at, w, entry));
@@ -62,7 +67,7 @@ pub fn indexed_address(at: u32, w: &[u8], base: u32, entry: u32) -> u32
 }
 
 // Gives the record the export of the name at `place`.
-pub fn put_named(
+pub(crate) fn put_named(
     at: u32,
     w: &[u8],
     place: u32,
@@ -77,11 +82,11 @@ pub fn put_named(
     let mut buffer = [0u8; 512];
     let count = window::name::peek_name(at, w, place, &mut buffer);
     let after = draft::put_export(records, names, before, &buffer[..count], address);
-    kept(records, names, before, after)
+    keep_or_give_up(records, names, before, after)
 }
 
 // Begins the module's record with its own name.
-pub fn begin(
+pub(crate) fn begin(
     at: u32,
     w: &[u8],
     base: u32,

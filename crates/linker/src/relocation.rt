@@ -59,7 +59,7 @@ fn walk_entry(at: u32, w: &mut [u8], trace: &mut [u8], base: u32, symbol: u32, e
 
 // Walks a batch of external relocations, applying each with symbol, records whether the batch is now resolved,
 // and gives the number of entries walked: a malformed table must not loop forever.
-pub fn apply_relocation_batch(
+pub(crate) fn apply_relocation_batch(
     at: u32,
     w: &mut [u8],
     trace: &mut [u8],
@@ -94,14 +94,14 @@ pub fn apply_relocation_batch(
 }
 
 // Whether the first entry's mark says that the batch is resolved.
-pub fn batch_is_resolved(at: u32, w: &[u8], trace: &mut [u8], batch: u32) -> bool
+pub(crate) fn batch_is_resolved(at: u32, w: &[u8], trace: &mut [u8], batch: u32) -> bool
     ensures { λ r. ⌜ (r, (now (w .entry), now (trace .exit))) ≡ runT at (batchIsResolved batch) (now (w .entry), now (trace .entry)) ⌝ }
 {
     read8(at, w, trace, std::num::wrapping_add_u32(batch, 6)) != 0
 }
 
 // The module's own handler for imports that nothing provides, 0 where its tag is unusable.
-pub fn unresolved_symbol(at: u32, w: &[u8], trace: &mut [u8], base: u32) -> u32
+pub(crate) fn unresolved_symbol(at: u32, w: &[u8], trace: &mut [u8], base: u32) -> u32
     ensures { λ r. ⌜ (r, (now (w .entry), now (trace .exit))) ≡ runT at (unresolvedSymbol base) (now (w .entry), now (trace .entry)) ⌝ }
 {
     let tag = SegmentTag(field(at, w, trace, base, ON_UNRESOLVED_SEGMENT_TAG));
@@ -122,7 +122,7 @@ fn reset_entry(at: u32, w: &mut [u8], trace: &mut [u8], base: u32, handler: u32,
 }
 
 // Points every import at the module's handler and marks it unresolved, which is the state a freshly loaded module starts in.
-pub fn reset_external_relocations(at: u32, w: &mut [u8], trace: &mut [u8], base: u32)
+pub(crate) fn reset_external_relocations(at: u32, w: &mut [u8], trace: &mut [u8], base: u32)
     ensures { λ _. ⌜ (now (w .exit), now (trace .exit)) ≡ runT at (resetExternalRelocations base) (now (w .entry), now (trace .entry)) .1 ⌝ }
 {
     let handler = unresolved_symbol(at, w, trace, base);

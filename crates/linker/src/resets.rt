@@ -172,7 +172,7 @@ fn reset_all_modules(
 }
 
 // Resets what the module at base linked against the module at the place.
-pub fn reset_imports(
+fn reset_imports(
     at: u32,
     w: &mut [u8],
     trace: &mut [u8],
@@ -211,7 +211,7 @@ fn reset_importer(
 }
 
 // Resets what the auto-linked modules linked against the module at the place, itself left out.
-pub fn reset_importers(
+pub(crate) fn reset_importers(
     at: u32,
     w: &mut [u8],
     trace: &mut [u8],

@@ -80,7 +80,7 @@ fn touch_segments(at: u32, w: &[u8], trace: &mut [u8], base: u32)
 }
 
 // Makes the accesses of the record of the module at base.
-pub fn touch_module(at: u32, w: &[u8], trace: &mut [u8], base: u32)
+pub(crate) fn touch_module(at: u32, w: &[u8], trace: &mut [u8], base: u32)
     ensures { λ _. ⌜ ((size : ℕ) (auto : Bool) → (now (w .entry), now (trace .exit)) ≡ runT at (readModule base size auto) (now (w .entry), now (trace .entry)) .1) ⌝ }
 {
     touch_named(at, w, trace, base);

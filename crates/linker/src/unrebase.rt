@@ -57,7 +57,7 @@ fn unmove_segments(at: u32, w: &mut [u8], trace: &mut [u8], base: u32)
 }
 
 // Puts a module back the way its file has it.
-pub fn unrebase(at: u32, w: &mut [u8], trace: &mut [u8], base: u32)
+pub(crate) fn unrebase(at: u32, w: &mut [u8], trace: &mut [u8], base: u32)
     ensures { λ _. ⌜ (now (w .exit), now (trace .exit)) ≡ runT at (unrebase base) (now (w .entry), now (trace .entry)) .1 ⌝ }
 {
     move_tables(at, w, trace, false, base);

@@ -1,7 +1,7 @@
 -- The three calls over the modules that stand: programs of accesses that give an answer.
-use Prim.Native.Nat.{ℕ, zero, suc, _*_}
+use Prim.Native.Nat.{ℕ, suc, _*_}
 use mathlib.Core.List.{List, [], _∷_}
-use mathlib.Core.Bool.{Bool, true, false, _&&_}
+use mathlib.Core.Bool.{Bool, true, _&&_}
 use lib.ListN.{length}
 use lib.Dec.{eqb, ltb, leb}
 use Rattle.window.specs.Memory.{if_then_else_, _⊕_}
@@ -15,7 +15,7 @@ use Rattle.register.specs.Module.{Module, Register}
 use Rattle.register.specs.Encode.{encodeWords, recordNames}
 use Rattle.register.specs.Change.{appended, removed, without, withCrs}
 use Rattle.register.specs.Append.Draft.{roomIn}
-use Rattle.linker_spec.specs.declared.rebase.Lent.{Lent}
+use Rattle.linker_spec.specs.declared.rebase.LoadArguments.{LoadArguments}
 use Rattle.linker_spec.specs.declared.rebase.Moved.{Moved}
 use Rattle.linker_spec.specs.declared.rebase.Moved.the-variants.{Bad, OldPlace}
 use Rattle.linker_spec.specs.declared.rebase.Rebased.{Rebased}
@@ -28,14 +28,14 @@ use Rattle.linker_spec.specs.Lists.{register, unregister}
 use Rattle.linker_spec.specs.Fix.{fix}
 use Rattle.linker_spec.specs.Unrebase.{unrebase}
 
--- what a call answers, for each row of the table of numbers; `Kept` is an unload of an unknown base
+-- what a call answers, for each row of the table of numbers; `NotLoaded` is an unload of an unknown base
 pub data Answer : Type 0 where
   NotACro : Answer
   BadSegment : Answer
   BadWindow : Answer
   NoRegister : Answer
   NoRoom : Answer
-  Kept : Answer
+  NotLoaded : Answer
   Done : ℕ → Register → Answer
 
 -- the table of numbers
@@ -45,7 +45,7 @@ number BadSegment = 2
 number BadWindow = 3
 number NoRegister = 4
 number NoRoom = 5
-number Kept = 0
+number NotLoaded = 0
 number (Done v r) = 0
 
 -- "Beside the number stands a value"; "with 1 to 5 it is 0"
@@ -55,7 +55,7 @@ value BadSegment = 0
 value BadWindow = 0
 value NoRegister = 0
 value NoRoom = 0
-value Kept = 0
+value NotLoaded = 0
 value (Done v r) = v
 
 -- after the segments: the five pointer tables, then the internal relocations
@@ -75,7 +75,7 @@ rebaseWith base segments = do
     m ← segments
     relocate base m) else ret Rebased.NotACro
 
-unfoldable pub rebase : Lent → Prog Rebased
+unfoldable pub rebase : LoadArguments → Prog Rebased
 rebase l = rebaseWith (l .base) (moveSegments l)
 
 -- "The old place counts from .. address 0 in `initialize`."
@@ -90,10 +90,10 @@ fits records names r m =
     && leb (length (recordNames (appended r m .modules))) (roomIn names))
 
 -- after a rebase: the external reset, the module's record, and what the call does with it if there is room
-unfoldable pub enter : ℕ → ℕ → Register → ℕ → ℕ → Bool → (Module → Prog Answer) → Rebased → Prog Answer
-enter records names r base size auto next Rebased.NotACro = ret NotACro
-enter records names r base size auto next Rebased.BadSegment = ret BadSegment
-enter records names r base size auto next Rebased.Done = do
+unfoldable pub addRecord : (records names : ℕ) → Register → (base size : ℕ) → Bool → (Module → Prog Answer) → Rebased → Prog Answer
+addRecord records names r base size auto next Rebased.NotACro = ret NotACro
+addRecord records names r base size auto next Rebased.BadSegment = ret BadSegment
+addRecord records names r base size auto next Rebased.Done = do
   resetExternalRelocations base
   m ← readModule base size auto
   if fits records names r m then next m else ret NoRoom
@@ -105,10 +105,10 @@ initialized r base m = do
   setField base previousCro 0
   ret (Done 0 (withCrs (appended r m) base))
 
-unfoldable pub initialize : ℕ → ℕ → ℕ → ℕ → Register → Prog Answer
+unfoldable pub initialize : (base size records names : ℕ) → Register → Prog Answer
 initialize base size records names r = do
   x ← rebaseStatic base
-  enter records names r base size true (initialized r base) x
+  addRecord records names r base size true (initialized r base) x
 
 unfoldable pub listed : Crs → ℕ → Bool → Prog (Unit {0})
 listed Unknown base auto = ret tt
@@ -118,7 +118,7 @@ unfoldable pub missingNow : Register → List (List ℕ) → Register
 missingNow r missing = record { modules = r .modules; crs = r .crs; missing = missing }
 
 -- into its list; its own imports, itself among the modules; the others' imports from it; fixed
-unfoldable pub linked : Register → Lent → Bool → ℕ → Module → Prog Answer
+unfoldable pub linked : Register → LoadArguments → Bool → ℕ → Module → Prog Answer
 linked r l auto level m = do
   listed (r .crs) (l .base) auto
   missing ← applyImportNamedSymbols (appended r m .modules) (l .base) (r .missing)
@@ -127,17 +127,17 @@ linked r l auto level m = do
   fixed ← fix (l .base) (l .size) level
   ret (Done fixed (missingNow (appended r m) missing))
 
-unfoldable pub load : Lent → Bool → ℕ → ℕ → ℕ → Register → Prog Answer
+unfoldable pub load : LoadArguments → Bool → (level records names : ℕ) → Register → Prog Answer
 load l auto level records names r = do
   x ← rebase l
-  enter records names r (l .base) (l .size) auto (linked r l auto level) x
+  addRecord records names r (l .base) (l .size) auto (linked r l auto level) x
 
 -- the first module with that base, and its number
-pub data Standing : Type 0 where
-  unknown : Standing
-  stands : Module → ℕ → Standing
+pub data FirstWithBase : Type 0 where
+  unknown : FirstWithBase
+  stands : Module → ℕ → FirstWithBase
 
-unfoldable pub firstWithBase : ℕ → List Module → ℕ → Standing
+unfoldable pub firstWithBase : ℕ → List Module → ℕ → FirstWithBase
 firstWithBase base [] k = unknown
 firstWithBase base (m ∷ ms) k = if eqb (m .base) base then stands m k else firstWithBase base ms (suc k)
 
@@ -146,8 +146,8 @@ unlisted Unknown base = ret tt
 unlisted (Known crs) base = unregister crs base
 
 -- "Unload of an unknown base changes nothing. It takes the first record with that base."
-unfoldable pub leave : Register → ℕ → Standing → Prog Answer
-leave r base unknown = ret Kept
+unfoldable pub leave : Register → ℕ → FirstWithBase → Prog Answer
+leave r base unknown = ret NotLoaded
 leave r base (stands m k) = do
   resetImporters m (without (r .modules) k)
   unlisted (r .crs) base

@@ -1,24 +1,24 @@
 -- The proved cases of document 01's table that live here, and the batch that never ends.
-use Prim.Native.Nat.{ℕ, zero, suc, _+_, _-_, _%_, _^_, _≤_, _<_}
+use Prim.Native.Nat.{ℕ, zero, suc, _+_, _-_, _%_, _^_, _<_}
 use mathlib.Core.Path.{_≡_, refl, ap, _∙_}
 use mathlib.Core.List.{List}
-use mathlib.Core.Bool.{Bool, true, false, not}
+use mathlib.Core.Bool.{true, false, not}
 use native.Mathlib.Omega.{arith}
 use lib.Dec.{eqb}
 use borrow.Author.Tests.{ne-eqb}
 use borrow.Fn.Enter.{pair≡}
 use Rattle.window.specs.Memory.{if_then_else_, _⊕_, goodWindow, byteAt, wordAt}
-use Rattle.window.specs.Access.{Prog, ret, _>>=_, _>>_, put8, run, run-bind, reads-same}
+use Rattle.window.specs.Access.{ret, _>>=_, _>>_, put8, run, run-bind, reads-same}
 use Rattle.window.specs.Loop.{loop, loop-none, loop-more}
 use Rattle.layout.specs.Header.{magic, segmentNum, relocationEntrySize}
 use Rattle.layout.specs.Format.{tagSegment}
 use Rattle.layout.specs.Segments.{field, segment, setSegment, segmentAt, segmentPlace, segment-found, segment-reads, segment-missing, tagToAddress, tag-missing, tagToAddress-reads}
 use Rattle.layout.specs.declared.format.Segment.{Segment}
-use Rattle.layout.specs.declared.format.SegmentType.the-variants.{Code, RoData, Data, Bss}
+use Rattle.layout.specs.declared.format.SegmentType.the-variants.{Data}
 use Rattle.layout.specs.declared.segments.Address.{Address}
-use Rattle.layout.specs.declared.segments.Address.the-variants.{At, Nowhere}
+use Rattle.layout.specs.declared.segments.Address.the-variants.{Nowhere}
 use Rattle.layout.specs.declared.segments.FoundSegment.the-variants.{Found}
-use Rattle.linker_spec.specs.declared.rebase.Lent.{Lent}
+use Rattle.linker_spec.specs.declared.rebase.LoadArguments.{LoadArguments}
 use Rattle.linker_spec.specs.declared.rebase.Placed.the-variants.{Refused, Put}
 use Rattle.linker_spec.specs.declared.rebase.Moved.{Moved}
 use Rattle.linker_spec.specs.declared.rebase.Moved.the-variants.{Bad, OldPlace}
@@ -27,31 +27,31 @@ use Rattle.linker_spec.specs.Relocation.{relocateAt, resetEntry, walk, b
 use Rattle.linker_spec.specs.Resets.{reset}
 use Rattle.register.specs.Decode.{isRegister}
 use Rattle.linker_spec.specs.Calls.{number, value}
-use Rattle.linker_spec.specs.Outcome.{Bytes, loadOutcome}
+use Rattle.linker_spec.specs.Outcome.{Buffers, loadOutcome}
 use Rattle.linker_spec.specs.Refusals.{windowed, load-2}
 use Rattle.linker_spec.specs.Numbers.{fitsIn, loadedModule, load-0}
 use Rattle.linker_spec.specs.Fix.{alignUp, fixedTo, fixFrom, fix}
 
 -- "Data size 16 / 17, lent 16": the segment gets its place / is refused
-abbrev pub lent-16 : ℕ → ℕ → ℕ → ℕ → ℕ → Lent
-lent-16 base size data-at bss-at bss-size =
-    record { base = base; size = size; «data_at» = data-at; «data_size» = 16; «bss_at» = bss-at; «bss_size» = bss-size }
+abbrev pub lent-16 : (base size data-segment bss-segment bss-segment-size : ℕ) → LoadArguments
+lent-16 base size data-segment bss-segment bss-segment-size =
+    record { base = base; size = size; «data_segment» = data-segment; «data_segment_size» = 16; «bss_segment» = bss-segment; «bss_segment_size» = bss-segment-size }
 
 abbrev pub data-of : ℕ → ℕ → Segment
 data-of offset n = record { offset = offset; size = n; kind = Data }
 
-module _ (base size data-at bss-at bss-size offset old : ℕ) where
+module _ (base size data-segment bss-segment bss-segment-size offset old : ℕ) where
   pub data-16
-      : place (lent-16 base size data-at bss-at bss-size) (data-of offset 16) Data old ≡ Put (data-of data-at 16) (offset ⊕ base)
+      : place (lent-16 base size data-segment bss-segment bss-segment-size) (data-of offset 16) Data old ≡ Put (data-of data-segment 16) (offset ⊕ base)
   unfolding place lentPlace
   data-16 = refl
 
-  pub data-17 : place (lent-16 base size data-at bss-at bss-size) (data-of offset 17) Data old ≡ Refused
+  pub data-17 : place (lent-16 base size data-segment bss-segment bss-segment-size) (data-of offset 17) Data old ≡ Refused
   unfolding place lentPlace
   data-17 = refl
 
 -- a load whose first segment is refused answers 2, and its segments are as they were
-module _ (at : ℕ) (l : Lent) (w : List ℕ) where
+module _ (at : ℕ) (l : LoadArguments) (w : List ℕ) where
   pub stays-bad : (n i : ℕ) → run at (loop (moveSegment l) i n Bad) w ≡ (Bad, w)
   unfolding loop moveSegment run _>>=_
   stays-bad zero i = refl
@@ -89,28 +89,28 @@ module _ (at : ℕ) (l : Lent) (w : List ℕ) where
 
 -- "Data size 17, lent 16": number 2, the window as the header's move left it
 pub load-17
-    : (base size data-at bss-at bss-size offset auto level at n : ℕ) (b : Bytes) → goodWindow at (b .window) ≡ true
+    : (base size data-segment bss-segment bss-segment-size offset auto level at n : ℕ) (b : Buffers) → goodWindow at (b .window) ≡ true
     → isRegister (b .records) (b .names) (b .missing) ≡ true → isMagic (wordAt at (b .window) (base ⊕ magic)) ≡ true
     → (w : List ℕ) → run at (moveHeader true base) (b .window) .1 ≡ w → wordAt at w (base ⊕ segmentNum) ≡ suc n
     → segmentAt at w (segmentPlace at w base 0) ≡ data-of offset 17
-    → loadOutcome (lent-16 base size data-at bss-at bss-size) auto level at b ≡ record { number = 2; value = 0; left = windowed b w }
+    → loadOutcome (lent-16 base size data-segment bss-segment bss-segment-size) auto level at b ≡ record { number = 2; value = 0; left = windowed b w }
 unfolding number value
-load-17 base size data-at bss-at bss-size offset auto level at n b g v m w h c e =
-    let l = lent-16 base size data-at bss-at bss-size in
-    let f = data-17 base size data-at bss-at bss-size offset 0 in
+load-17 base size data-segment bss-segment bss-segment-size offset auto level at n b g v m w h c e =
+    let l = lent-16 base size data-segment bss-segment bss-segment-size in
+    let f = data-17 base size data-segment bss-segment bss-segment-size offset 0 in
     load-2 at b g v l auto level m (ap (λ t. run at (moveSegments l) t) h ∙ first-refused at l w n c _ e f)
 
 -- "Data size 16, lent 16": number 0, for a module of that one segment whose record fits
 pub load-16
-    : (base size data-at bss-at bss-size offset auto level at : ℕ) (b : Bytes) → goodWindow at (b .window) ≡ true
+    : (base size data-segment bss-segment bss-segment-size offset auto level at : ℕ) (b : Buffers) → goodWindow at (b .window) ≡ true
     → isRegister (b .records) (b .names) (b .missing) ≡ true → isMagic (wordAt at (b .window) (base ⊕ magic)) ≡ true
     → (w : List ℕ) → run at (moveHeader true base) (b .window) .1 ≡ w → wordAt at w (base ⊕ segmentNum) ≡ 1
     → segmentAt at w (segmentPlace at w base 0) ≡ data-of offset 16
-    → fitsIn at b (loadedModule at (lent-16 base size data-at bss-at bss-size) (not (eqb auto 0)) (b .window)) ≡ true
-    → loadOutcome (lent-16 base size data-at bss-at bss-size) auto level at b .number ≡ 0
-load-16 base size data-at bss-at bss-size offset auto level at b g v m w h c e f =
-    let l = lent-16 base size data-at bss-at bss-size in
-    let p = data-16 base size data-at bss-at bss-size offset 0 in
+    → fitsIn at b (loadedModule at (lent-16 base size data-segment bss-segment bss-segment-size) (not (eqb auto 0)) (b .window)) ≡ true
+    → loadOutcome (lent-16 base size data-segment bss-segment bss-segment-size) auto level at b .number ≡ 0
+load-16 base size data-segment bss-segment bss-segment-size offset auto level at b g v m w h c e f =
+    let l = lent-16 base size data-segment bss-segment bss-segment-size in
+    let p = data-16 base size data-segment bss-segment bss-segment-size offset 0 in
     load-0 at b g v l auto level m (offset ⊕ base) (ap (λ t. run at (moveSegments l) t .0) h ∙ only-placed at l w c _ e p) f
 
 -- "length 0x148, size 0x1000", "length 0x1001, size 0x1800": the greatest end is so far above the base, below 2^32

@@ -14,11 +14,11 @@ unfoldable pub alignUp : ℕ → ℕ
 alignUp n = (n + 4095) / 4096 * 4096 % 2 ^ 32
 
 -- "The greatest end less the base, not below 0, rounds up to 4,096, then is at most the given size."
-unfoldable pub fixedTo : ℕ → ℕ → ℕ → ℕ
+unfoldable pub fixedTo : (end base size : ℕ) → ℕ
 fixedTo end base size = min (alignUp (end - base)) size
 
 -- one of the 15 pairs of table and count: it counts before the barrier, and is emptied from there on
-unfoldable pub fixPair : ℕ → ℕ → ℕ → ℕ → Prog ℕ
+unfoldable pub fixPair : (base barrier i end : ℕ) → Prog ℕ
 fixPair base barrier i end = do
   table ← field base (moduleNameOffset + 8 * i)
   count ← field base (moduleNameOffset + 8 * i + 4)
@@ -29,11 +29,11 @@ fixPair base barrier i end = do
         ret end)
 
 -- the tables from the barrier on point at v, where the module now ends
-unfoldable pub endTables : ℕ → ℕ → ℕ → Prog (Unit {0})
+unfoldable pub endTables : (base barrier v : ℕ) → Prog (Unit {0})
 endTables base barrier v = loop (λ i _. setField base (barrier + 8 * i) v) 0 ((headerSize - barrier) / 8) tt
 
 -- "Levels 1, 2, 3 cut from 0x120, 0x0F0, 0x0D0."
-unfoldable pub fixFrom : ℕ → ℕ → ℕ → Prog ℕ
+unfoldable pub fixFrom : (base size barrier : ℕ) → Prog ℕ
 fixFrom base size barrier = do
   code ← field base codeOffset
   bytes ← field base codeSize
@@ -43,7 +43,7 @@ fixFrom base size barrier = do
   ret (fixedTo end base size)
 
 -- "Fix level 0 or above 3 returns 0 and writes nothing."
-unfoldable pub fix : ℕ → ℕ → ℕ → Prog ℕ
+unfoldable pub fix : (base size level : ℕ) → Prog ℕ
 fix base size level =
     if eqb level 1 then fixFrom base size staticAnonymousSymbolTableOffset
     else (if eqb level 2 then fixFrom base size importModuleTableOffset

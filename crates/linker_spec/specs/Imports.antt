@@ -13,7 +13,7 @@ use Rattle.layout.specs.Header.{importNamedSymbolTableOffset, importNamedSymbol
 use Rattle.layout.specs.Format.{tagSegment, tagOffset}
 use Rattle.layout.specs.Segments.{field, entryAt}
 use Rattle.register.specs.Words.{same}
-use Rattle.register.specs.Module.{Export, Module}
+use Rattle.register.specs.Module.{Module}
 use Rattle.register.specs.Read.Read.{lookupIn, exportOf, entryOf}
 use Rattle.register.specs.declared.read.Symbol.{Symbol}
 use Rattle.register.specs.declared.read.Symbol.the-variants.{At, Nothing}
@@ -42,9 +42,9 @@ resolve base batch Nothing = ret tt
 abbrev pub mostMissing : ℕ
 mostMissing = 64
 
-unfoldable pub noted : Symbol → List ℕ → List (List ℕ) → List (List ℕ)
-noted (At a) name missing = missing
-noted Nothing name missing = if ltb (length missing) mostMissing then missing ++ (name ∷ []) else missing
+unfoldable pub addMissing : Symbol → List ℕ → List (List ℕ) → List (List ℕ)
+addMissing (At a) name missing = missing
+addMissing Nothing name missing = if ltb (length missing) mostMissing then missing ++ (name ∷ []) else missing
 
 -- a named import of the new module: the batch, its mark, then the name
 unfoldable pub importNamed : List Module → ℕ → ℕ → List (List ℕ) → Prog (List (List ℕ))
@@ -55,7 +55,7 @@ importNamed ms base entry missing = do
     p ← get32 entry
     name ← nameAt p
     resolve base batch (lookupIn ms name)
-    ret (noted (lookupIn ms name) name missing)) else ret missing
+    ret (addMissing (lookupIn ms name) name missing)) else ret missing
 
 unfoldable pub applyImportNamedSymbols : List Module → ℕ → List (List ℕ) → Prog (List (List ℕ))
 applyImportNamedSymbols ms base missing = do
@@ -71,7 +71,7 @@ importFrom symbol base entry = do
   unresolved ← isUnresolved batch
   if unresolved then resolve base batch (symbol x) else ret tt
 
-unfoldable pub linkFrom : Option Module → ℕ → ℕ → ℕ → ℕ → ℕ → Prog (Unit {0})
+unfoldable pub linkFrom : Option Module → (base indexed n anonymous m : ℕ) → Prog (Unit {0})
 linkFrom none base indexed n anonymous m = ret tt
 linkFrom (some source) base indexed n anonymous m = do
   loop (λ i _. importFrom (entryOf (source .indexed)) base (entryAt indexed i importIndexedSymbolEntrySize)) 0 n tt

@@ -13,7 +13,7 @@ pub mod OtherList
 pub mod Outcome
 pub mod Touches
 pub mod Refusals
-pub mod Gives
+pub mod AnyResult
 pub mod Answers
 pub mod Room
 pub mod Removed

@@ -13,7 +13,7 @@ headField true = nextCro
 headField false = previousCro
 
 -- the only module of a list is its head and its tail
-unfoldable pub becomesHead : ℕ → ℕ → ℕ → Prog (Unit {0})
+unfoldable pub becomesHead : (crs x base : ℕ) → Prog (Unit {0})
 becomesHead crs x base = do
   setField crs x base
   setField base previousCro base
@@ -33,7 +33,7 @@ register crs base auto = do
   setField base nextCro 0
 
 -- the head leaves: the one after it heads the list and keeps the tail
-unfoldable pub headLeaves : ℕ → ℕ → ℕ → ℕ → Prog (Unit {0})
+unfoldable pub headLeaves : (crs x next previous : ℕ) → Prog (Unit {0})
 headLeaves crs x next previous = do
   if eqb next 0 then ret tt else setField next previousCro previous
   setField crs x next
@@ -44,25 +44,25 @@ middleLeaves next previous = do
   setField next previousCro previous
 
 -- a head whose tail leaves gets the one before it
-unfoldable pub newTail : ℕ → ℕ → ℕ → ℕ → Prog (Unit {0})
+unfoldable pub newTail : (crs x base previous : ℕ) → Prog (Unit {0})
 newTail crs x base previous = do
   head ← field crs x
   if eqb head 0 then ret tt else (do
     tail ← field head previousCro
     if eqb tail base then setField head previousCro previous else ret tt)
 
-unfoldable pub tailLeaves : ℕ → ℕ → ℕ → Prog (Unit {0})
+unfoldable pub tailLeaves : (crs base previous : ℕ) → Prog (Unit {0})
 tailLeaves crs base previous = do
   setField previous nextCro 0
   newTail crs nextCro base previous
   newTail crs previousCro base previous
 
-unfoldable pub otherLeaves : ℕ → ℕ → ℕ → ℕ → Prog (Unit {0})
+unfoldable pub otherLeaves : (crs base next previous : ℕ) → Prog (Unit {0})
 otherLeaves crs base next previous =
     if eqb next 0 then tailLeaves crs base previous else middleLeaves next previous
 
 -- the second head is read only if the first is another module
-unfoldable pub leaves : ℕ → ℕ → ℕ → ℕ → Prog (Unit {0})
+unfoldable pub leaves : (crs base next previous : ℕ) → Prog (Unit {0})
 leaves crs base next previous = do
   first ← field crs nextCro
   if eqb first base then headLeaves crs nextCro next previous else (do

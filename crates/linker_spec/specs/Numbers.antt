@@ -15,7 +15,7 @@ use Rattle.register.specs.Module.{Module, Register}
 use Rattle.register.specs.Decode.{isRegister}
 use Rattle.register.specs.Change.{appended}
 use Rattle.linker_spec.specs.Rebase.{isMagic, moveHeader, moveSegments, lookAtSegments, moveTables}
-use Rattle.linker_spec.specs.declared.rebase.Lent.{Lent}
+use Rattle.linker_spec.specs.declared.rebase.LoadArguments.{LoadArguments}
 use Rattle.linker_spec.specs.declared.rebase.Moved.{Moved}
 use Rattle.linker_spec.specs.declared.rebase.Moved.the-variants.{Bad, OldPlace}
 use Rattle.linker_spec.specs.declared.rebase.Rebased.{Rebased}
@@ -23,13 +23,13 @@ use Rattle.linker_spec.specs.Relocation.{applyInternalRelocations, reset
 use Rattle.linker_spec.specs.Exports.{readModule}
 use Rattle.linker_spec.specs.Imports.{applyImportNamedSymbols, applyModuleImports, applyExportsToLoaded}
 use Rattle.linker_spec.specs.Fix.{fix}
-use Rattle.linker_spec.specs.Calls.{Answer, number, relocate, rebaseWith, rebase, rebaseStatic, fits, enter, initialized, initialize, listed, linked, load}
-use Rattle.linker_spec.specs.Outcome.{Bytes, settle, chain, outcome, initializeOutcome, loadOutcome}
+use Rattle.linker_spec.specs.Calls.{Answer, number, relocate, rebaseWith, rebase, rebaseStatic, fits, addRecord, initialized, initialize, listed, linked, load}
+use Rattle.linker_spec.specs.Outcome.{Buffers, outcomeOf, refusalOrder, callOutcome, initializeOutcome, loadOutcome}
 use Rattle.linker_spec.specs.Refusals.{lentRegister, run-then, enters-1, enters-2}
-use Rattle.linker_spec.specs.Gives.{Gives, gives-run, gives-then}
+use Rattle.linker_spec.specs.AnyResult.{AnyResult, gives-run, gives-then}
 
 -- the record that is read after a rebase, the external relocations reset
-abbrev pub readAfter : ℕ → ℕ → ℕ → Bool → List ℕ → Module
+abbrev pub readAfter : (at base size : ℕ) → Bool → List ℕ → Module
 readAfter at base size auto w = run at (readModule base size auto) (run at (resetExternalRelocations base) w .1) .0
 
 -- the number after a good magic: 2 for a refused segment, else 0 or 5 as the record fits or not
@@ -41,10 +41,10 @@ abbrev Zero : Answer → Type 0
 Zero a = number a ≡ 0
 
 -- what `initialize` and `load` have in common
-module _ (base size : ℕ) (auto : Bool) (segments : Prog Moved) (next : Module → Prog Answer) (h : (m : Module) → Gives Zero (next m))
+module _ (base size : ℕ) (auto : Bool) (segments : Prog Moved) (next : Module → Prog Answer) (h : (m : Module) → AnyResult Zero (next m))
     (records names : ℕ) (r : Register) (at : ℕ) (w : List ℕ) where
   abbrev call : Prog Answer
-  call = rebaseWith base segments >>= enter records names r base size auto next
+  call = rebaseWith base segments >>= addRecord records names r base size auto next
 
   abbrev fitting : Bool
   fitting = fits records names r (readAfter at base size auto (run at (rebaseWith base segments) w .1))
@@ -69,8 +69,8 @@ module _ (base size : ℕ) (auto : Bool) (segments : Prog Moved) (next : Module 
 
   enter-number
       : (v : List ℕ) (t : Bool) → fits records names r (readAfter at base size auto v) ≡ t
-      → number (run at (enter records names r base size auto next Rebased.Done) v .0) ≡ (if t then 0 else 5)
-  unfolding enter number run
+      → number (run at (addRecord records names r base size auto next Rebased.Done) v .0) ≡ (if t then 0 else 5)
+  unfolding addRecord number run
   enter-number v true f =
       rw (run-bind at (resetExternalRelocations base) _ v, run-bind at (readModule base size auto) _ (run at (resetExternalRelocations base) v .1), f)
       (gives-run Zero at (next (readAfter at base size auto v)) _ (h (readAfter at base size auto v)))
@@ -91,53 +91,53 @@ module _ (base size : ℕ) (auto : Bool) (segments : Prog Moved) (next : Module 
       go true e (Bad, v) s = ap (λ (y : Answer × List ℕ). number (y .0)) (enters-2 base size auto segments next records names r at w e s)
       go true e (OldPlace old, v) s =
           ap (λ (y : Answer × List ℕ). number (y .0)) (run-bind at (rebaseWith base segments) _ w)
-          ∙ ap (λ x. number (run at (enter records names r base size auto next x) (run at (rebaseWith base segments) w .1) .0)) (rebased-by e s)
+          ∙ ap (λ x. number (run at (addRecord records names r base size auto next x) (run at (rebaseWith base segments) w .1) .0)) (rebased-by e s)
           ∙ enter-number (run at (rebaseWith base segments) w .1) fitting refl
 
-linked-0 : (r : Register) (l : Lent) (auto : Bool) (level : ℕ) (m : Module) → Gives Zero (linked r l auto level m)
-unfolding linked number Gives
+linked-0 : (r : Register) (l : LoadArguments) (auto : Bool) (level : ℕ) (m : Module) → AnyResult Zero (linked r l auto level m)
+unfolding linked number AnyResult
 linked-0 r l auto level m =
     gives-then Zero _ (listed (r .crs) (l .base) auto)
     (λ _. gives-then Zero _ (applyImportNamedSymbols (appended r m .modules) (l .base) (r .missing))
     (λ _. gives-then Zero _ (applyModuleImports (appended r m .modules) (l .base))
     (λ _. gives-then Zero _ (applyExportsToLoaded m (r .modules)) (λ _. gives-then Zero _ (fix (l .base) (l .size) level) (λ _. refl)))))
 
-initialized-0 : (r : Register) (base : ℕ) (m : Module) → Gives Zero (initialized r base m)
-unfolding initialized number Gives
+initialized-0 : (r : Register) (base : ℕ) (m : Module) → AnyResult Zero (initialized r base m)
+unfolding initialized number AnyResult
 initialized-0 r base m = gives-then Zero _ (setField base nextCro 0) (λ _. gives-then Zero _ (setField base previousCro 0) (λ _. refl))
 
 -- the number of any call: 3, then 4, then its answer's
 outcome-number
-    : (call : ℕ → ℕ → Register → Prog Answer) (at : ℕ) (b : Bytes)
-    → outcome call at b .number
+    : (call : ℕ → ℕ → Register → Prog Answer) (at : ℕ) (b : Buffers)
+    → callOutcome call at b .number
     ≡ (if goodWindow at (b .window)
     then (if isRegister (b .records) (b .names) (b .missing)
     then number (run at (call (length (b .records)) (length (b .names)) (lentRegister b)) (b .window) .0) else 4) else 3)
-unfolding outcome settle number
+unfolding callOutcome outcomeOf number
 outcome-number call at b = go (goodWindow at (b .window)) (isRegister (b .records) (b .names) (b .missing))
   where
     x : Answer × List ℕ
     x = run at (call (length (b .records)) (length (b .names)) (lentRegister b)) (b .window)
 
-    go : (g v : Bool) → chain g v b (settle b x) .number ≡ (if g then (if v then number (x .0) else 4) else 3)
+    go : (g v : Bool) → refusalOrder g v b (outcomeOf b x) .number ≡ (if g then (if v then number (x .0) else 4) else 3)
     go false v = refl
     go true false = refl
     go true true = refl
 
 -- the module that a load or an `initialize` would record
-abbrev pub loadedModule : ℕ → Lent → Bool → List ℕ → Module
+abbrev pub loadedModule : ℕ → LoadArguments → Bool → List ℕ → Module
 loadedModule at l auto w = readAfter at (l .base) (l .size) auto (run at (rebase l) w .1)
 
-abbrev pub initializedModule : ℕ → ℕ → ℕ → List ℕ → Module
+abbrev pub initializedModule : (at base size : ℕ) → List ℕ → Module
 initializedModule at base size w = readAfter at base size true (run at (rebaseStatic base) w .1)
 
-module _ (at : ℕ) (b : Bytes) where
+module _ (at : ℕ) (b : Buffers) where
   abbrev pub fitsIn : Module → Bool
   fitsIn m = fits (length (b .records)) (length (b .names)) (lentRegister b) m
 
   -- the whole table for a load: 3, 4, 1, 2, and then 0 or 5
   pub load-number
-      : (l : Lent) (auto level : ℕ)
+      : (l : LoadArguments) (auto level : ℕ)
       → loadOutcome l auto level at b .number
       ≡ (if goodWindow at (b .window) then (if isRegister (b .records) (b .names) (b .missing)
       then (if isMagic (wordAt at (b .window) (l .base ⊕ magic))
@@ -171,7 +171,7 @@ module _ (at : ℕ) (b : Bytes) where
       (looked base (run at (moveHeader true base) (b .window) .1)))
 
   -- a load that passes 1 and 2 answers 0 if its record fits, and 5 exactly if not
-  module _ (g : goodWindow at (b .window) ≡ true) (v : isRegister (b .records) (b .names) (b .missing) ≡ true) (l : Lent) (auto level : ℕ)
+  module _ (g : goodWindow at (b .window) ≡ true) (v : isRegister (b .records) (b .names) (b .missing) ≡ true) (l : LoadArguments) (auto level : ℕ)
       (m : isMagic (wordAt at (b .window) (l .base ⊕ magic)) ≡ true) (old : ℕ)
       (s : run at (moveSegments l) (run at (moveHeader true (l .base)) (b .window) .1) .0 ≡ OldPlace old) where
     pub load-fits : loadOutcome l auto level at b .number ≡ (if fitsIn (loadedModule at l (not (eqb auto 0)) (b .window)) then 0 else 5)

@@ -32,7 +32,7 @@ use Rattle.register.specs.Append.Stands.{below-take}
 use Rattle.linker_spec.specs.Relocation.{addressOr0}
 use Rattle.linker_spec.specs.Exports.{putUsable, namedExport, namedExports, indexedExport, indexedExports, offsetOr0, mostSegments, readSegments, readModule}
 use Rattle.linker_spec.specs.Room.{Addressed, Small}
-use Rattle.linker_spec.specs.Gives.{Yields, yields-ret, yields-bind, yields-then, yields-if, yields-loop}
+use Rattle.linker_spec.specs.AnyResult.{Yields, yields-ret, yields-bind, yields-then, yields-if, yields-loop}
 
 -- a replaced or added export: another name is as absent as before
 absent-stays
@@ -58,16 +58,16 @@ same-turned a b n = go (same b a) refl
     go true e = sym (subst (λ c. same a c ≡ true) (sym (same-true b a e)) (same-refl a)) ∙ n
 
 -- exports that a record may keep
-pub record Kept (xs : List Export) : Type 0 where
+pub record RecordableExports (xs : List Export) : Type 0 where
   pub names : named-ok xs ≡ true
   pub differ : distinct xs ≡ true
   pub small : Addressed xs
 
-pub none-kept : Kept []
+pub none-kept : RecordableExports []
 unfolding named-ok distinct Addressed
 none-kept = record { names = refl; differ = refl; small = tt }
 
-put-kept : (xs : List Export) (name : List ℕ) (a : ℕ) → isName name ≡ true → a < 2 ^ 32 → Kept xs → Kept (putNamed xs name a)
+put-kept : (xs : List Export) (name : List ℕ) (a : ℕ) → isName name ≡ true → a < 2 ^ 32 → RecordableExports xs → RecordableExports (putNamed xs name a)
 unfolding putNamed named-ok distinct Addressed findExport findFrom isNothing
 put-kept [] name a g s k = record { names = also g refl; differ = refl; small = (s, tt) }
 put-kept (x ∷ xs) name a g s k = go (same name (x .name)) refl (put-kept xs name a g s)
@@ -79,8 +79,8 @@ put-kept (x ∷ xs) name a g s k = go (same name (x .name)) refl (put-kept xs na
     d = both (isNothing (findExport xs (x .name))) (distinct xs) (k .differ)
 
     go
-        : (t : Bool) → same name (x .name) ≡ t → (Kept xs → Kept (putNamed xs name a))
-        → Kept (if t then record { name = x .name; address = a } ∷ xs else x ∷ putNamed xs name a)
+        : (t : Bool) → same name (x .name) ≡ t → (RecordableExports xs → RecordableExports (putNamed xs name a))
+        → RecordableExports (if t then record { name = x .name; address = a } ∷ xs else x ∷ putNamed xs name a)
     go true e h = record { names = k .names; differ = k .differ; small = (s, k .small .1) }
     go false e h =
         let i = h (record { names = n .1; differ = d .1; small = k .small .1 }) in
@@ -103,10 +103,14 @@ address-small Missing x = omega arith
 abbrev SmallAddress : Address → Type 0
 SmallAddress a = addressOr0 a < 2 ^ 32
 
-usable-kept : (xs : List Export) (name : List ℕ) (a : Address) → isName name ≡ true → SmallAddress a → Kept xs → Kept (putUsable xs name a)
+usable-kept : (xs : List Export) (name : List ℕ) (a : Address) → isName name ≡ true → SmallAddress a → RecordableExports xs → RecordableExports (putUsable xs name a)
 unfolding putUsable
 usable-kept xs name (At a) g s k = put-kept xs name a g s k
 usable-kept xs name Nowhere g s k = k
+
+-- a 32-bit number
+abbrev pub Is32Bit : ℕ → Type 0
+Is32Bit n = n < 2 ^ 32
 
 module _ (at : ℕ) where
   pub name-yields : (p : ℕ) → Yields at (λ name. isName name ≡ true) (nameAt p)
@@ -118,42 +122,39 @@ module _ (at : ℕ) where
       yields-then at SmallAddress (segment base (tagSegment tag)) _
       (λ s. yields-ret at SmallAddress (addressIn s (tagOffset tag)) (address-small s (tagOffset tag)))
 
-  abbrev Word : ℕ → Type 0
-  Word v = v < 2 ^ 32
-
-  word-yields : (p : ℕ) → Yields at Word (get32 p)
+  word-yields : (p : ℕ) → Yields at Is32Bit (get32 p)
   unfolding run
   word-yields p w b = wordAt-small at w p b
 
   module _ (base : ℕ) where
-    namedExports-yields : Yields at Kept (namedExports base)
+    namedExports-yields : Yields at RecordableExports (namedExports base)
     unfolding namedExports namedExport
     namedExports-yields =
-        yields-then at Kept (field base exportNamedSymbolTableOffset) _
-        (λ table. yields-then at Kept (field base exportNamedSymbolNum) _
-        (λ count. yields-loop at Kept _ (λ i xs k.
-        yields-then at Kept (get32 (entryAt table i exportNamedSymbolEntrySize)) _
-        (λ p. yields-bind at (λ name. isName name ≡ true) Kept (nameAt p) _ (name-yields p)
-        (λ name g. yields-then at Kept (get32 (entryAt table i exportNamedSymbolEntrySize ⊕ 4)) _
-        (λ tag. yields-bind at SmallAddress Kept (tagToAddress base tag) _ (address-yields base tag)
-        (λ a s. yields-ret at Kept (putUsable xs name a) (usable-kept xs name a g s k))))))
+        yields-then at RecordableExports (field base exportNamedSymbolTableOffset) _
+        (λ table. yields-then at RecordableExports (field base exportNamedSymbolNum) _
+        (λ count. yields-loop at RecordableExports _ (λ i xs k.
+        yields-then at RecordableExports (get32 (entryAt table i exportNamedSymbolEntrySize)) _
+        (λ p. yields-bind at (λ name. isName name ≡ true) RecordableExports (nameAt p) _ (name-yields p)
+        (λ name g. yields-then at RecordableExports (get32 (entryAt table i exportNamedSymbolEntrySize ⊕ 4)) _
+        (λ tag. yields-bind at SmallAddress RecordableExports (tagToAddress base tag) _ (address-yields base tag)
+        (λ a s. yields-ret at RecordableExports (putUsable xs name a) (usable-kept xs name a g s k))))))
         0 count [] none-kept))
 
-    abbrev Words : List ℕ → Type 0
-    Words xs = Below (2 ^ 32) xs
+    abbrev All32Bit : List ℕ → Type 0
+    All32Bit xs = Below (2 ^ 32) xs
 
-    one-more : (xs : List ℕ) (v : ℕ) → Words xs → v < 2 ^ 32 → Words (xs ++ (v ∷ []))
+    one-more : (xs : List ℕ) (v : ℕ) → All32Bit xs → v < 2 ^ 32 → All32Bit (xs ++ (v ∷ []))
     one-more xs v h s = below-append xs (v ∷ []) (2 ^ 32) h (below-one v s)
 
-    indexedExports-yields : Yields at Words (indexedExports base)
+    indexedExports-yields : Yields at All32Bit (indexedExports base)
     unfolding indexedExports indexedExport
     indexedExports-yields =
-        yields-then at Words (field base exportIndexedSymbolTableOffset) _
-        (λ table. yields-then at Words (field base exportIndexedSymbolNum) _
-        (λ count. yields-loop at Words _ (λ i xs k.
-        yields-then at Words (get32 (entryAt table i exportIndexedSymbolEntrySize)) _
-        (λ tag. yields-bind at SmallAddress Words (tagToAddress base tag) _ (address-yields base tag)
-        (λ a s. yields-ret at Words (xs ++ (addressOr0 a ∷ [])) (one-more xs (addressOr0 a) k s))))
+        yields-then at All32Bit (field base exportIndexedSymbolTableOffset) _
+        (λ table. yields-then at All32Bit (field base exportIndexedSymbolNum) _
+        (λ count. yields-loop at All32Bit _ (λ i xs k.
+        yields-then at All32Bit (get32 (entryAt table i exportIndexedSymbolEntrySize)) _
+        (λ tag. yields-bind at SmallAddress All32Bit (tagToAddress base tag) _ (address-yields base tag)
+        (λ a s. yields-ret at All32Bit (xs ++ (addressOr0 a ∷ [])) (one-more xs (addressOr0 a) k s))))
         0 count [] (λ i. omega arith)))
 
     abbrev SmallStart : Segment → Type 0
@@ -169,29 +170,29 @@ module _ (at : ℕ) where
         (λ count. yields-if at SmallOffset (ltb i count) _ _
         (λ _. yields-then at SmallOffset (field base segmentTableOffset) _
         (λ table. yields-bind at SmallStart SmallOffset _ _
-        (yields-bind at Word SmallStart (get32 (entryAt table i segmentEntrySize)) _ (word-yields _)
+        (yields-bind at Is32Bit SmallStart (get32 (entryAt table i segmentEntrySize)) _ (word-yields _)
         (λ offset h. yields-then at SmallStart (get32 (entryAt table i segmentEntrySize ⊕ 4)) _
         (λ size. yields-then at SmallStart (get32 (entryAt table i segmentEntrySize ⊕ 8)) _
         (λ kind. yields-ret at SmallStart _ h))))
         (λ s h. yields-ret at SmallOffset (Found s) h)))
         (λ _. yields-ret at SmallOffset Missing (omega arith)))
 
-    abbrev Segments : List ℕ → Type 0
-    Segments xs = (length xs ≤ 16) × Words xs
+    abbrev FewSegments : List ℕ → Type 0
+    FewSegments xs = (length xs ≤ 16) × All32Bit xs
 
     -- cut at 16
-    cut : (n : ℕ) (xs : List ℕ) → n ≤ 16 → Words xs → Segments (take n xs)
+    cut : (n : ℕ) (xs : List ℕ) → n ≤ 16 → All32Bit xs → FewSegments (take n xs)
     cut n xs l h = (rw length-take (omega arith), below-take n (2 ^ 32) xs (omega arith) h)
 
-    readSegments-yields : Yields at Segments (readSegments base)
+    readSegments-yields : Yields at FewSegments (readSegments base)
     unfolding readSegments
     readSegments-yields =
-        yields-then at Segments (field base segmentNum) _
-        (λ count. yields-bind at Words Segments _ _
-        (yields-loop at Words _ (λ i xs k. yields-bind at SmallOffset Words (segment base i) _ (segment-yields i)
-        (λ s h. yields-ret at Words (xs ++ (offsetOr0 s ∷ [])) (one-more xs (offsetOr0 s) k h)))
+        yields-then at FewSegments (field base segmentNum) _
+        (λ count. yields-bind at All32Bit FewSegments _ _
+        (yields-loop at All32Bit _ (λ i xs k. yields-bind at SmallOffset All32Bit (segment base i) _ (segment-yields i)
+        (λ s h. yields-ret at All32Bit (xs ++ (offsetOr0 s ∷ [])) (one-more xs (offsetOr0 s) k h)))
         0 count [] (λ i. omega arith))
-        (λ xs h. yields-ret at Segments (take mostSegments xs) (cut mostSegments xs (omega arith) h)))
+        (λ xs h. yields-ret at FewSegments (take mostSegments xs) (cut mostSegments xs (omega arith) h)))
 
   -- the record that a load or an `initialize` reads
   abbrev pub Readable : Module → Type 0
@@ -200,7 +201,7 @@ module _ (at : ℕ) where
   pub readModule-yields : (base size : ℕ) (auto : Bool) → base < 2 ^ 32 → size < 2 ^ 32 → Yields at Readable (readModule base size auto)
   unfolding readModule properModule
   readModule-yields base size auto hb hs =
-      yields-bind at Kept Readable (namedExports base) _ (namedExports-yields base)
+      yields-bind at RecordableExports Readable (namedExports base) _ (namedExports-yields base)
       (λ named k. yields-bind at (Below (2 ^ 32)) Readable (indexedExports base) _ (indexedExports-yields base)
       (λ indexed x. yields-bind at (λ xs. (length xs ≤ 16) × Below (2 ^ 32) xs) Readable (readSegments base) _ (readSegments-yields base)
       (λ segments s. yields-then at Readable (field base moduleNameOffset) _

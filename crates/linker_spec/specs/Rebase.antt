@@ -8,7 +8,6 @@ use Rattle.window.specs.Memory.{if_then_else_, _⊕_, _⊖_}
 use Rattle.window.specs.Access.{Prog, ret, _>>=_, _>>_, get32, put32}
 use Rattle.window.specs.Loop.{loop}
 use Rattle.layout.specs.Header.{magic, nameOffset, firstRebased, segmentNum}
-use Rattle.layout.specs.Tables.{pointerTables}
 use Rattle.layout.specs.Segments.{field, entryAt, segment, setSegment}
 use Rattle.layout.specs.declared.format.Segment.{Segment}
 use Rattle.layout.specs.declared.format.SegmentType.{SegmentType}
@@ -16,7 +15,7 @@ use Rattle.layout.specs.declared.format.SegmentType.the-variants.{Code, RoData,
 use Rattle.layout.specs.declared.segments.FoundSegment.{FoundSegment}
 use Rattle.layout.specs.declared.segments.FoundSegment.the-variants.{Found, Missing}
 use Rattle.layout.specs.declared.tables.PointerTable.{PointerTable}
-use Rattle.linker_spec.specs.declared.rebase.Lent.{Lent}
+use Rattle.linker_spec.specs.declared.rebase.LoadArguments.{LoadArguments}
 use Rattle.linker_spec.specs.declared.rebase.Placed.{Placed}
 use Rattle.linker_spec.specs.declared.rebase.Placed.the-variants.{Refused, Put}
 use Rattle.linker_spec.specs.declared.rebase.Moved.{Moved}
@@ -47,21 +46,21 @@ abbrev pub at-offset : Segment → ℕ → Segment
 at-offset s x = record { offset = x; size = s .size; kind = s .kind }
 
 -- "Data or Bss of size above 0 takes the lent address; a size above the lent size is refused, equal passes."
-unfoldable pub lentPlace : Segment → ℕ → ℕ → ℕ → Placed
+unfoldable pub lentPlace : Segment → (address size old : ℕ) → Placed
 lentPlace s address size old = if ltb size (s .size) then Refused else Put (at-offset s address) old
 
 -- "Other segments with offset above 0 move by the base; a moved offset above base + size is refused, equal passes."
-unfoldable pub movedPlace : Lent → Segment → ℕ → Placed
+unfoldable pub movedPlace : LoadArguments → Segment → ℕ → Placed
 movedPlace l s old =
     if eqb (s .offset) 0 then Put s old
     else (if ltb (l .base ⊕ l .size) (s .offset ⊕ l .base) then Refused else Put (at-offset s (s .offset ⊕ l .base)) old)
 
 -- Data's old place is where its bytes still stand in the image
-unfoldable pub place : Lent → Segment → SegmentType → ℕ → Placed
+unfoldable pub place : LoadArguments → Segment → SegmentType → ℕ → Placed
 place l s Code old = movedPlace l s old
 place l s RoData old = movedPlace l s old
-place l s Data old = if eqb (s .size) 0 then movedPlace l s old else lentPlace s (l .«data_at») (l .«data_size») (s .offset ⊕ l .base)
-place l s Bss old = if eqb (s .size) 0 then movedPlace l s old else lentPlace s (l .«bss_at») (l .«bss_size») old
+place l s Data old = if eqb (s .size) 0 then movedPlace l s old else lentPlace s (l .«data_segment») (l .«data_segment_size») (s .offset ⊕ l .base)
+place l s Bss old = if eqb (s .size) 0 then movedPlace l s old else lentPlace s (l .«bss_segment») (l .«bss_segment_size») old
 
 -- the segments of a load, in order, up to the first that is refused
 
@@ -72,17 +71,17 @@ writeBack base i (Put s old) = do
   ret (OldPlace old)
 
 -- a lookup that finds no segment, the count having changed meanwhile, passes the turn over
-unfoldable pub moveFound : Lent → ℕ → ℕ → FoundSegment → Prog Moved
+unfoldable pub moveFound : LoadArguments → ℕ → ℕ → FoundSegment → Prog Moved
 moveFound l i old Missing = ret (OldPlace old)
 moveFound l i old (Found s) = writeBack (l .base) i (place l s (s .kind) old)
 
-unfoldable pub moveSegment : Lent → ℕ → Moved → Prog Moved
+unfoldable pub moveSegment : LoadArguments → ℕ → Moved → Prog Moved
 moveSegment l i Bad = ret Bad
 moveSegment l i (OldPlace old) = do
   s ← segment (l .base) i
   moveFound l i old s
 
-unfoldable pub moveSegments : Lent → Prog Moved
+unfoldable pub moveSegments : LoadArguments → Prog Moved
 moveSegments l = do
   count ← field (l .base) segmentNum
   loop (moveSegment l) 0 count (OldPlace 0)

@@ -18,19 +18,19 @@ use Rattle.layout.specs.declared.segments.Address.{Address}
 use Rattle.layout.specs.declared.segments.Address.the-variants.{At, Nowhere}
 
 -- "Internal relocations into Data write at the old place, with the final place subtracted for kind 3."
-unfoldable pub writePlace : SegmentType → ℕ → ℕ → ℕ → ℕ
+unfoldable pub writePlace : SegmentType → (old offset final : ℕ) → ℕ
 writePlace Data old offset final = old ⊕ offset
 writePlace Code old offset final = final
 writePlace RoData old offset final = final
 writePlace Bss old offset final = final
 
 -- the symbol is the start of the symbol segment; none: nothing is written
-unfoldable pub relocateFrom : FoundSegment → ℕ → ℕ → ℕ → ℕ → Prog (Unit {0})
+unfoldable pub relocateFrom : FoundSegment → (target kind addend final : ℕ) → Prog (Unit {0})
 relocateFrom Missing target kind addend final = ret tt
 relocateFrom (Found s) target kind addend final = applyRelocation target (relocationType kind) addend (s .offset) final
 
 -- the target segment first, then the offset's test, then the symbol segment
-unfoldable pub relocateInto : ℕ → ℕ → FoundSegment → ℕ → ℕ → ℕ → ℕ → Prog (Unit {0})
+unfoldable pub relocateInto : (base old : ℕ) → FoundSegment → (tag kind symbol addend : ℕ) → Prog (Unit {0})
 relocateInto base old Missing tag kind symbol addend = ret tt
 relocateInto base old (Found s) tag kind symbol addend =
     if ltb (tagOffset tag) (s .size) then (do
@@ -38,7 +38,7 @@ relocateInto base old (Found s) tag kind symbol addend =
       relocateFrom from (writePlace (s .kind) old (tagOffset tag) (s .offset ⊕ tagOffset tag)) kind addend (s .offset ⊕ tagOffset tag))
     else ret tt
 
-unfoldable pub applyInternalRelocation : ℕ → ℕ → ℕ → Prog (Unit {0})
+unfoldable pub applyInternalRelocation : (base old entry : ℕ) → Prog (Unit {0})
 applyInternalRelocation base old entry = do
   tag ← get32 entry
   kind ← get8 (entry ⊕ 4)
@@ -65,12 +65,12 @@ unresolvedSymbol base = do
   ret (addressOr0 a)
 
 -- an external relocation at a usable address; kind 3 subtracts the place written
-unfoldable pub relocateAt : Address → ℕ → ℕ → ℕ → Prog (Unit {0})
+unfoldable pub relocateAt : Address → (kind addend symbol : ℕ) → Prog (Unit {0})
 relocateAt (At target) kind addend symbol = applyRelocation target (relocationType kind) addend symbol target
 relocateAt Nowhere kind addend symbol = ret tt
 
 -- "`initialize` and `load` set external relocations to the handler only if its address is not 0; marks are always cleared."
-unfoldable pub resetEntry : ℕ → ℕ → ℕ → Prog (Unit {0})
+unfoldable pub resetEntry : (base handler entry : ℕ) → Prog (Unit {0})
 resetEntry base handler entry = do
   if eqb handler 0 then ret tt else (do
     tag ← get32 entry
@@ -87,8 +87,8 @@ resetExternalRelocations base = do
   count ← field base externalRelocationNum
   loop (λ i _. resetEntry base handler (entryAt table i relocationEntrySize)) 0 count tt
 
--- "A batch walk stops after the entry with an end mark, or after 0x1001 entries": f more may be walked, n were
-unfoldable pub walk : ℕ → ℕ → ℕ → ℕ → ℕ → Prog ℕ
+-- "A batch walk stops after the entry with an end mark, or after 0x1001 entries": `more` may still be walked, n were
+unfoldable pub walk : (more base symbol entry n : ℕ) → Prog ℕ
 walk zero base symbol entry n = ret n
 walk (suc f) base symbol entry n = do
   tag ← get32 entry
@@ -107,7 +107,7 @@ mark true = 1
 mark false = 0
 
 -- the entries walked; the first entry's mark then says whether the batch is resolved
-unfoldable pub applyRelocationBatch : ℕ → ℕ → ℕ → Bool → Prog ℕ
+unfoldable pub applyRelocationBatch : (base batch symbol : ℕ) → Bool → Prog ℕ
 applyRelocationBatch base batch symbol resolved = do
   n ← walk batchLimit base symbol batch 0
   put8 (batch ⊕ 6) (mark resolved)

@@ -12,7 +12,7 @@ use Rattle.register.specs.CheckIs.{register-parts}
 use Rattle.register.specs.Change.{removed}
 use Rattle.register.specs.Buffers.{Below, padded, names-are, encodeRecords, encodeNames, encodeMissing}
 use Rattle.register.specs.Change.Encoded.{whole-fits}
-use Rattle.register.specs.Change.Remove.{Stands, remaining}
+use Rattle.register.specs.Change.Remove.{RecordOfRegister, remaining}
 use Rattle.register.specs.Change.Left.{less, remove-kept}
 use Rattle.linker_spec.specs.Room.{Encoding, Stored, sized}
 
@@ -21,7 +21,7 @@ module _ (records names missing : List ℕ) (v : isRegister records names missin
   r = registerOf records names missing
 
   module _ (h : k < length (r .modules)) where
-    abbrev leaving : Stands records names (32 + 4 * length (recordWords 0 (take k (r .modules))))
+    abbrev leaving : RecordOfRegister records names (32 + 4 * length (recordWords 0 (take k (r .modules))))
     leaving = record { missing = missing; number = k; holds = v; below = h; there = refl }
 
     left-proper : proper (removed r k) ≡ true

@@ -17,12 +17,12 @@ use Rattle.register.specs.declared.read.Symbol.the-variants.{At, Nothing}
 use Rattle.linker_spec.specs.Relocation.{unresolvedSymbol, applyRelocationBatch, batchIsResolved}
 
 -- "Unload's resets write it even if 0": a resolved batch gets the handler's address, and its mark is cleared
-unfoldable pub reset : ℕ → ℕ → ℕ → Prog (Unit {0})
+unfoldable pub reset : (base handler batch : ℕ) → Prog (Unit {0})
 reset base handler batch = if eqb batch 0 then ret tt else (do
   resolved ← batchIsResolved batch
   if resolved then applyRelocationBatch base batch handler false >> ret tt else ret tt)
 
-unfoldable pub resetAt : ℕ → ℕ → ℕ → Prog (Unit {0})
+unfoldable pub resetAt : (base handler entry : ℕ) → Prog (Unit {0})
 resetAt base handler entry = do
   batch ← get32 (entry ⊕ 4)
   reset base handler batch
@@ -32,14 +32,14 @@ exists (At a) = true
 exists Nothing = false
 
 -- a named import that the module exported: the name first, its batch only then
-unfoldable pub resetNamed : Module → ℕ → ℕ → ℕ → Prog (Unit {0})
+unfoldable pub resetNamed : Module → (base handler entry : ℕ) → Prog (Unit {0})
 resetNamed gone base handler entry = do
   p ← get32 entry
   name ← nameAt p
   if exists (exportOf gone name) then resetAt base handler entry else ret tt
 
 -- a module entry that names the module: both its tables, their places and counts read first
-unfoldable pub resetModule : Module → ℕ → ℕ → ℕ → Prog (Unit {0})
+unfoldable pub resetModule : Module → (base handler entry : ℕ) → Prog (Unit {0})
 resetModule gone base handler entry = do
   p ← get32 entry
   name ← nameAt p

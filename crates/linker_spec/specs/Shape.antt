@@ -42,26 +42,26 @@ Listed at w crs auto (m ∷ ms) =
 abbrev pub Off : ℕ → ℕ → Type 0
 Off x y = (4 ≤ place x y) × (4 ≤ place y x)
 
-abbrev pub Apart : ℕ → ℕ → Type 0
-Apart a b = (s t : Bool) → Off (a ⊕ headField s) (b ⊕ headField t)
+abbrev pub FieldsApart : ℕ → ℕ → Type 0
+FieldsApart a b = (s t : Bool) → Off (a ⊕ headField s) (b ⊕ headField t)
 
-unfoldable pub AllApart : ℕ → List ℕ → Type 0
-AllApart a [] = Unit {0}
-AllApart a (b ∷ bs) = Apart a b × AllApart a bs
+unfoldable pub AllFieldsApart : ℕ → List ℕ → Type 0
+AllFieldsApart a [] = Unit {0}
+AllFieldsApart a (b ∷ bs) = FieldsApart a b × AllFieldsApart a bs
 
 abbrev pub Header : ℕ → List ℕ → ℕ → Type 0
 Header at w a = (0 < a) × ((a < 2 ^ 32) × (Whole at w (a ⊕ nextCro) × Whole at w (a ⊕ previousCro)))
 
 unfoldable pub Headers : ℕ → List ℕ → List ℕ → Type 0
 Headers at w [] = Unit {0}
-Headers at w (a ∷ bs) = Header at w a × (AllApart a bs × Headers at w bs)
+Headers at w (a ∷ bs) = Header at w a × (AllFieldsApart a bs × Headers at w bs)
 
 -- the two words of one header
 pub own : (a : ℕ) → Off (a ⊕ nextCro) (a ⊕ previousCro)
 unfolding place
 own a = (omega arith, omega arith)
 
-pub turned : (a b : ℕ) → Apart a b → Apart b a
+pub turned : (a b : ℕ) → FieldsApart a b → FieldsApart b a
 turned a b h s t = let k = h t s in (k .1, k .0)
 
 pub off-turned : (x y : ℕ) → Off x y → Off y x
@@ -79,15 +79,15 @@ here : (at : ℕ) (w : List ℕ) (x v : ℕ) → Whole at w x → v < 2 ^ 32 →
 here at w x v h l = wordAt-same at w x v h ∙ omega arith
 
 -- one module more at the end, where the other links are as before
-unfoldable Inner : (ℕ → ℕ) → (ℕ → ℕ) → (ℕ → ℕ) → (ℕ → ℕ) → ℕ → List ℕ → Type 0
-Inner N P N′ P′ m [] = Unit {0}
-Inner N P N′ P′ m (n ∷ ns) = (N′ m ≡ N m) × ((P′ n ≡ P n) × Inner N P N′ P′ n ns)
+unfoldable InnerLinks : (ℕ → ℕ) → (ℕ → ℕ) → (ℕ → ℕ) → (ℕ → ℕ) → ℕ → List ℕ → Type 0
+InnerLinks N P N′ P′ m [] = Unit {0}
+InnerLinks N P N′ P′ m (n ∷ ns) = (N′ m ≡ N m) × ((P′ n ≡ P n) × InnerLinks N P N′ P′ n ns)
 
 module _ (N P N′ P′ : ℕ → ℕ) (base : ℕ) where
   chain-more
-      : (m : ℕ) (ms : List ℕ) → Chained N P m ms → Inner N P N′ P′ m ms → N′ (lastOf m ms) ≡ base → P′ base ≡ lastOf m ms → N′ base ≡ 0
+      : (m : ℕ) (ms : List ℕ) → Chained N P m ms → InnerLinks N P N′ P′ m ms → N′ (lastOf m ms) ≡ base → P′ base ≡ lastOf m ms → N′ base ≡ 0
       → Chained N′ P′ m (ms ++ (base ∷ []))
-  unfolding Chained Inner lastOf
+  unfolding Chained InnerLinks lastOf
   chain-more m [] c i e f g = (e, (f, g))
   chain-more m (n ∷ ns) c i e f g = (i .0 ∙ c .0, (i .1 .0 ∙ c .1 .0, chain-more n ns (c .1 .1) (i .1 .1) e f g))
 
@@ -97,15 +97,15 @@ last-more m [] base = refl
 last-more m (n ∷ ns) base = last-more n ns base
 
 -- the last of several is apart from what all are apart from
-pub last-apart : (a n : ℕ) (ns : List ℕ) → AllApart a (n ∷ ns) → Apart a (lastOf n ns)
-unfolding AllApart lastOf
+pub last-apart : (a n : ℕ) (ns : List ℕ) → AllFieldsApart a (n ∷ ns) → FieldsApart a (lastOf n ns)
+unfolding AllFieldsApart lastOf
 last-apart a n [] h = h .0
 last-apart a n (k ∷ ns) h = last-apart a k ns (h .1)
 
 abbrev Near : ℕ → ℕ → Type 0
-Near a b = (a ≡ b) ⊎ Apart a b
+Near a b = (a ≡ b) ⊎ FieldsApart a b
 
-last-near : (n : ℕ) (ns : List ℕ) → AllApart n ns → Near n (lastOf n ns)
+last-near : (n : ℕ) (ns : List ℕ) → AllFieldsApart n ns → Near n (lastOf n ns)
 unfolding lastOf
 last-near n [] h = inl refl
 last-near n (k ∷ ns) h = inr (last-apart n k ns h)
@@ -120,7 +120,7 @@ near-turned a b (inl e) = inl (sym e)
 near-turned a b (inr h) = inr (turned a b h)
 
 -- what `register` does once the head is read
-abbrev atEnd : ℕ → ℕ → Bool → ℕ → Prog (Unit {0})
+abbrev atEnd : (crs base : ℕ) → Bool → (head : ℕ) → Prog (Unit {0})
 atEnd crs base auto head = (if eqb head 0 then becomesHead crs (headField auto) base else becomesTail head base) >> setField base nextCro 0
 
 module _ (at : ℕ) (w : List ℕ) (crs base : ℕ) (auto : Bool) where
@@ -163,12 +163,12 @@ module _ (at : ℕ) (w : List ℕ) (crs base : ℕ) (auto : Bool) where
         ∙ elsewhere at w (t ⊕ nextCro) base y o₁
 
     inner
-        : (n : ℕ) (ns : List ℕ) → lastOf n ns ≡ t → Near n m → AllApart m ns → AllApart base (n ∷ ns) → Headers at w (n ∷ ns)
-        → Inner (next at w) (previous at w) (next at (afterTail m t)) (previous at (afterTail m t)) n ns
-    unfolding Inner lastOf AllApart Headers
+        : (n : ℕ) (ns : List ℕ) → lastOf n ns ≡ t → Near n m → AllFieldsApart m ns → AllFieldsApart base (n ∷ ns) → Headers at w (n ∷ ns)
+        → InnerLinks (next at w) (previous at w) (next at (afterTail m t)) (previous at (afterTail m t)) n ns
+    unfolding InnerLinks lastOf AllFieldsApart Headers
     inner n [] e near am ab hs = tt
     inner n (k ∷ ns) e near am ab hs =
-        let nt : Apart n t = subst (Apart n) e (last-apart n k ns (hs .1 .0)) in
+        let nt : FieldsApart n t = subst (FieldsApart n) e (last-apart n k ns (hs .1 .0)) in
         let kt : Near k t = subst (Near k) e (last-near k ns (hs .1 .1 .1 .0)) in (
           unwritten (n ⊕ nextCro) (turned n t nt true true) (ab .0 false true) (off-turned (n ⊕ nextCro) (m ⊕ previousCro) (near-off n m near))
               (ab .0 true true),
@@ -191,13 +191,13 @@ head-whole at w a false h = h .1 .1 .1
 pub register-listed
     : (at : ℕ) (w : List ℕ) (crs base : ℕ) (auto : Bool) (ms : List ℕ) → Headers at w (crs ∷ base ∷ ms) → Listed at w crs auto ms
     → Listed at (run at (register crs base auto) w .1) crs auto (ms ++ (base ∷ []))
-unfolding Listed Headers AllApart lastOf Chained
+unfolding Listed Headers AllFieldsApart lastOf Chained
 register-listed at w crs base auto [] h l =
     let x = crs ⊕ headField auto in
     let w₁ = putWord at w x base in
     let w₂ = putWord at w₁ (base ⊕ previousCro) base in
     let b = h .1 .1 .0 in
-    let cb : Apart base crs = turned crs base (h .1 .0 .0) in
+    let cb : FieldsApart base crs = turned crs base (h .1 .0 .0) in
     rw (first-listed at w crs base auto l) (
       elsewhere at w₂ (base ⊕ nextCro) 0 x (cb true auto)
           ∙ elsewhere at w₁ (base ⊕ previousCro) base x (cb false auto)
@@ -219,11 +219,11 @@ register-listed at w crs base auto (m ∷ ms) h l =
     let b = h .1 .1 .0 in
     let hm = h .1 .1 .1 .1 in
     let ht = headers-last at w m ms hm in
-    let bc : Apart base crs = turned crs base (h .1 .0 .0) in
-    let mc : Apart m crs = turned crs m (h .1 .0 .1 .0) in
-    let tc : Apart t crs = turned crs t (last-apart crs m ms (h .1 .0 .1)) in
-    let bm : Apart base m = h .1 .1 .1 .0 .0 in
-    let bt : Apart base t = last-apart base m ms (h .1 .1 .1 .0) in
+    let bc : FieldsApart base crs = turned crs base (h .1 .0 .0) in
+    let mc : FieldsApart m crs = turned crs m (h .1 .0 .1 .0) in
+    let tc : FieldsApart t crs = turned crs t (last-apart crs m ms (h .1 .0 .1)) in
+    let bm : FieldsApart base m = h .1 .1 .1 .0 .0 in
+    let bt : FieldsApart base t = last-apart base m ms (h .1 .1 .1 .0) in
     let tm : Near t m = near-turned m t (last-near m ms (hm .1 .0)) in
     rw (later-listed at w crs base auto m t (hm .0 .0) (l .0) (l .1 .0), last-more m ms base) (
       unwritten at w crs base auto m t x (tc true auto) (bc false auto) (mc false auto) (bc true auto) ∙ l .0,

@@ -2,13 +2,13 @@
 use layout::format::Segment;
 
 // What a load lends: the module's image, and room for its Data and Bss.
-pub struct Lent {
+pub struct LoadArguments {
     pub base: u32,
     pub size: u32,
-    pub data_at: u32,
-    pub data_size: u32,
-    pub bss_at: u32,
-    pub bss_size: u32,
+    pub data_segment: u32,
+    pub data_segment_size: u32,
+    pub bss_segment: u32,
+    pub bss_segment_size: u32,
 }
 
 // Where a load puts a segment: the segment with its place, and the old place of Data; or that it is refused.

@@ -15,11 +15,11 @@ use Rattle.register.specs.declared.record.End.{End}
 use Rattle.register.specs.declared.record.End.the-variants.{At, Bad}
 
 -- a name stands at q, the running sum of the lengths before it
-unfoldable pub nameOk : List ℕ → ℕ → ℕ → ℕ → Bool
+unfoldable pub nameOk : List ℕ → (q offset count : ℕ) → Bool
 nameOk names q offset count =
     eqb offset q && (leb count 512 && (leb (offset + count) (length names) && noZero (part names offset count)))
 
-unfoldable pub exportsEnd : ℕ → List ℕ → List ℕ → ℕ → ℕ → End
+unfoldable pub exportsEnd : (count : ℕ) → List ℕ → List ℕ → (k q : ℕ) → End
 exportsEnd zero ws names k q = At q
 exportsEnd (suc n) ws names k q =
     if nameOk names q (getD ws (3 * k) 0) (getD ws (3 * k + 1) 0) then exportsEnd n ws names (k + 1) (q + getD ws (3 * k + 1) 0)
@@ -64,11 +64,11 @@ countsOk ws =
     && (eqb (getD ws 6 0) 0 && (eqb (getD ws 7 0) 0 && (eqb (getD ws 1 0) 1 || (eqb (getD ws 1 0) 0 && eqb (getD ws 2 0) 0)))))
 
 -- the bytes used, of so many records bytes and name bytes
-unfoldable pub sizesOk : ℕ → ℕ → ℕ → ℕ → Bool
+unfoldable pub sizesOk : (used named records names : ℕ) → Bool
 sizesOk used named records names = leb 32 used && (leb used records && (eqb (used % 4) 0 && leb named names))
 
 -- n records in `used` bytes, their names in `named` bytes, k slots, and zeros after each
-unfoldable pub contentsOk : ℕ → ℕ → ℕ → ℕ → List ℕ → List ℕ → List ℕ → Bool
+unfoldable pub contentsOk : (n used named k : ℕ) → List ℕ → List ℕ → List ℕ → Bool
 contentsOk n used named k records names missing =
     modulesOk n (wordsIn (part records 32 (used - 32))) (take named names) 0
     && (slotsOk k missing

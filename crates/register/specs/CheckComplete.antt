@@ -1,14 +1,13 @@
 -- An encoding passes the test and is read back: records and names, by induction over the abstract value.
-use Prim.Native.Nat.{ℕ, zero, suc, _+_, _-_, _*_, _/_, _%_, _≤_, _<_}
+use Prim.Native.Nat.{ℕ, _+_, _-_, _*_, _/_}
 use mathlib.Core.Path.{_≡_, refl, sym, ap, _∙_}
 use mathlib.Core.List.{List, [], _∷_, _++_, append-assoc, append-nil}
 use mathlib.Core.Bool.{Bool, true, false, _&&_}
 use native.Mathlib.Omega.{arith}
-use lib.ListN.{length, take, drop, getD, length-append}
-use lib.Seq.{getD-append-add, drop-append-seam, take-append-seam, drop-drop}
+use lib.ListN.{length, drop, getD, length-append}
+use lib.Seq.{getD-append-add, drop-append-seam}
 use lib.Dec.{eqb, leb}
 use borrow.Author.Tests.{eq-eqb, le-leb}
-use Rattle.window.specs.Memory.{if_then_else_}
 use Rattle.window.specs.Name.{noZero, isName}
 use Rattle.window.specs.Tests.{both, also}
 use Rattle.register.specs.Words.{part}
@@ -18,7 +17,7 @@ use Rattle.register.specs.Encode.{exportWords, exportNames, moduleNames,
 use Rattle.register.specs.Decode.{exportAt, exportsFrom, exportsIn, moduleSize, readModule, readModules}
 use Rattle.register.specs.Check.{nameOk, exportsEnd, fixedOk, exportPart, moduleEnd, after, modulesOk}
 use Rattle.register.specs.declared.record.End.{End}
-use Rattle.register.specs.declared.record.End.the-variants.{At, Bad}
+use Rattle.register.specs.declared.record.End.the-variants.{At}
 
 pub length-exportWords : (q : ℕ) (xs : List Export) → length (exportWords q xs) ≡ 3 * length xs
 unfolding exportWords
@@ -41,13 +40,13 @@ at-word : (before ys : List ℕ) (k j : ℕ) → length before ≡ 3 * k → get
 at-word before ys k j e = rw (← e) (getD-append-add before ys j 0)
 
 -- exports in the middle of words, with their names in the middle of names
-pub record Listed (ws names : List ℕ) (k q : ℕ) (xs : List Export) : Type 0 where
+pub record ExportsBack (ws names : List ℕ) (k q : ℕ) (xs : List Export) : Type 0 where
   pub end : exportsEnd (length xs) ws names k q ≡ At (q + length (exportNames xs))
   pub back : exportsFrom (length xs) ws names k ≡ xs
 
 pub exports-complete
     : (xs : List Export) (ws names before behind pre post : List ℕ) (k q : ℕ) → ws ≡ before ++ (exportWords q xs ++ behind) → length before ≡ 3 * k
-    → names ≡ pre ++ (exportNames xs ++ post) → length pre ≡ q → named-ok xs ≡ true → Listed ws names k q xs
+    → names ≡ pre ++ (exportNames xs ++ post) → length pre ≡ q → named-ok xs ≡ true → ExportsBack ws names k q xs
 unfolding exportsEnd exportsFrom exportAt exportWords exportNames named-ok
 exports-complete [] ws names before behind pre post k q ew lb en lp h =
     let z : q + 0 ≡ q = omega arith in
@@ -73,7 +72,7 @@ exports-complete (x ∷ xs) ws names before behind pre post k q ew lb en lp h =
     word₂ : getD ws (3 * k + 2) 0 ≡ x .address
     word₂ = rw ew (at-word before rest k 2 lb)
 
-    step : Listed ws names (k + 1) (q + length (x .name)) xs → Listed ws names k q (x ∷ xs)
+    step : ExportsBack ws names (k + 1) (q + length (x .name)) xs → ExportsBack ws names k q (x ∷ xs)
     step i =
         let e : names ≡ pre ++ (x .name ++ (exportNames xs ++ post)) = en ∙ simp append-assoc in
         let a = both (isName (x .name)) (named-ok xs) h in
@@ -169,7 +168,7 @@ module _ (m : Module) (rest names pre post : List ℕ) (q : ℕ) (en : names ≡
   unfolding moduleNames
   own = en ∙ simp append-assoc
 
-  listed : Listed (ex m rest q) names 0 (q + length (m .name)) (m .named)
+  listed : ExportsBack (ex m rest q) names 0 (q + length (m .name)) (m .named)
   listed =
       exports-complete (m .named) (ex m rest q) names [] [] (pre ++ m .name) post 0 (q + length (m .name)) (sym (append-nil (ex m rest q))) refl
       (own ∙ simp append-assoc)
@@ -214,13 +213,13 @@ module _ (m : Module) (rest names pre post : List ℕ) (q : ℕ) (en : names ≡
       }
 
 -- all records, to the end of the words and of the names
-pub record Stored (ws names : List ℕ) (q : ℕ) (ms : List Module) : Type 0 where
+pub record RecordsBack (ws names : List ℕ) (q : ℕ) (ms : List Module) : Type 0 where
   pub end : modulesOk (length ms) ws names q ≡ true
   pub back : readModules (length ms) ws names ≡ ms
 
 pub modules-complete
     : (ms : List Module) (names pre : List ℕ) (q : ℕ) → names ≡ pre ++ recordNames ms → length pre ≡ q → properModules ms ≡ true
-    → Stored (recordWords q ms) names q ms
+    → RecordsBack (recordWords q ms) names q ms
 unfolding modulesOk readModules recordWords recordNames properModules
 modules-complete [] names pre q en lp h =
     let l : length names ≡ q = rw (en, append-nil) lp in

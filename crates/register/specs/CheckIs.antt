@@ -1,15 +1,15 @@
 -- The test as the code makes it is `isRegister`; and what encodes a proper register is read back as that register.
-use Prim.Native.Nat.{ℕ, zero, suc, _+_, _-_, _*_, _/_, _%_, _≤_, _<_}
+use Prim.Native.Nat.{ℕ, _+_, _-_, _*_, _/_, _%_, _≤_, _<_}
 use mathlib.Core.Path.{_≡_, refl, sym, ap, _∙_, subst}
-use mathlib.Core.List.{List, [], _∷_, _++_, append-nil}
+use mathlib.Core.List.{List, [], _++_}
 use mathlib.Core.Bool.{Bool, true, false, _&&_, _||_}
-use mathlib.Core.Option.{Option, some, none}
+use mathlib.Core.Option.{some, none}
 use native.Mathlib.Omega.{arith}
 use native.Mathlib.Decide.{decLe}
 use lib.ListN.{length, take, drop, getD, set, length-set, take-append-drop}
 use lib.Seq.{getD-take, take-all, drop-set-lt, length-take-le}
 use lib.Dec.{eqb, leb}
-use borrow.Author.Tests.{eqb-true, leb-true, eq-eqb, ne-eqb, le-leb}
+use borrow.Author.Tests.{eqb-true, leb-true, eq-eqb, le-leb}
 use Rattle.window.specs.Memory.{if_then_else_}
 use Rattle.window.specs.Tests.{both, also, iff-same}
 use Rattle.register.specs.Words.{part, same, allZero, holds, wordsIn, length-words, part-words}
@@ -21,9 +21,9 @@ use Rattle.register.specs.Proper.{Proper, proper-parts, parts-proper}
 use Rattle.register.specs.Encode.{recordWords, recordNames, crsKnown, crsBase, encodeWords, slots}
 use Rattle.register.specs.Decode.{readModules, readCrs, readSlots, settled, body, readRegister, encodes, registerOf, isRegister, decode}
 use Rattle.register.specs.Check.{modulesOk, slotsOk, countsOk, sizesOk, contentsOk, checked, passes}
-use Rattle.register.specs.CheckSound.{take-eight, Records, modules-sound}
-use Rattle.register.specs.CheckComplete.{Stored, modules-complete}
-use Rattle.register.specs.Slots.{Slots, slots-sound, Kept, slots-complete, length-slots}
+use Rattle.register.specs.CheckSound.{take-eight, RecordsPass, modules-sound}
+use Rattle.register.specs.CheckComplete.{RecordsBack, modules-complete}
+use Rattle.register.specs.Slots.{Slots, slots-sound, SlotsHold, slots-complete, length-slots}
 
 -- the settled words: as many, and the same after the header
 
@@ -157,7 +157,7 @@ module _ (records names missing : List ℕ) (small : (i : ℕ) → getD missing 
   ms = readModules (getD ws 0 0) (body ws) (take (getD ws 4 0) names)
 
   sound-words
-      : Counts ws → Sizes (getD ws 3 0) (getD ws 4 0) (length records) (length names) → Records (body ws) (take (getD ws 4 0) names) (getD ws 0 0) 0
+      : Counts ws → Sizes (getD ws 3 0) (getD ws 4 0) (length records) (length names) → RecordsPass (body ws) (take (getD ws 4 0) names) (getD ws 0 0) 0
       → Slots (getD ws 5 0) missing → (take (length (encodeWords reg)) ws ≡ encodeWords reg) × (4 * length (encodeWords reg) ≡ getD ws 3 0)
   unfolding encodeWords readRegister body
   sound-words h z r s =
@@ -176,14 +176,14 @@ module _ (records names missing : List ℕ) (small : (i : ℕ) → getD missing 
       (rw g e, omega arith)
 
   sound-proper
-      : Counts ws → Sizes (getD ws 3 0) (getD ws 4 0) (length records) (length names) → Records (body ws) (take (getD ws 4 0) names) (getD ws 0 0) 0
+      : Counts ws → Sizes (getD ws 3 0) (getD ws 4 0) (length records) (length names) → RecordsPass (body ws) (take (getD ws 4 0) names) (getD ws 0 0) 0
       → Slots (getD ws 5 0) missing → proper reg ≡ true
   unfolding readRegister
   sound-proper h z r s =
       parts-proper reg record { count = rw (r .size) (h .count); modules = r .proper; few = rw (s .size) (h .kept); kept = s .proper }
 
   sound-encodes
-      : Counts ws → Sizes (getD ws 3 0) (getD ws 4 0) (length records) (length names) → Records (body ws) (take (getD ws 4 0) names) (getD ws 0 0) 0
+      : Counts ws → Sizes (getD ws 3 0) (getD ws 4 0) (length records) (length names) → RecordsPass (body ws) (take (getD ws 4 0) names) (getD ws 0 0) 0
       → Slots (getD ws 5 0) missing → length missing ≡ 32896 → allZero (drop (getD ws 3 0) records) ≡ true
       → allZero (drop (getD ws 4 0) names) ≡ true → allZero (drop (514 * getD ws 5 0) missing) ≡ true → encodes records names missing reg ≡ true
   unfolding encodes readRegister
@@ -326,15 +326,15 @@ module _ (records names missing : List ℕ) (r : Register) (p : proper r ≡ tru
   names-used : take (getD w 4 0) names ≡ recordNames (r .modules)
   names-used = rw word₄ (parts .named)
 
-  modules-stored : Stored (recordWords 0 (r .modules)) (recordNames (r .modules)) 0 (r .modules)
+  modules-stored : RecordsBack (recordWords 0 (r .modules)) (recordNames (r .modules)) 0 (r .modules)
   modules-stored = modules-complete (r .modules) (recordNames (r .modules)) [] 0 refl refl (own .modules)
 
-  slots-kept : Kept (r .missing) missing
+  slots-kept : SlotsHold (r .missing) missing
   slots-kept =
       let s = slots-complete (r .missing) (drop (length (slots (r .missing))) missing) (own .kept) in
       let m : missing ≡ slots (r .missing) ++ drop (length (slots (r .missing))) missing =
       sym (take-append-drop (length (slots (r .missing))) missing) ∙ ap (λ t. t ++ drop (length (slots (r .missing))) missing) (parts .slotted) in
-      subst (Kept (r .missing)) (sym m) s
+      subst (SlotsHold (r .missing)) (sym m) s
 
   pub read-back : registerOf records names missing ≡ r
   unfolding registerOf readRegister

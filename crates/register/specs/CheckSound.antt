@@ -1,14 +1,13 @@
 -- What passes the test is an encoding: records and names, by induction along the buffer.
-use Prim.Native.Nat.{ℕ, zero, suc, _+_, _-_, _*_, _/_, _%_, _≤_, _<_}
+use Prim.Native.Nat.{ℕ, zero, suc, _+_, _-_, _*_, _/_, _≤_}
 use mathlib.Core.Path.{_≡_, refl, sym, ap, _∙_}
-use mathlib.Core.List.{List, [], _∷_, _++_, append-assoc}
+use mathlib.Core.List.{List, [], _∷_, _++_}
 use mathlib.Core.Bool.{Bool, true, false, _&&_}
 use native.Mathlib.Omega.{arith}
-use native.Mathlib.Numerals.{add-one}
-use lib.ListN.{length, take, drop, getD, length-append, length-drop, take-append-drop, drop-of-length-le}
-use lib.Seq.{drop-cons, drop-drop, take-add, length-take-le, getD-drop}
+use lib.ListN.{length, take, drop, getD, length-append, take-append-drop, drop-of-length-le}
+use lib.Seq.{drop-drop}
 use lib.Dec.{eqb, leb}
-use borrow.Author.Tests.{eqb-true, leb-true, le-leb}
+use borrow.Author.Tests.{eqb-true, leb-true}
 use Rattle.window.specs.Memory.{if_then_else_}
 use Rattle.window.specs.Name.{noZero, isName}
 use Rattle.window.specs.Tests.{both, also}
@@ -22,13 +21,13 @@ use Rattle.register.specs.declared.record.End.{End}
 use Rattle.register.specs.declared.record.End.the-variants.{At, Bad}
 
 -- a name that passed
-pub record Named (names : List ℕ) (q o l : ℕ) : Type 0 where
+pub record NamePasses (names : List ℕ) (q o l : ℕ) : Type 0 where
   pub place : o ≡ q
   pub fits : o + l ≤ length names
   pub size : length (part names o l) ≡ l
   pub proper : isName (part names o l) ≡ true
 
-pub named : (names : List ℕ) (q o l : ℕ) → nameOk names q o l ≡ true → Named names q o l
+pub named : (names : List ℕ) (q o l : ℕ) → nameOk names q o l ≡ true → NamePasses names q o l
 unfolding nameOk isName
 named names q o l e =
     let a = both (eqb o q) (leb l 512 && (leb (o + l) (length names) && noZero (part names o l))) e in
@@ -57,7 +56,7 @@ take-three ws j n h =
     )
 
 -- n exports from number k on, whose names begin at q and end at q′
-pub record Exports (ws names : List ℕ) (n k q q′ : ℕ) : Type 0 where
+pub record ExportsPass (ws names : List ℕ) (n k q q′ : ℕ) : Type 0 where
   pub words : part ws (3 * k) (3 * n) ≡ exportWords q (exportsFrom n ws names k)
   pub end : q′ ≡ q + length (exportNames (exportsFrom n ws names k))
   pub bytes : part names q (length (exportNames (exportsFrom n ws names k))) ≡ exportNames (exportsFrom n ws names k)
@@ -65,7 +64,7 @@ pub record Exports (ws names : List ℕ) (n k q q′ : ℕ) : Type 0 where
   pub size : length (exportsFrom n ws names k) ≡ n
 
 pub exports-sound
-    : (ws names : List ℕ) (n k q q′ : ℕ) → 3 * (k + n) ≤ length ws → exportsEnd n ws names k q ≡ At q′ → Exports ws names n k q q′
+    : (ws names : List ℕ) (n k q q′ : ℕ) → 3 * (k + n) ≤ length ws → exportsEnd n ws names k q ≡ At q′ → ExportsPass ws names n k q q′
 unfolding exportsEnd exportsFrom exportAt exportWords exportNames named-ok
 exports-sound ws names zero k q q′ h e =
     let f : q ≡ q′ = cc in
@@ -83,7 +82,7 @@ exports-sound ws names (suc n) k q q′ h e =
     xs : List Export
     xs = exportsFrom n ws names (k + 1)
 
-    step : Named names q o l → Exports ws names n (k + 1) (q + l) q′ → Exports ws names (suc n) k q q′
+    step : NamePasses names q o l → ExportsPass ws names n (k + 1) (q + l) q′ → ExportsPass ws names (suc n) k q q′
     step a i =
         let e₁ : 3 * suc n ≡ 3 + 3 * n = omega arith in
         let e₂ : 3 * k + 3 ≡ 3 * (k + 1) = omega arith in
@@ -102,7 +101,7 @@ exports-sound ws names (suc n) k q q′ h e =
 
     go
         : (b : Bool) → nameOk names q o l ≡ b → (if b then exportsEnd n ws names (k + 1) (q + l) else Bad) ≡ At q′
-        → (exportsEnd n ws names (k + 1) (q + l) ≡ At q′ → Exports ws names n (k + 1) (q + l) q′) → Exports ws names (suc n) k q q′
+        → (exportsEnd n ws names (k + 1) (q + l) ≡ At q′ → ExportsPass ws names n (k + 1) (q + l) q′) → ExportsPass ws names (suc n) k q q′
     go true p f ih = step (named names q o l p) (ih f)
     go false p f ih = let z : _≡_ {A = ℕ} 0 1 = cc in absurd (omega arith)
 
@@ -112,7 +111,7 @@ pub record Fixed (ws names : List ℕ) (q : ℕ) : Type 0 where
   pub whole : moduleSize ws ≤ length ws
   pub auto : getD ws 2 0 ≤ 1
   pub segments : leb (getD ws 5 0) 16 ≡ true
-  pub name : Named names q (getD ws 3 0) (getD ws 4 0)
+  pub name : NamePasses names q (getD ws 3 0) (getD ws 4 0)
 
 pub fixed : (ws names : List ℕ) (q : ℕ) → fixedOk ws names q ≡ true → Fixed ws names q
 unfolding fixedOk
@@ -182,7 +181,7 @@ tail-words ws s n i =
 module _ (ws names : List ℕ) (q q′ : ℕ) where
   parsed
       : Fixed ws names q → distinct (exportsIn (exportPart ws) names) ≡ true
-      → Exports (exportPart ws) names (length (exportPart ws) / 3) 0 (q + getD ws 4 0) q′ → length (exportPart ws) ≡ 3 * getD ws 6 0
+      → ExportsPass (exportPart ws) names (length (exportPart ws) / 3) 0 (q + getD ws 4 0) q′ → length (exportPart ws) ≡ 3 * getD ws 6 0
       → Parsed ws names q q′
   unfolding moduleWords moduleNames readModule properModule moduleSize exportPart exportsIn
   parsed f d x e =
@@ -233,7 +232,7 @@ module _ (ws names : List ℕ) (q q′ : ℕ) where
       go false b p d e = let z : _≡_ {A = ℕ} 0 1 = cc in absurd (omega arith)
 
 -- all records that passed, to the end of the words and of the names
-pub record Records (ws names : List ℕ) (n q : ℕ) : Type 0 where
+pub record RecordsPass (ws names : List ℕ) (n q : ℕ) : Type 0 where
   pub words : ws ≡ recordWords q (readModules n ws names)
   pub bytes : drop q names ≡ recordNames (readModules n ws names)
   pub proper : properModules (readModules n ws names) ≡ true
@@ -243,7 +242,7 @@ empty-list : (l : List ℕ) → length l ≡ 0 → l ≡ []
 empty-list [] e = refl
 empty-list (a ∷ l) e = absurd (omega arith)
 
-pub modules-sound : (n : ℕ) (ws names : List ℕ) (q : ℕ) → modulesOk n ws names q ≡ true → Records ws names n q
+pub modules-sound : (n : ℕ) (ws names : List ℕ) (q : ℕ) → modulesOk n ws names q ≡ true → RecordsPass ws names n q
 unfolding modulesOk readModules recordWords recordNames properModules part
 modules-sound zero ws names q e =
     let a = both (eqb (length ws) 0) (eqb q (length names)) e in
@@ -262,7 +261,7 @@ modules-sound (suc n) ws names q e = go (moduleEnd ws names q) refl e (modules-s
     rest : List ℕ
     rest = drop (moduleSize ws) ws
 
-    step : (q′ : ℕ) → Parsed ws names q q′ → Records rest names n q′ → Records ws names (suc n) q
+    step : (q′ : ℕ) → Parsed ws names q q′ → RecordsPass rest names n q′ → RecordsPass ws names (suc n) q
     step q′ p r =
         let l = length (moduleNames m) in
         record {
@@ -279,6 +278,6 @@ modules-sound (suc n) ws names q e = go (moduleEnd ws names q) refl e (modules-s
 
     go
         : (z : End) → moduleEnd ws names q ≡ z → after z (modulesOk n rest names) ≡ true
-        → ((k : ℕ) → modulesOk n rest names k ≡ true → Records rest names n k) → Records ws names (suc n) q
+        → ((k : ℕ) → modulesOk n rest names k ≡ true → RecordsPass rest names n k) → RecordsPass ws names (suc n) q
     go (At q′) f g ih = step q′ (module-sound ws names q q′ f) (ih q′ g)
     go Bad f g ih = let z : _≡_ {A = ℕ} 0 1 = cc in absurd (omega arith)

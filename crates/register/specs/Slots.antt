@@ -1,17 +1,17 @@
 -- The missing list: slots that pass are those of the names read from them, and the slots of names pass.
 use Prim.Native.Nat.{ℕ, zero, suc, _+_, _-_, _*_, _/_, _%_, _≤_, _<_}
 use mathlib.Core.Path.{_≡_, refl, sym, ap, _∙_}
-use mathlib.Core.List.{List, [], _∷_, _++_, append-assoc, append-nil}
-use mathlib.Core.Bool.{Bool, true, false, _&&_}
+use mathlib.Core.List.{List, [], _∷_, _++_, append-assoc}
+use mathlib.Core.Bool.{true, _&&_}
 use native.Mathlib.Omega.{arith}
 use lib.ListN.{length, take, drop, getD, replicate, length-append, length-drop, length-replicate, take-append-drop}
 use lib.Seq.{drop-cons, drop-at, take-at, drop-drop, take-add, length-take-le, getD-drop, getD-take}
 use lib.Dec.{eqb, leb, lit<}
-use borrow.Author.Tests.{eqb-true, leb-true, le-leb, eq-eqb}
+use borrow.Author.Tests.{eqb-true, leb-true}
 use Rattle.window.specs.Name.{noZero, isName}
 use Rattle.window.specs.Tests.{both, also}
 use Rattle.register.specs.Words.{part, allZero}
-use Rattle.register.specs.Lists.{take-next, length-part, part-middle}
+use Rattle.register.specs.Lists.{length-part, part-middle}
 use Rattle.register.specs.Module.{properNames}
 use Rattle.register.specs.Encode.{slot, slots}
 use Rattle.register.specs.Decode.{slotLength, slotName, readSlots}
@@ -114,11 +114,11 @@ slots-sound (suc n) bytes l b e =
       size = ap suc (i .size);
     }
 
-pub record Kept (ns : List (List ℕ)) (bytes : List ℕ) : Type 0 where
+pub record SlotsHold (ns : List (List ℕ)) (bytes : List ℕ) : Type 0 where
   pub passes : slotsOk (length ns) bytes ≡ true
   pub back : readSlots (length ns) bytes ≡ ns
 
-pub slots-complete : (ns : List (List ℕ)) (rest : List ℕ) → properNames ns ≡ true → Kept ns (slots ns ++ rest)
+pub slots-complete : (ns : List (List ℕ)) (rest : List ℕ) → properNames ns ≡ true → SlotsHold ns (slots ns ++ rest)
 unfolding slotsOk slots readSlots properNames
 slots-complete [] rest e = record { passes = refl; back = refl }
 slots-complete (n ∷ ns) rest e =

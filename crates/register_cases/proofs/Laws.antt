@@ -1,20 +1,18 @@
 -- From the branches to the definitions of `Cases`.
-use Prim.Native.Nat.{ℕ, _+_, _/_, _≤_, _<_}
-use mathlib.Core.Path.{_≡_, refl, sym, ap, _∙_}
+use Prim.Native.Nat.{ℕ, _/_, _≤_, _<_}
+use mathlib.Core.Path.{_≡_}
 use mathlib.Core.List.{List}
-use mathlib.Core.Bool.{Bool, true, false, _&&_}
-use lib.ListN.{length, take, getD, replicate}
-use lib.Dec.{leb}
+use mathlib.Core.Bool.{Bool}
+use lib.ListN.{length, take, replicate}
 use borrow.Author.Tests.{le-leb, lt-leb}
-use Rattle.window.specs.Memory.{if_then_else_}
 use Rattle.register.specs.Words.{wordsIn}
 use Rattle.register.specs.Decode.{isRegister}
-use Rattle.case_reader.specs.declared.append.Next.{Next}
-use Rattle.case_reader.specs.declared.append.Next.the-variants.{At, Full}
+use Rattle.case_reader.specs.declared.append.NextPlace.{NextPlace}
+use Rattle.case_reader.specs.declared.append.NextPlace.the-variants.{At, Full}
 use Rattle.case_reader.specs.Pieces.{pieces}
 use Rattle.register_cases.specs.Cases.{verdict, judged, andThen, caseOver, caseAt}
-use Rattle.register_cases.specs.declared.Verdict.{Verdict}
-use Rattle.register_cases.specs.declared.Verdict.the-variants.{Unreadable}
+use Rattle.register_cases.specs.declared.RegisterVerdict.{RegisterVerdict}
+use Rattle.register_cases.specs.declared.RegisterVerdict.the-variants.{Unreadable}
 
 -- the buffers, too short or long enough
 module _ (next : ℕ) (records : List ℕ) (r : ℕ) (names : List ℕ) (n : ℕ) (missing : List ℕ) (m : ℕ) where
@@ -51,8 +49,8 @@ unfolding caseAt
 there file at h = rw (le-leb at (length file / 4) h)
 
 -- pieces of a buffer, left out or laid
-module _ (file : List ℕ) (at : ℕ) (b : List ℕ) {r : Next} {l : List ℕ} {n k : ℕ} (e : n ≡ k)
-    (p : _≡_ {A = Next × List ℕ} (r, l) (pieces n file at b)) (f : ℕ → List ℕ → Verdict) where
+module _ (file : List ℕ) (at : ℕ) (b : List ℕ) {r : NextPlace} {l : List ℕ} {n k : ℕ} (e : n ≡ k)
+    (p : _≡_ {A = NextPlace × List ℕ} (r, l) (pieces n file at b)) (f : ℕ → List ℕ → RegisterVerdict) where
   pub stop : r ≡ Full → Unreadable ≡ andThen (pieces k file at b) f
   unfolding andThen
   stop z = rw (← e, ← p, z)

@@ -4,13 +4,13 @@
 // Prints the verdict on each case, and how many were valid and refused. tools/register_cases.py makes the file.
 ghost use mathlib.Core.Path.{_≡_};
 ghost use Rattle.register_cases.specs.Cases.{judged, caseAt};
-use case_reader::append::Next;
+use case_reader::append::NextPlace;
 use case_reader::put_pieces;
 use register::words::word;
 use register_test::is_register;
 
 // The verdict on a case, and the place of the next one.
-enum Verdict {
+enum RegisterVerdict {
     Valid(usize),
     Refused(usize),
     Unreadable,
@@ -29,16 +29,16 @@ fn run_cases(file: &[u8]) {
     let mut k: u32 = 0;
     while k < count {
         match run_case(file, at) {
-            Verdict::Valid(next) => {
+            RegisterVerdict::Valid(next) => {
                 at = next;
                 valid += 1;
                 print_verdict(k, b" valid\n");
             }
-            Verdict::Refused(next) => {
+            RegisterVerdict::Refused(next) => {
                 at = next;
                 print_verdict(k, b" refused\n");
             }
-            Verdict::Unreadable => {
+            RegisterVerdict::Unreadable => {
                 print_verdict(k, b" unreadable\n");
                 return;
             }
@@ -49,26 +49,26 @@ fn run_cases(file: &[u8]) {
 }
 
 // Builds the case at place `at` and tries the test on it.
-fn run_case(file: &[u8], at: usize) -> Verdict
+fn run_case(file: &[u8], at: usize) -> RegisterVerdict
     ensures { λ r. ⌜ r ≡ caseAt (now (file .entry)) at ⌝ }
 {
     let mut records = [0u8; 8192];
     let mut names = [0u8; 8192];
     let mut missing = [0u8; 32900];
     if file.len() / 4 < at {
-        return Verdict::Unreadable;
+        return RegisterVerdict::Unreadable;
     }
     let r = word(file, at);
     let n = word(file, at + 1);
     let m = word(file, at + 2);
-    let Next::At(a) = put_pieces(&mut records, file, at + 6, word(file, at + 3)) else {
-        return Verdict::Unreadable;
+    let NextPlace::At(a) = put_pieces(&mut records, file, at + 6, word(file, at + 3)) else {
+        return RegisterVerdict::Unreadable;
     };
-    let Next::At(b) = put_pieces(&mut names, file, a, word(file, at + 4)) else {
-        return Verdict::Unreadable;
+    let NextPlace::At(b) = put_pieces(&mut names, file, a, word(file, at + 4)) else {
+        return RegisterVerdict::Unreadable;
     };
-    let Next::At(next) = put_pieces(&mut missing, file, b, word(file, at + 5)) else {
-        return Verdict::Unreadable;
+    let NextPlace::At(next) = put_pieces(&mut missing, file, b, word(file, at + 5)) else {
+        return RegisterVerdict::Unreadable;
     };
     judge(next, &records, r, &names, n, &missing, m)
 }
@@ -82,25 +82,25 @@ fn judge(
     n: u32,
     missing: &[u8],
     m: u32,
-) -> Verdict
+) -> RegisterVerdict
     ensures { λ v. ⌜ v ≡ judged next (now (records .entry)) r (now (names .entry)) n (now (missing .entry)) m ⌝ }
 {
     let a = r as usize;
     let b = n as usize;
     let c = m as usize;
     if records.len() < a {
-        return Verdict::Unreadable;
+        return RegisterVerdict::Unreadable;
     }
     if names.len() < b {
-        return Verdict::Unreadable;
+        return RegisterVerdict::Unreadable;
     }
     if missing.len() < c {
-        return Verdict::Unreadable;
+        return RegisterVerdict::Unreadable;
     }
     if is_register(&records[..a], &names[..b], &missing[..c]) {
-        return Verdict::Valid(next);
+        return RegisterVerdict::Valid(next);
     }
-    Verdict::Refused(next)
+    RegisterVerdict::Refused(next)
 }
 
 // Prints the number of case k, counted from 1, and the verdict.

@@ -15,30 +15,30 @@ pub slots-are : {m n : ℕ} (missing : List ℕ) {t b : Bool} → m ≡ n → t 
 slots-are missing e a z = ap (λ m. slotsOk m missing) (sym e) ∙ (sym a ∙ z)
 
 module _ (n used named k : ℕ) (records names missing : List ℕ) where
-  abbrev Modules : Bool → Type 0
-  Modules b = modulesOk n (wordsIn (take (used - 32) (drop 32 records))) (take named names) 0 ≡ b
+  abbrev ModulesAnswer : Bool → Type 0
+  ModulesAnswer b = modulesOk n (wordsIn (take (used - 32) (drop 32 records))) (take named names) 0 ≡ b
 
-  pub modules-wrong : Modules false → false ≡ contentsOk n used named k records names missing
+  pub modules-wrong : ModulesAnswer false → false ≡ contentsOk n used named k records names missing
   unfolding contentsOk part
   modules-wrong m = rw m
 
-  pub slots-wrong : Modules true → slotsOk k missing ≡ false → false ≡ contentsOk n used named k records names missing
+  pub slots-wrong : ModulesAnswer true → slotsOk k missing ≡ false → false ≡ contentsOk n used named k records names missing
   unfolding contentsOk part
   slots-wrong m s = rw (m, s)
 
   pub records-wrong
-      : Modules true → slotsOk k missing ≡ true → allZero (drop used records) ≡ false → false ≡ contentsOk n used named k records names missing
+      : ModulesAnswer true → slotsOk k missing ≡ true → allZero (drop used records) ≡ false → false ≡ contentsOk n used named k records names missing
   unfolding contentsOk part
   records-wrong m s r = rw (m, s, r)
 
   pub names-wrong
-      : Modules true → slotsOk k missing ≡ true → allZero (drop used records) ≡ true → allZero (drop named names) ≡ false
+      : ModulesAnswer true → slotsOk k missing ≡ true → allZero (drop used records) ≡ true → allZero (drop named names) ≡ false
       → false ≡ contentsOk n used named k records names missing
   unfolding contentsOk part
   names-wrong m s r q = rw (m, s, r, q)
 
   pub contents-right
-      : Modules true → slotsOk k missing ≡ true → allZero (drop used records) ≡ true → allZero (drop named names) ≡ true
+      : ModulesAnswer true → slotsOk k missing ≡ true → allZero (drop used records) ≡ true → allZero (drop named names) ≡ true
       → allZero (drop (514 * k) missing) ≡ contentsOk n used named k records names missing
   unfolding contentsOk part
   contents-right m s r q = rw (m, s, r, q)

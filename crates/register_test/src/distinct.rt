@@ -69,7 +69,7 @@ fn differing_exports(exports: &[u8], names: &[u8]) -> bool
 }
 
 // Whether no two of the exports have one name: ascending ones at once, others pair by pair.
-pub fn distinct_exports(exports: &[u8], names: &[u8]) -> bool
+pub(crate) fn distinct_exports(exports: &[u8], names: &[u8]) -> bool
     ensures { λ r. ⌜ r ≡ distinct (exportsIn (wordsIn (now (exports .entry))) (now (names .entry))) ⌝ }
 {
     if ascending_exports(exports, names) {

@@ -10,7 +10,7 @@ use register::record::End;
 use register::words;
 
 // Whether the bytes have no zero.
-pub fn no_zero(bytes: &[u8]) -> bool
+pub(crate) fn no_zero(bytes: &[u8]) -> bool
     ensures { λ r. ⌜ r ≡ noZero (now (bytes .entry)) ⌝ }
 {
     let mut i: usize = 0;
@@ -95,7 +95,7 @@ fn module_end(bytes: &[u8], names: &[u8], q: usize) -> End
 }
 
 // Whether the bytes are `count` records, one after another, and the names are theirs.
-pub fn modules_ok(records: &[u8], names: &[u8], count: u32) -> bool
+pub(crate) fn modules_ok(records: &[u8], names: &[u8], count: u32) -> bool
     ensures { λ r. ⌜ r ≡ modulesOk count (wordsIn (now (records .entry))) (now (names .entry)) 0 ⌝ }
 {
     let mut place: usize = 0;

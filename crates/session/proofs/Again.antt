@@ -1,9 +1,9 @@
 -- A `&κ mut [u8]` that is lent again for a lifetime κ′ of a call, and comes back: `Denote/Lend.antt`'s `lends-slice` and `slice-back`, of a slice whose
 -- bytes may have changed since the function was entered. x is the slice as it was passed, and ys, as long, are its bytes now.
---     Lent          what the function owns of the slice: the `&κ mut [u8]` at ys, and the share q of κ's token
---     Away          what it keeps while the slice is lent again under the name δ
---     lends         Lent ys  ⊢ ⇛ ∃ δ. own (the `&κ′ mut [u8]` at ys, under δ) ∗ Away δ ys
---     comes-back    [†κ′] ∗ Away δ ys ∗ finally δ zs  ⊢ ⇛ Lent zs,  where zs is as long as ys
+--     LentSlice     what the function owns of the slice: the `&κ mut [u8]` at ys, and the share q of κ's token
+--     LentOut       what it keeps while the slice is lent again under the name δ
+--     lends         LentSlice ys  ⊢ ⇛ ∃ δ. own (the `&κ′ mut [u8]` at ys, under δ) ∗ LentOut δ ys
+--     comes-back    [†κ′] ∗ LentOut δ ys ∗ finally δ zs  ⊢ ⇛ LentSlice zs,  where zs is as long as ys
 -- Assumes `Given`.
 use mathlib.Core.Path.{_≡_, refl, sym, ap, subst, _∙_}
 use Prim.Native.Nat.{ℕ}
@@ -38,11 +38,11 @@ abbrev pub machine : RefT (List ℕ) → List Val
 machine x = sliceVal (x .ptr) (length (x .now)) ∷ []
 
 module _ (j : ℕ) (κ : Lft) (q : Share) (x : RefT (List ℕ)) where
-  abbrev pub Lent : List ℕ → Fml
-  Lent ys = fsep (MutSlice (named j) κ u8 .own (at-last x ys) (machine x)) (flft κ q)
+  abbrev pub LentSlice : List ℕ → Fml
+  LentSlice ys = fsep (MutSlice (named j) κ u8 .own (at-last x ys) (machine x)) (flft κ q)
 
-  abbrev pub Away : Lft → GName → List ℕ → Fml
-  Away κ′ δ ys = fsep (flent κ′ (Held u8 (length ys) (x .ptr .0) (x .ptr .1) δ)) (fsep (fobor κ q (Held u8 (length ys) (x .ptr .0) (x .ptr .1) (x .name)))
+  abbrev pub LentOut : Lft → GName → List ℕ → Fml
+  LentOut κ′ δ ys = fsep (flent κ′ (Held u8 (length ys) (x .ptr .0) (x .ptr .1) δ)) (fsep (fobor κ q (Held u8 (length ys) (x .ptr .0) (x .ptr .1) (x .name)))
       (fsep (fobs (x .name) (codedHoleys u8 .code (heres u8 ys))) (fauth (x .name) (codedHoleys u8 .code (heres u8 ys)))))
 
   module _ {M : Type 1} (𝓤 : URA M) (H : Heap 𝓤) (A : Atoms 𝓤) (W : Given 𝓤 H A) (κ′ : Lft) (room : Room u8 (length (x .now))) (ys : List ℕ)
@@ -51,10 +51,10 @@ module _ (j : ℕ) (κ : Lft) (q : Share) (x : RefT (List ℕ)) where
     now-as : (zs : List ℕ) → length zs ≡ length (x .now) → machine x ≡ sliceVal (x .ptr) (length zs) ∷ []
     now-as zs l = ap (λ (m : ℕ). sliceVal (x .ptr) m ∷ []) (sym l)
 
-    pub lends : ent 𝓤 (sem 𝓤 H A (Lent ys))
-        (H .⇛ (ex 𝓤 (λ (δ : GName). sep 𝓤 (sem 𝓤 H A (MutSlice (named 0) κ′ u8 .own (under x δ ys) (machine x))) (sem 𝓤 H A (Away κ′ δ ys)))))
+    pub lends : ent 𝓤 (sem 𝓤 H A (LentSlice ys))
+        (H .⇛ (ex 𝓤 (λ (δ : GName). sep 𝓤 (sem 𝓤 H A (MutSlice (named 0) κ′ u8 .own (under x δ ys) (machine x))) (sem 𝓤 H A (LentOut κ′ δ ys)))))
     lends =
-        qed W (‵ (Lent ys) ∷ []) ∵ updating ! $ fsplit ! $ fsplit ! $ pureL ! (at-slice u8 (at-last x ys) (machine x)) (λ p. fsplit ! $
+        qed W (‵ (LentSlice ys) ∷ []) ∵ updating ! $ fsplit ! $ fsplit ! $ pureL ! (at-slice u8 (at-last x ys) (machine x)) (λ p. fsplit ! $
         opens-slice ! tt u8 ys (x .ptr .0) (x .ptr .1) $
         use1 W (‵ (cells (mem u8) ys (x .ptr .0) (x .ptr .1))) (whole-in 𝓤 H A W u8 ys (x .ptr .0) (x .ptr .1)) $
         use1 W (later (some (λ (δ : GName). ‵ (MutSlice (named 0) κ′ u8 .own (under x δ ys) (sliceVal (x .ptr) (length ys) ∷ []))
@@ -62,13 +62,13 @@ module _ (j : ℕ) (κ : Lft) (q : Share) (x : RefT (List ℕ)) where
         await ! tt $ pick ! (λ δ. split ! $
         rewrite ! 0 (λ (vs : List Val). ‵ (MutSlice (named 0) κ′ u8 .own (under x δ ys) vs)) (sym (now-as ys e)) refl $
         -- [the new slice; the lender's part at κ′; the open borrow at κ; obs; auth]
-        at-once ! $ show ! (λ (γ : GName). sep 𝓤 (sem 𝓤 H A (MutSlice (named 0) κ′ u8 .own (under x γ ys) (machine x))) (sem 𝓤 H A (Away κ′ γ ys))) δ $
+        at-once ! $ show ! (λ (γ : GName). sep 𝓤 (sem 𝓤 H A (MutSlice (named 0) κ′ u8 .own (under x γ ys) (machine x))) (sem 𝓤 H A (LentOut κ′ γ ys))) δ $
         frame ! $ move ! (2 ∷ 3 ∷ []) $ fjoin ! $ move ! (2 ∷ 0 ∷ []) $ fjoin ! $ move ! (1 ∷ 0 ∷ []) $ fjoin ! $ done !))
 
     pub comes-back : (δ : GName) (zs : List ℕ) → length zs ≡ length ys
-        → ent 𝓤 (sep 𝓤 (A .dead κ′) (sep 𝓤 (sem 𝓤 H A (Away κ′ δ ys)) (sem 𝓤 H A (finally u8 δ zs)))) (H .⇛ (sem 𝓤 H A (Lent zs)))
+        → ent 𝓤 (sep 𝓤 (A .dead κ′) (sep 𝓤 (sem 𝓤 H A (LentOut κ′ δ ys)) (sem 𝓤 H A (finally u8 δ zs)))) (H .⇛ (sem 𝓤 H A (LentSlice zs)))
     comes-back δ zs l =
-        qed W (‵ (fdead κ′) ∷ ‵ (Away κ′ δ ys) ∷ ‵ (finally u8 δ zs) ∷ []) ∵ updating ! $ move ! (1 ∷ []) $ fsplit ! $ move ! (2 ∷ 0 ∷ 3 ∷ []) $
+        qed W (‵ (fdead κ′) ∷ ‵ (LentOut κ′ δ ys) ∷ ‵ (finally u8 δ zs) ∷ []) ∵ updating ! $ move ! (1 ∷ []) $ fsplit ! $ move ! (2 ∷ 0 ∷ 3 ∷ []) $
         use3 W (later (‵ (Arr (mem u8) (length ys) .lies zs (x .ptr .0) (x .ptr .1))))
         (slice-back 𝓤 H A W u8 κ′ δ zs (length ys) (x .ptr .0) (x .ptr .1)) $ await ! tt $ fsplit ! $ drop ! $
         use1 W (‵ (row u8 fullShare zs (x .ptr .0) (x .ptr .1))) (whole-out 𝓤 H A W u8 zs (x .ptr .0) (x .ptr .1)) $

@@ -1,4 +1,4 @@
--- What ties the code to the definitions.
+-- What the proofs of `session` share.
 pub mod Laws
 pub mod Whole
 pub mod Again

@@ -1,2 +1,2 @@
--- What ties the code to the definitions.
+-- What the proofs of `session::call` share.
 pub mod Laws

@@ -18,7 +18,7 @@ unfolding isSession areSteps headWord wordsIn
 shortest = (refl, refl, refl)
 
 -- the five words of a head, and no step
-abbrev headOf : ℕ → ℕ → ℕ → ℕ → List ℕ
+abbrev headOf : (count table size offset : ℕ) → List ℕ
 headOf count table size offset = flat (count ∷ table ∷ 0x1000 ∷ size ∷ offset ∷ [])
 
 -- inside means offset + size ≤ file length, exactly, for empty parts too (A41)
@@ -35,12 +35,12 @@ unfolding isSession areSteps headWord wordsIn flat bytesOf byteOf
 step-inside = refl
 
 -- one step after the head, and a window that overlaps both (A40)
-abbrev stepped : ℕ → ℕ → ℕ → ℕ → ℕ → List ℕ
-stepped call size dataAt auto level =
-    flat (1 ∷ 20 ∷ 0x1000 ∷ 56 ∷ 0 ∷ call ∷ 0x2000 ∷ size ∷ dataAt ∷ 0 ∷ 0 ∷ 0 ∷ auto ∷ level ∷ [])
+abbrev stepped : (call size dataSegment auto level : ℕ) → List ℕ
+stepped call size dataSegment auto level =
+    flat (1 ∷ 20 ∷ 0x1000 ∷ 56 ∷ 0 ∷ call ∷ 0x2000 ∷ size ∷ dataSegment ∷ 0 ∷ 0 ∷ 0 ∷ auto ∷ level ∷ [])
 
-abbrev judged : ℕ → ℕ → ℕ → ℕ → ℕ → Bool
-judged call size dataAt auto level = isSession (stepped call size dataAt auto level)
+abbrev judged : (call size dataSegment auto level : ℕ) → Bool
+judged call size dataSegment auto level = isSession (stepped call size dataSegment auto level)
 
 -- "calls 1 to 3"
 pub calls
@@ -60,6 +60,6 @@ auto-2 = refl
 
 pub read : (stepAt (stepped 1 0x100 0 0 0) 0 ≡ Step.Call (Initialize 0x2000 0x100)) × (stepAt (stepped 3 0 0 0 0) 0 ≡ Step.Call (Unload 0x2000))
     × (stepAt (stepped 2 0x100 0x3000 1 2) 0
-    ≡ Step.Call (Load (record { base = 0x2000; size = 0x100; «data_at» = 0x3000; «data_size» = 0; «bss_at» = 0; «bss_size» = 0 }) 1 2))
+    ≡ Step.Call (Load (record { base = 0x2000; size = 0x100; «data_segment» = 0x3000; «data_segment_size» = 0; «bss_segment» = 0; «bss_segment_size» = 0 }) 1 2))
 unfolding stepAt stepOf stepWord headWord allZero part wordsIn flat bytesOf byteOf
 read = (refl, refl, refl)

@@ -2,21 +2,21 @@
 use Prim.Native.Nat.{ℕ}
 use mathlib.Core.List.{List, [], _∷_}
 use Rattle.linker_spec.specs.declared.call.Call.{Call}
-use Rattle.linker_spec.specs.Outcome.{Bytes, Outcome}
+use Rattle.linker_spec.specs.Outcome.{Buffers, Outcome}
 use Rattle.history.specs.Below.{Each}
-use Rattle.history.specs.Sessions.{Turn, Typed, standing, Next, Trace}
+use Rattle.history.specs.Sessions.{CallRecord, Typed, standing, Next, Trace}
 use Rattle.history.specs.Outcomes.{Gave, Made, Promised, Follows}
 use Rattle.history.specs.Demand3.{Demand3, Premises, Linked, SameStanding, NoByteDiffers}
 use Rattle.history.specs.Theorem.Demand3.{demand3, promised-follows}
 
-abbrev pub turn : Call → ℕ → Bytes → Outcome → Turn
+abbrev pub turn : Call → ℕ → Buffers → Outcome → CallRecord
 turn c at b o = record { call = c; at = at; before = b; gave = o }
 
 -- a session of the exported calls
-unfoldable pub Session : ℕ → List Turn → Type 0
+unfoldable pub Session : ℕ → List CallRecord → Type 0
 Session at ts = Trace at ts × Made Promised ts
 
-pub record Continues (t : Turn) : Type 0 where
+pub record Continues (t : CallRecord) : Type 0 where
   -- the exported call's contract
   pub promised : Gave Promised t
   -- document 01's outcome
@@ -24,12 +24,12 @@ pub record Continues (t : Turn) : Type 0 where
   -- the arguments are 32-bit numbers, the window and the records bytes
   pub typed : Typed t
   -- a session with this turn added is again a session
-  pub goes-on : (at : ℕ) (ts : List Turn) → Session at ts → Next at ts t → Session at (t ∷ ts)
+  pub goes-on : (at : ℕ) (ts : List CallRecord) → Session at ts → Next at ts t → Session at (t ∷ ts)
   -- under the premises every import holds its address after it, and after each call before it
-  pub linked : (at : ℕ) (ts : List Turn) → Session at ts → Next at ts t → Premises (t ∷ ts) → Linked (t ∷ ts)
+  pub linked : (at : ℕ) (ts : List CallRecord) → Session at ts → Next at ts t → Premises (t ∷ ts) → Linked (t ∷ ts)
   -- and no byte differs from another session that ends alike
   pub no-byte
-      : (at bt : ℕ) (ts us : List Turn) → Session at ts → Session bt us → Next at ts t → Premises (t ∷ ts) → Premises us
+      : (at bt : ℕ) (ts us : List CallRecord) → Session at ts → Session bt us → Next at ts t → Premises (t ∷ ts) → Premises us
       → SameStanding (standing (t ∷ ts)) (standing us) → NoByteDiffers (t ∷ ts) us
 
 -- no call yet
@@ -38,11 +38,11 @@ unfolding Session Trace Each
 begins at = (tt, tt)
 
 -- one more
-added : (t : Turn) → Typed t → Gave Promised t → (at : ℕ) (ts : List Turn) → Session at ts → Next at ts t → Session at (t ∷ ts)
+added : (t : CallRecord) → Typed t → Gave Promised t → (at : ℕ) (ts : List CallRecord) → Session at ts → Next at ts t → Session at (t ∷ ts)
 unfolding Session Trace Each
 added t typed p at ts s n = ((typed, n, s .0), (p, s .1))
 
-pub continues : (t : Turn) → Typed t → Gave Promised t → Continues t
+pub continues : (t : CallRecord) → Typed t → Gave Promised t → Continues t
 unfolding Session Demand3
 continues t typed p =
     record {

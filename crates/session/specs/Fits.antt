@@ -13,7 +13,7 @@ use Rattle.window.specs.Name.{isName}
 use Rattle.register.specs.Module.{Module, Register, proper, properModule, properModules, properNames, named-ok, distinct}
 use Rattle.register.specs.Encode.{flag}
 use Rattle.register.specs.Proper.{proper-parts}
-use Rattle.linker_spec.specs.Outcome.{Bytes}
+use Rattle.linker_spec.specs.Outcome.{Buffers}
 use Rattle.linker_spec.specs.Refusals.{lentRegister}
 use Rattle.text.specs.Text.{bytes, digitOf, digitsIn, hexOf, decimalOf, pairsOf}
 use Rattle.linker_spec.specs.declared.call.Call.{Call}
@@ -68,7 +68,7 @@ step-most : (k : ℕ) (s : Step) (n v : ℕ) → length (stepLine k s n v) ≤ 4
 unfolding stepLine bytes
 step-most k s n v = simp length-append (omega (arith, decimal-most k, name-at-most s, decimal-most n, hex-most v))
 
-steps-most : (file : List ℕ) (n k : ℕ) (b : Bytes) → length (steps file n k b .0) ≤ 42 * n
+steps-most : (file : List ℕ) (n k : ℕ) (b : Buffers) → length (steps file n k b .0) ≤ 42 * n
 unfolding steps
 steps-most file zero k b = omega arith
 steps-most file (suc n) k b =

@@ -18,6 +18,6 @@ stepName (Step.Call c) = callName c
 stepName Bad = []
 
 -- "step, call, number, then fixed size (load) or 1 if a module left (unload), else 0": hex serves for all three
-unfoldable pub stepLine : ℕ → Step → ℕ → ℕ → List ℕ
+unfoldable pub stepLine : (k : ℕ) → Step → (number value : ℕ) → List ℕ
 stepLine k step number value =
     decimalOf k ++ bytes " " ++ stepName step ++ bytes " " ++ decimalOf number ++ bytes " " ++ hexOf value ++ bytes "\n"

@@ -3,7 +3,7 @@ use Prim.Native.Nat.{ℕ, zero, suc, _+_}
 use mathlib.Core.List.{List, [], _++_}
 use Rattle.window.specs.Memory.{if_then_else_}
 use Rattle.register.specs.Module.{Register}
-use Rattle.linker_spec.specs.Outcome.{Bytes, Outcome}
+use Rattle.linker_spec.specs.Outcome.{Buffers, Outcome}
 use Rattle.linker_spec.specs.Refusals.{lentRegister}
 use Rattle.text.specs.Text.{bytes, decimalOf}
 use Rattle.session.specs.Head.{stepCount, windowAddress}
@@ -14,11 +14,11 @@ use Rattle.session.specs.RegisterLines.Lines.{moduleLines, missingLines}
 use Rattle.session.specs.Run.{start, stepOutcome}
 
 -- step k, on the bytes that the ones before it left
-unfoldable pub outcomeAt : List ℕ → ℕ → Bytes → Outcome
+unfoldable pub outcomeAt : List ℕ → ℕ → Buffers → Outcome
 outcomeAt file k b = stepOutcome (stepAt file k) (windowAddress file) b
 
 -- "After the step count come step lines": those of n steps from step k on, counted from 1, and the bytes that they leave
-unfoldable pub steps : List ℕ → ℕ → ℕ → Bytes → List ℕ × Bytes
+unfoldable pub steps : List ℕ → ℕ → ℕ → Buffers → List ℕ × Buffers
 steps file zero k b = ([], b)
 steps file (suc n) k b =
     let o = outcomeAt file k b in

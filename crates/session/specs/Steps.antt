@@ -15,17 +15,17 @@ unfoldable pub stepWord : List ℕ → ℕ → ℕ → ℕ
 stepWord file k i = getD (wordsIn (part file (stepTable file) (36 * 64))) (9 * k + i) 0
 
 -- "1 initialize, 2 load or 3 unload, then base, size, data, data size, bss, bss size, auto-link, fix level, unused ones 0"
-unfoldable pub stepOf : ℕ → ℕ → ℕ → ℕ → ℕ → ℕ → ℕ → ℕ → ℕ → Step
-stepOf call base size dataAt dataSize bssAt bssSize auto level =
+unfoldable pub stepOf : (call base size dataSegment dataSegmentSize bssSegment bssSegmentSize auto level : ℕ) → Step
+stepOf call base size dataSegment dataSegmentSize bssSegment bssSegmentSize auto level =
     if eqb call 1
-    then (if allZero (dataAt ∷ dataSize ∷ bssAt ∷ bssSize ∷ auto ∷ level ∷ []) then Step.Call (Initialize base size) else Bad)
+    then (if allZero (dataSegment ∷ dataSegmentSize ∷ bssSegment ∷ bssSegmentSize ∷ auto ∷ level ∷ []) then Step.Call (Initialize base size) else Bad)
     else (if eqb call 2
     then Step.Call
     (Load
-    (record { base = base; size = size; «data_at» = dataAt; «data_size» = dataSize; «bss_at» = bssAt; «bss_size» = bssSize })
+    (record { base = base; size = size; «data_segment» = dataSegment; «data_segment_size» = dataSegmentSize; «bss_segment» = bssSegment; «bss_segment_size» = bssSegmentSize })
     auto level)
     else (if eqb call 3
-    then (if allZero (size ∷ dataAt ∷ dataSize ∷ bssAt ∷ bssSize ∷ auto ∷ level ∷ []) then Step.Call (Unload base) else Bad)
+    then (if allZero (size ∷ dataSegment ∷ dataSegmentSize ∷ bssSegment ∷ bssSegmentSize ∷ auto ∷ level ∷ []) then Step.Call (Unload base) else Bad)
     else Bad))
 
 unfoldable pub stepAt : List ℕ → ℕ → Step

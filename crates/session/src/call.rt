@@ -1,7 +1,7 @@
 // A call of a session: any of the three exported calls, by value, with demand 3 in its contract.
 ghost use mathlib.Core.Path.{_≡_};
 ghost use Rattle.linker_spec.specs.Touches.{touchesOf};
-ghost use Rattle.linker.specs.Calls.Steps.{lent, left};
+ghost use Rattle.linker.specs.Calls.Steps.{buffers, outcome};
 ghost use Rattle.session.specs.Continues.{turn, Continues};
 use linker::calls::initialize;
 use linker::calls::load;
@@ -16,7 +16,7 @@ pub struct Answered {
 
 // Makes the call. Its outcome is document 01's; a session with it added is one again, so under demand 3's premises every import then
 // holds its address, and no byte differs from another session that ends alike.
-pub fn make_call(
+pub(crate) fn make_call(
     call: Call,
     at: u32,
     window: &mut [u8],
@@ -27,10 +27,10 @@ pub fn make_call(
     first: &mut u32,
 ) -> Answered
     ensures { λ r. ⌜ Continues (turn call at
-        (lent (now (window .entry)) (now (records .entry)) (now (names .entry)) (now (missing .entry)))
-        (left (r .number) (r .value) (lent (now (window .exit)) (now (records .exit)) (now (names .exit)) (now (missing .exit))))) ⌝ }
+        (buffers (now (window .entry)) (now (records .entry)) (now (names .entry)) (now (missing .entry)))
+        (outcome (r .number) (r .value) (buffers (now (window .exit)) (now (records .exit)) (now (names .exit)) (now (missing .exit))))) ⌝ }
     ensures touches { λ _. ⌜ (now (touched .exit), now (first .exit))
-        ≡ touchesOf call at (lent (now (window .entry)) (now (records .entry)) (now (names .entry)) (now (missing .entry))) ⌝ }
+        ≡ touchesOf call at (buffers (now (window .entry)) (now (records .entry)) (now (names .entry)) (now (missing .entry))) ⌝ }
 {
     let mut value: u32 = 0;
     let number = match call {
@@ -56,10 +56,10 @@ pub fn make_call(
             missing,
             l.base,
             l.size,
-            l.data_at,
-            l.data_size,
-            l.bss_at,
-            l.bss_size,
+            l.data_segment,
+            l.data_segment_size,
+            l.bss_segment,
+            l.bss_segment_size,
             auto_link,
             level,
             &mut value,

@@ -33,7 +33,7 @@ fn are_steps(file: &[u8], count: u32) -> bool
 }
 
 // Whether the bytes are a session file.
-pub fn is_session(file: &[u8]) -> bool
+pub(crate) fn is_session(file: &[u8]) -> bool
     ensures { λ r. ⌜ r ≡ isSession (now (file .entry)) ⌝ }
 {
     if !in_limits(file) {

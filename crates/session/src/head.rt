@@ -10,28 +10,28 @@ use register::words::name_part;
 use register::words::word;
 
 // How many steps the session has.
-pub fn step_count(file: &[u8]) -> u32
+pub(crate) fn step_count(file: &[u8]) -> u32
     ensures { λ r. ⌜ r ≡ stepCount (now (file .entry)) ⌝ }
 {
     word(file, 0)
 }
 
 // The address that the window's first byte has.
-pub fn window_address(file: &[u8]) -> u32
+pub(crate) fn window_address(file: &[u8]) -> u32
     ensures { λ r. ⌜ r ≡ windowAddress (now (file .entry)) ⌝ }
 {
     word(file, 2)
 }
 
 // The window's bytes, as they stand before the first step.
-pub fn window_bytes(file: &[u8]) -> &[u8]
+pub(crate) fn window_bytes(file: &[u8]) -> &[u8]
     ensures { λ r. ⌜ now r ≡ part (now (file .entry)) (windowOffset (now (file .entry))) (windowLength (now (file .entry))) ⌝ }
 {
     name_part(file, word(file, 4), word(file, 3))
 }
 
 // Whether the file's length, the steps and the window's length keep their limits.
-pub fn in_limits(file: &[u8]) -> bool
+pub(crate) fn in_limits(file: &[u8]) -> bool
     ensures { λ r. ⌜ r ≡ (leb 20 (length (now (file .entry))) && (leb (length (now (file .entry))) 49152
         && (leb (stepCount (now (file .entry))) 64 && leb (windowLength (now (file .entry))) 32768))) ⌝ }
 {
@@ -48,7 +48,7 @@ pub fn in_limits(file: &[u8]) -> bool
 }
 
 // Whether the step table and the window's bytes stand in the file.
-pub fn are_parts_inside(file: &[u8]) -> bool
+pub(crate) fn are_parts_inside(file: &[u8]) -> bool
     ensures { λ r. ⌜ r ≡ (leb (stepTable (now (file .entry)) + 36 * stepCount (now (file .entry))) (length (now (file .entry)))
         && leb (windowOffset (now (file .entry)) + windowLength (now (file .entry))) (length (now (file .entry)))) ⌝ }
 {

@@ -1,5 +1,5 @@
 // A session: the file judged, its steps run through the three calls, and the text that they print.
-pub mod call;
+mod call;
 mod file;
 mod head;
 mod lines;
@@ -12,11 +12,11 @@ ghost use Prim.Native.Nat.{_<_, _≤_};
 ghost use lib.ListN.{length};
 ghost use Rattle.register.specs.Decode.{isRegister};
 ghost use Rattle.text.specs.Text.{put};
-ghost use Rattle.linker.specs.Calls.Steps.{lent, left};
+ghost use Rattle.linker.specs.Calls.Steps.{buffers, outcome};
 ghost use Rattle.session.specs.Head.{stepCount};
-ghost use Rattle.session.specs.Run.{Ran};
+ghost use Rattle.session.specs.Run.{StepPromise};
 ghost use Rattle.session.specs.Session.{sessionText};
-ghost use Rattle.session.specs.Ahead.{Turned, AllRan};
+ghost use Rattle.session.specs.Ahead.{StepRan, AllRan};
 use crate::call::Answered;
 use crate::call::make_call;
 use crate::file::is_session;
@@ -41,8 +41,8 @@ fn run_step(
     names: &mut [u8],
     missing: &mut [u8],
 ) -> Answered
-    ensures { λ r. ⌜ Ran step at (lent (now (window .entry)) (now (records .entry)) (now (names .entry)) (now (missing .entry)))
-        (left (r .number) (r .value) (lent (now (window .exit)) (now (records .exit)) (now (names .exit)) (now (missing .exit)))) ⌝ }
+    ensures { λ r. ⌜ StepPromise step at (buffers (now (window .entry)) (now (records .entry)) (now (names .entry)) (now (missing .entry)))
+        (outcome (r .number) (r .value) (buffers (now (window .exit)) (now (records .exit)) (now (names .exit)) (now (missing .exit)))) ⌝ }
 {
     let mut touched: u32 = 0;
     let mut first: u32 = 0;
@@ -77,9 +77,9 @@ fn run_turn<'a>(
     at: usize,
 ) -> usize
     requires { ⌜ k < 64 ⌝ }
-    ensures { λ r. ⌜ Turned step address k
-        ((at, now (out .entry)), lent (now (window .entry)) (now (records .entry)) (now (names .entry)) (now (missing .entry)))
-        ((r, now (out .exit)), lent (now (window .exit)) (now (records .exit)) (now (names .exit)) (now (missing .exit))) ⌝ }
+    ensures { λ r. ⌜ StepRan step address k
+        ((at, now (out .entry)), buffers (now (window .entry)) (now (records .entry)) (now (names .entry)) (now (missing .entry)))
+        ((r, now (out .exit)), buffers (now (window .exit)) (now (records .exit)) (now (names .exit)) (now (missing .exit))) ⌝ }
 {
     let answered = run_step(step, address, window, records, names, missing);
     put_step(out, at, k + 1, step, answered.number, answered.value)
@@ -97,8 +97,8 @@ fn run_steps(
 ) -> usize
     requires { ⌜ (stepCount (now file) ≤ 64) × (isRegister (now records) (now names) (now missing) ≡ true) ⌝ }
     ensures { λ r. ⌜ AllRan (now (file .entry)) (stepCount (now (file .entry)))
-        ((at, now (out .entry)), lent (now (window .entry)) (now (records .entry)) (now (names .entry)) (now (missing .entry)))
-        ((r, now (out .exit)), lent (now (window .exit)) (now (records .exit)) (now (names .exit)) (now (missing .exit))) ⌝ }
+        ((at, now (out .entry)), buffers (now (window .entry)) (now (records .entry)) (now (names .entry)) (now (missing .entry)))
+        ((r, now (out .exit)), buffers (now (window .exit)) (now (records .exit)) (now (names .exit)) (now (missing .exit))) ⌝ }
 {
     let count = step_count(file);
     let address = window_address(file);

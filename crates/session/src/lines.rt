@@ -10,7 +10,7 @@ use text::put_hex;
 use text::put_text;
 
 // Puts a text, and v after it in decimal.
-pub fn decimal_after(out: &mut [u8], at: usize, before: &[u8], v: u32) -> usize
+pub(crate) fn decimal_after(out: &mut [u8], at: usize, before: &[u8], v: u32) -> usize
     ensures { λ r. ⌜ (r, now (out .exit)) ≡ put (now (before .entry) ++ decimalOf v) (at, now (out .entry)) ⌝ }
 {
     let i = put_text(out, at, before);
@@ -18,7 +18,7 @@ pub fn decimal_after(out: &mut [u8], at: usize, before: &[u8], v: u32) -> usize
 }
 
 // Puts a text, and v after it in hex.
-pub fn hex_after(out: &mut [u8], at: usize, before: &[u8], v: u32) -> usize
+pub(crate) fn hex_after(out: &mut [u8], at: usize, before: &[u8], v: u32) -> usize
     ensures { λ r. ⌜ (r, now (out .exit)) ≡ put (now (before .entry) ++ hexOf v) (at, now (out .entry)) ⌝ }
 {
     let i = put_text(out, at, before);
@@ -40,7 +40,14 @@ fn put_call(out: &mut [u8], at: usize, step: Step) -> usize
 }
 
 // Puts the line of step k, which gave the number and the value.
-pub fn put_step(out: &mut [u8], at: usize, k: u32, step: Step, number: u32, value: u32) -> usize
+pub(crate) fn put_step(
+    out: &mut [u8],
+    at: usize,
+    k: u32,
+    step: Step,
+    number: u32,
+    value: u32,
+) -> usize
     ensures { λ r. ⌜ (r, now (out .exit)) ≡ put (stepLine k step number value) (at, now (out .entry)) ⌝ }
 {
     let i = put_decimal(out, at, k);

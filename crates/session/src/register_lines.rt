@@ -7,7 +7,7 @@ ghost use lib.ListN.{length};
 ghost use Rattle.register.specs.Module.{Module};
 ghost use Rattle.register.specs.Decode.{isRegister, registerOf};
 ghost use Rattle.register.specs.Read.Read.{Encoded, modulesOf, moduleAt};
-ghost use Rattle.register.specs.Read.Places.{Stands};
+ghost use Rattle.register.specs.Read.Places.{RecordStands};
 ghost use Rattle.text.specs.Text.{put};
 ghost use Rattle.session.specs.RegisterLines.Lines.{nameText, moduleLine, moduleLines, missingLines};
 use crate::lines::decimal_after;
@@ -35,8 +35,8 @@ fn put_name(out: &mut [u8], at: usize, name: &[u8]) -> usize
 }
 
 // Puts the line of the module whose record stands at a place.
-pub fn put_module(out: &mut [u8], at: usize, records: &[u8], names: &[u8], place: usize) -> usize
-    requires { ⌜ ((m : Module) × Stands (now records) (now names) place m) ⌝ }
+fn put_module(out: &mut [u8], at: usize, records: &[u8], names: &[u8], place: usize) -> usize
+    requires { ⌜ ((m : Module) × RecordStands (now records) (now names) place m) ⌝ }
     ensures { λ r. ⌜ (r, now (out .exit))
         ≡ put (moduleLine (moduleAt (now (records .entry)) (now (names .entry)) place)) (at, now (out .entry)) ⌝ }
 {
@@ -52,7 +52,7 @@ pub fn put_module(out: &mut [u8], at: usize, records: &[u8], names: &[u8], place
 }
 
 // Puts the lines of all modules, in load order.
-pub fn put_modules(out: &mut [u8], at: usize, records: &[u8], names: &[u8]) -> usize
+fn put_modules(out: &mut [u8], at: usize, records: &[u8], names: &[u8]) -> usize
     requires { ⌜ Encoded (now records) (now names) ⌝ }
     ensures { λ r. ⌜ (r, now (out .exit))
         ≡ put (moduleLines (modulesOf (now (records .entry)) (now (names .entry)))) (at, now (out .entry)) ⌝ }
@@ -70,7 +70,7 @@ pub fn put_modules(out: &mut [u8], at: usize, records: &[u8], names: &[u8]) -> u
 }
 
 // Puts the count of the missing names, and a line for each.
-pub fn put_missing(out: &mut [u8], at: usize, records: &[u8], missing: &[u8]) -> usize
+fn put_missing(out: &mut [u8], at: usize, records: &[u8], missing: &[u8]) -> usize
     requires { ⌜ ((names : List ℕ) × isRegister (now records) names (now missing) ≡ true) ⌝ }
     ensures { λ r. ⌜ ((names : List ℕ) → (r, now (out .exit))
         ≡ put (missingLines (registerOf (now (records .entry)) names (now (missing .entry)) .missing)) (at, now (out .entry))) ⌝ }
@@ -88,7 +88,7 @@ pub fn put_missing(out: &mut [u8], at: usize, records: &[u8], missing: &[u8]) ->
 }
 
 // Puts the lines of a register: its modules, and its missing names.
-pub fn put_register(
+pub(crate) fn put_register(
     out: &mut [u8],
     at: usize,
     records: &[u8],

@@ -5,8 +5,8 @@ use lib.ListN.{length, take, getD, replicate}
 use lib.Dec.{leb}
 use Rattle.window.specs.Memory.{if_then_else_}
 use Rattle.register.specs.Words.{wordsIn}
-use Rattle.case_reader.specs.declared.append.Next.{Next}
-use Rattle.case_reader.specs.declared.append.Next.the-variants.{At, Full}
+use Rattle.case_reader.specs.declared.append.NextPlace.{NextPlace}
+use Rattle.case_reader.specs.declared.append.NextPlace.the-variants.{At, Full}
 use Rattle.case_reader.specs.Pieces.{pieces}
 use Rattle.text.specs.Text.{put}
 use Rattle.session.specs.Session.{sessionText}
@@ -22,7 +22,7 @@ textOf next session n out =
     if leb n (length session) then placed next (put (sessionText (take n session)) (0, out)) else (Unreadable, out)
 
 -- what comes after the pieces of the session file
-unfoldable pub andThen : Next × List ℕ → (ℕ → List ℕ → Case × List ℕ) → List ℕ → Case × List ℕ
+unfoldable pub andThen : NextPlace × List ℕ → (ℕ → List ℕ → Case × List ℕ) → List ℕ → Case × List ℕ
 andThen (At e, b) f out = f e b
 andThen (Full, b) f out = (Unreadable, out)
 

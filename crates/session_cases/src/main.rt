@@ -3,7 +3,7 @@
 // tools/session_cases.py makes the file, and the output that it must give.
 ghost use mathlib.Core.Path.{_≡_};
 ghost use Rattle.session_cases.specs.Cases.{textOf, caseAt};
-use case_reader::append::Next;
+use case_reader::append::NextPlace;
 use case_reader::put_pieces;
 use register::words::word;
 use session::session_text;
@@ -55,7 +55,7 @@ fn run_case(file: &[u8], at: usize, out: &mut [u8]) -> Case
         return Case::Unreadable;
     }
     let n = word(file, at);
-    let Next::At(next) = put_pieces(&mut session, file, at + 2, word(file, at + 1)) else {
+    let NextPlace::At(next) = put_pieces(&mut session, file, at + 2, word(file, at + 1)) else {
         return Case::Unreadable;
     };
     put_case(next, &session, n, out)

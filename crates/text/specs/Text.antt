@@ -16,7 +16,7 @@ unfoldable pub digitOf : ℕ → ℕ
 digitOf d = getD (bytes "0123456789abcdef") d 0
 
 -- v in the digits of a radix, in at most n of them and with no leading zero
-unfoldable pub digitsIn : ℕ → ℕ → ℕ → List ℕ
+unfoldable pub digitsIn : (radix most v : ℕ) → List ℕ
 digitsIn radix zero v = []
 digitsIn radix (suc n) v = if ltb v radix then digitOf v ∷ [] else digitsIn radix n (v / radix) ++ (digitOf (v % radix) ∷ [])
 

@@ -217,7 +217,7 @@ byteOf-small zero v = omega arith
 byteOf-small (suc k) v = byteOf-small k (v / 256)
 
 -- the word of four bytes, lowest first
-abbrev pub join : ℕ → ℕ → ℕ → ℕ → ℕ
+abbrev pub join : (b₀ b₁ b₂ b₃ : ℕ) → ℕ
 join b₀ b₁ b₂ b₃ = b₀ + 256 * (b₁ + 256 * (b₂ + 256 * b₃))
 
 pub join-bytes : (v : ℕ) → join (byteOf 0 v) (byteOf 1 v) (byteOf 2 v) (byteOf 3 v) ≡ v % 2 ^ 32
@@ -275,7 +275,7 @@ putBytes-on (suc n) (suc k) at w x v l m h =
     rw z (putBytes-on n k at (putByte at w x v) (x + 1) (v / 256) (omega arith) (omega arith) i)
 
 -- what is read back of byte k: the window's edge may cut the write
-abbrev pub stored : ℕ → List ℕ → ℕ → ℕ → ℕ → ℕ
+abbrev pub stored : (at : ℕ) → List ℕ → (x v k : ℕ) → ℕ
 stored at w x v k = if inside at w (x + k) then byteOf k v else 0
 
 pub putBytes-at
@@ -320,7 +320,7 @@ wordAt-apart at w x v y h g =
 -- the bytes of a privileged write: byte k is stored where all from x to x + k are inside, else it is as before
 
 -- from x to x + k all are inside
-unfoldable pub reaches : ℕ → List ℕ → ℕ → ℕ → Bool
+unfoldable pub reaches : (at : ℕ) → List ℕ → (x count : ℕ) → Bool
 reaches at w x zero = inside at w x
 reaches at w x (suc k) = inside at w x && reaches at w (x + 1) k
 
@@ -339,7 +339,7 @@ putUpward-off (suc n) at w x v y h =
     refl
 
 -- byte k after it
-abbrev pub raised : ℕ → List ℕ → ℕ → ℕ → ℕ → ℕ
+abbrev pub raised : (at : ℕ) → List ℕ → (x v k : ℕ) → ℕ
 raised at w x v k = if reaches at w x k then byteOf k v else byteAt at w (x + k)
 
 pub putUpward-at

@@ -42,22 +42,22 @@ unfoldable pub wordAt : ℕ → List ℕ → ℕ → ℕ
 wordAt at w x = byteAt at w x + 256 * (byteAt at w (x + 1) + 256 * (byteAt at w (x + 2) + 256 * byteAt at w (x + 3)))
 
 -- one byte stored, or dropped where x is outside
-unfoldable pub putByte : ℕ → List ℕ → ℕ → ℕ → List ℕ
+unfoldable pub putByte : (at : ℕ) → List ℕ → (x v : ℕ) → List ℕ
 putByte at w x v = set w (place at x) (v % 256)
 
 -- "An ordinary word write stores the bytes inside and drops the rest": the n lowest bytes of v, from x on
-unfoldable pub putBytes : ℕ → ℕ → List ℕ → ℕ → ℕ → List ℕ
+unfoldable pub putBytes : (count at : ℕ) → List ℕ → (x v : ℕ) → List ℕ
 putBytes zero at w x v = w
 putBytes (suc n) at w x v = putBytes n at (putByte at w x v) (x + 1) (v / 256)
 
-unfoldable pub putWord : ℕ → List ℕ → ℕ → ℕ → List ℕ
+unfoldable pub putWord : (at : ℕ) → List ℕ → (x v : ℕ) → List ℕ
 putWord at w x v = putBytes 4 at w x v
 
 -- "A privileged write, used for relocated words, goes upward and stops at the first byte outside."
-unfoldable pub putUpward : ℕ → ℕ → List ℕ → ℕ → ℕ → List ℕ
+unfoldable pub putUpward : (count at : ℕ) → List ℕ → (x v : ℕ) → List ℕ
 putUpward zero at w x v = w
 putUpward (suc n) at w x v =
     if inside at w x then putUpward n at (putByte at w x v) (x + 1) (v / 256) else w
 
-unfoldable pub putPrivileged : ℕ → List ℕ → ℕ → ℕ → List ℕ
+unfoldable pub putPrivileged : (at : ℕ) → List ℕ → (x v : ℕ) → List ℕ
 putPrivileged at w x v = putUpward 4 at w x v

@@ -18,10 +18,10 @@ use Rattle.window.specs.Within.{In, dec-in, in-range, off-byte, Four, Wi
 unfoldable pub word : (ℕ → ℕ) → ℕ → ℕ
 word M p = join (M p) (M (p + 1)) (M (p + 2)) (M (p + 3))
 
-unfoldable pub put1 : (ℕ → ℕ) → ℕ → ℕ → ℕ → ℕ
+unfoldable pub put1 : (ℕ → ℕ) → (p v q : ℕ) → ℕ
 put1 M p v q = if eqb q p then v % 256 else M q
 
-unfoldable pub put4 : (ℕ → ℕ) → ℕ → ℕ → ℕ → ℕ
+unfoldable pub put4 : (ℕ → ℕ) → (p v q : ℕ) → ℕ
 put4 M p v q = if ltb q p then M q else (if ltb q (p + 4) then byteOf (q - p) v else M q)
 
 unfoldable pub runM : {A : Type 0} → Prog A → (ℕ → ℕ) → A × (ℕ → ℕ)

@@ -11,7 +11,7 @@ use Rattle.window.specs.Memory.{if_then_else_, place, inside, byteAt, wo
 use Rattle.window.specs.Bytes.{length-putByte, putBytes-keeps, putUpward-keeps, Whole, wordAt-same, wordAt-apart}
 use Rattle.window.specs.Access.{Prog, ret, read8, read32, write8, write32, writePrivileged, run, Reads}
 use Rattle.window.specs.Within.{Within, Lies, Four}
-use Rattle.window.specs.Trace.{S, outside, said, noted, saw, seen, storeT, storesT, upwardT, rd8, rd32, wr8, wr32, wrP, runT, touchOf, wr32-put, wrP-put}
+use Rattle.window.specs.Trace.{State, outside, said, noted, saw, seen, storeT, storesT, upwardT, rd8, rd32, wr8, wr32, wrP, runT, touchOf, wr32-put, wrP-put}
 
 -- no log is kept
 abbrev pub quiet : List ℕ → Type 0
@@ -35,20 +35,20 @@ unfolding place
 apart n h g = (omega arith, omega arith)
 
 module _ (at : ℕ) where
-  module _ (P : S → Type 0) (see : (s : S) (x k : ℕ) → P s → P (seen at s x k)) (store : (s : S) (x v : ℕ) → P s → P (storeT at s x v)) where
-    stores : (n : ℕ) (s : S) (x v : ℕ) → P s → P (storesT at n s x v)
+  module _ (P : State → Type 0) (see : (s : State) (x k : ℕ) → P s → P (seen at s x k)) (store : (s : State) (x v : ℕ) → P s → P (storeT at s x v)) where
+    stores : (n : ℕ) (s : State) (x v : ℕ) → P s → P (storesT at n s x v)
     unfolding storesT
     stores zero s x v h = h
     stores (suc n) s x v h = stores n (storeT at s x v) (x + 1) (v / 256) (store s x v h)
 
-    upward : (n : ℕ) (s : S) (x v : ℕ) → P s → P (upwardT at n s x v)
+    upward : (n : ℕ) (s : State) (x v : ℕ) → P s → P (upwardT at n s x v)
     unfolding upwardT
     upward zero s x v h = h
     upward (suc n) s x v h =
         if-keeps P (inside at (s .0) x) (upward n (storeT at s x v) (x + 1) (v / 256) (store s x v h)) h
 
     -- what looking and storing one byte keep, every run keeps
-    pub runT-keeps : {A : Type 0} (m : Prog A) (s : S) → P s → P (runT at m s .1)
+    pub runT-keeps : {A : Type 0} (m : Prog A) (s : State) → P s → P (runT at m s .1)
     unfolding runT rd8 rd32 wr8 wr32 wrP
     runT-keeps (ret a) s h = h
     runT-keeps (read8 p k) s h = runT-keeps (k (byteAt at (s .0) p)) (seen at s p 1) (see s p 1 h)
@@ -66,7 +66,7 @@ module _ (at : ℕ) where
   length-word t x v = putBytes-keeps (λ u. length u ≡ length t) 0 (λ u y z e. length-putByte 0 u y z ∙ e) 4 t x v refl
 
   pub lengthT
-      : {A : Type 0} (m : Prog A) (s : S) → (length (runT at m s .1 .0) ≡ length (s .0)) × (length (runT at m s .1 .1) ≡ length (s .1))
+      : {A : Type 0} (m : Prog A) (s : State) → (length (runT at m s .1 .0) ≡ length (s .0)) × (length (runT at m s .1 .1) ≡ length (s .1))
   unfolding storeT
   lengthT m s =
       runT-keeps (λ u. (length (u .0) ≡ length (s .0)) × (length (u .1) ≡ length (s .1)))
@@ -79,8 +79,8 @@ module _ (at : ℕ) where
       m s (refl, refl)
 
   -- by which a function that meets its contract leaves its trace as long as it was
-  pub trace-kept : {A : Type 0} (m : Prog A) (w t : List ℕ) {v u : List ℕ} → _≡_ {A = S} (v, u) (runT at m (w, t) .1) → length u ≡ length t
-  trace-kept m w t h = ap (λ (s : S). length (s .1)) h ∙ lengthT m (w, t) .1
+  pub trace-kept : {A : Type 0} (m : Prog A) (w t : List ℕ) {v u : List ℕ} → _≡_ {A = State} (v, u) (runT at m (w, t) .1) → length u ≡ length t
+  trace-kept m w t h = ap (λ (s : State). length (s .1)) h ∙ lengthT m (w, t) .1
 
   -- the first touch stands
   saw-said : (n x k : ℕ) (t : List ℕ) → said t ≡ true → saw at n x k t ≡ t
@@ -97,16 +97,16 @@ module _ (at : ℕ) where
       runT-keeps (λ u. u .1 ≡ t) (λ u x k h. rw h (saw-said (length (u .0)) x k t e)) (λ u x v h. h) m (w, t) refl
 
   -- without a log: what `run` gives and leaves
-  erased : {A : Type 0} (m : Prog A) (s : S) → (runT at m s .0, runT at m s .1 .0) ≡ run at m (s .0)
+  erased : {A : Type 0} (m : Prog A) (s : State) → (runT at m s .0, runT at m s .1 .0) ≡ run at m (s .0)
   unfolding runT run rd8 rd32 wr8 storeT
   erased (ret a) s = refl
   erased (read8 p k) s = erased (k (byteAt at (s .0) p)) (seen at s p 1)
   erased (read32 p k) s = erased (k (wordAt at (s .0) p)) (seen at s p 4)
   erased (write8 p v k) s = erased k (wr8 at s p v)
   erased (write32 p v k) s =
-      erased k (wr32 at s p v) ∙ ap (λ (u : S). run at k (u .0)) (wr32-put at (s .0) (s .1) p v)
+      erased k (wr32 at s p v) ∙ ap (λ (u : State). run at k (u .0)) (wr32-put at (s .0) (s .1) p v)
   erased (writePrivileged p v k) s =
-      erased k (wrP at s p v) ∙ ap (λ (u : S). run at k (u .0)) (wrP-put at (s .0) (s .1) p v)
+      erased k (wrP at s p v) ∙ ap (λ (u : State). run at k (u .0)) (wrP-put at (s .0) (s .1) p v)
 
   pub erase
       : {A : Type 0} (m : Prog A) (w t : List ℕ) → quiet t
@@ -148,7 +148,7 @@ module _ (at : ℕ) where
       (λ u x v g. g) m (w, t) (l, h) .1
 
   -- what only reads gives what `run` gives and leaves the window, log or not
-  pub reads-runT : {A : Type 0} (m : Prog A) (s : S) → Reads m → (runT at m s .0 ≡ run at m (s .0) .0) × (runT at m s .1 .0 ≡ s .0)
+  pub reads-runT : {A : Type 0} (m : Prog A) (s : State) → Reads m → (runT at m s .0 ≡ run at m (s .0) .0) × (runT at m s .1 .0 ≡ s .0)
   unfolding runT run rd8 rd32 Reads
   reads-runT (ret a) s h = (refl, refl)
   reads-runT (read8 p k) s h = reads-runT (k (byteAt at (s .0) p)) (seen at s p 1) (h (byteAt at (s .0) p))
@@ -158,8 +158,8 @@ module _ (at : ℕ) where
   reads-runT (writePrivileged p v k) s h = absurd h
 
   -- a reader to whom the trace is nothing
-  pub peeked : {A : Type 0} (m : Prog A) (s : S) {a : A} {u : S} → Reads m → (a, u) ≡ runT at m s → a ≡ run at m (s .0) .0
-  peeked {A} m s h e = ap (λ (r : A × S). r .0) e ∙ reads-runT m s h .0
+  pub peeked : {A : Type 0} (m : Prog A) (s : State) {a : A} {u : State} → Reads m → (a, u) ≡ runT at m s → a ≡ run at m (s .0) .0
+  peeked {A} m s h e = ap (λ (r : A × State). r .0) e ∙ reads-runT m s h .0
 
   -- the first touch stands through what only reads, log or not
   pub silent-reads : {A : Type 0} (m : Prog A) (w t : List ℕ) → Reads m → said t ≡ true → runT at m (w, t) .1 ≡ (w, t)
@@ -217,10 +217,10 @@ module _ (at : ℕ) where
         ap (λ t₁. runT at k (putByte at w p v, t₁) .1 .1) (rw l (saw-all-in n p 1 t (one-in p (h .0))))
         ∙ within k (putByte at w p v) t (length-putByte at w p v ∙ l) q (h .1)
     within (write32 p v k) w t l q h =
-        ap (λ (u : S). runT at k u .1 .1) (wr32-put at w t p v)
+        ap (λ (u : State). runT at k u .1 .1) (wr32-put at w t p v)
         ∙ ap (λ t₁. runT at k (putWord at w p v, t₁) .1 .1) (rw l (saw-all-in n p 4 t (four-in p (h .0))))
         ∙ within k (putWord at w p v) t (length-put w p v ∙ l) q (h .1)
     within (writePrivileged p v k) w t l q h =
-        ap (λ (u : S). runT at k u .1 .1) (wrP-put at w t p v)
+        ap (λ (u : State). runT at k u .1 .1) (wrP-put at w t p v)
         ∙ ap (λ t₁. runT at k (putPrivileged at w p v, t₁) .1 .1) (rw l (saw-all-in n p 4 t (four-in p (h .0))))
         ∙ within k (putPrivileged at w p v) t (length-putP w p v ∙ l) q (h .1)

@@ -10,11 +10,11 @@ use Rattle.window.specs.Memory.{if_then_else_, place, inside, byteAt, wo
 use Rattle.window.specs.Access.{Prog, ret, read8, read32, write8, write32, writePrivileged, _>>=_}
 
 -- the window, then the trace
-abbrev pub S : Type 0
-S = List ℕ × List ℕ
+abbrev pub State : Type 0
+State = List ℕ × List ℕ
 
 -- some of the k bytes from x on are none of the n from `at` on
-unfoldable pub outside : ℕ → ℕ → ℕ → ℕ → Bool
+unfoldable pub outside : (at n x count : ℕ) → Bool
 outside at n x zero = false
 outside at n x (suc k) = not (ltb (place at x) n) || outside at n (x + 1) k
 
@@ -26,45 +26,45 @@ unfoldable pub noted : ℕ → List ℕ → List ℕ
 noted x t = if said t then t else putWord 0 (putWord 0 t 4 1) 8 x
 
 -- an access of k bytes from x on
-unfoldable pub saw : ℕ → ℕ → ℕ → ℕ → List ℕ → List ℕ
+unfoldable pub saw : (at n x k : ℕ) → List ℕ → List ℕ
 saw at n x k t = if outside at n x k then noted x t else t
 
 unfoldable pub touchOf : List ℕ → ℕ × ℕ
 touchOf t = (wordAt 0 t 4, wordAt 0 t 8)
 
 module _ (at : ℕ) where
-  abbrev pub seen : S → ℕ → ℕ → S
+  abbrev pub seen : State → ℕ → ℕ → State
   seen s x k = (s .0, saw at (length (s .0)) x k (s .1))
 
   -- one byte stored
-  unfoldable pub storeT : S → ℕ → ℕ → S
+  unfoldable pub storeT : State → ℕ → ℕ → State
   storeT s x v = (putByte at (s .0) x v, s .1)
 
-  unfoldable pub storesT : ℕ → S → ℕ → ℕ → S
+  unfoldable pub storesT : (count : ℕ) → State → (x v : ℕ) → State
   storesT zero s x v = s
   storesT (suc n) s x v = storesT n (storeT s x v) (x + 1) (v / 256)
 
-  unfoldable pub upwardT : ℕ → S → ℕ → ℕ → S
+  unfoldable pub upwardT : (count : ℕ) → State → (x v : ℕ) → State
   upwardT zero s x v = s
   upwardT (suc n) s x v = if inside at (s .0) x then upwardT n (storeT s x v) (x + 1) (v / 256) else s
 
   -- the five accesses
-  unfoldable pub rd8 : S → ℕ → ℕ × S
+  unfoldable pub rd8 : State → ℕ → ℕ × State
   rd8 s x = (byteAt at (s .0) x, seen s x 1)
 
-  unfoldable pub rd32 : S → ℕ → ℕ × S
+  unfoldable pub rd32 : State → ℕ → ℕ × State
   rd32 s x = (wordAt at (s .0) x, seen s x 4)
 
-  unfoldable pub wr8 : S → ℕ → ℕ → S
+  unfoldable pub wr8 : State → ℕ → ℕ → State
   wr8 s x v = storeT (seen s x 1) x v
 
-  unfoldable pub wr32 : S → ℕ → ℕ → S
+  unfoldable pub wr32 : State → ℕ → ℕ → State
   wr32 s x v = storesT 4 (seen s x 4) x v
 
-  unfoldable pub wrP : S → ℕ → ℕ → S
+  unfoldable pub wrP : State → ℕ → ℕ → State
   wrP s x v = upwardT 4 (seen s x 4) x v
 
-  unfoldable pub runT : {A : Type 0} → Prog A → S → A × S
+  unfoldable pub runT : {A : Type 0} → Prog A → State → A × State
   runT (ret a) s = (a, s)
   runT (read8 p k) s = runT (k (rd8 s p .0)) (rd8 s p .1)
   runT (read32 p k) s = runT (k (rd32 s p .0)) (rd32 s p .1)
@@ -73,7 +73,7 @@ module _ (at : ℕ) where
   runT (writePrivileged p v k) s = runT k (wrP s p v)
 
   pub runT-bind
-      : {A B : Type 0} (m : Prog A) (f : A → Prog B) (s : S) → runT (m >>= f) s ≡ runT (f (runT m s .0)) (runT m s .1)
+      : {A B : Type 0} (m : Prog A) (f : A → Prog B) (s : State) → runT (m >>= f) s ≡ runT (f (runT m s .0)) (runT m s .1)
   unfolding runT _>>=_
   runT-bind (ret a) f s = refl
   runT-bind (read8 p k) f s = runT-bind (k (rd8 s p .0)) f (rd8 s p .1)
@@ -89,7 +89,7 @@ module _ (at : ℕ) where
   storesT-put (suc n) w t x v = storesT-put n (putByte at w x v) t (x + 1) (v / 256)
 
   upwardT-step
-      : (b : Bool) (s : S) (u : List ℕ) (t : List ℕ) (r : List ℕ) → s ≡ (u, t)
+      : (b : Bool) (s : State) (u : List ℕ) (t : List ℕ) (r : List ℕ) → s ≡ (u, t)
       → (if b then s else (r, t)) ≡ ((if b then u else r), t)
   upwardT-step true s u t r e = e
   upwardT-step false s u t r e = refl

@@ -13,7 +13,7 @@ use Rattle.window.specs.Access.{Prog, ret, read8, read32, write8, write3
 use Rattle.window.specs.Loop.{loop}
 
 -- the addresses p to p + n - 1, exactly
-abbrev pub In : ℕ → ℕ → ℕ → Type 0
+abbrev pub In : (p n q : ℕ) → Type 0
 In p n q = (p ≤ q) × (q < p + n)
 
 pub dec-in : (p n q : ℕ) → Dec (In p n q)

@@ -3,7 +3,7 @@
 // Each access says whether any of its bytes lay outside: the lent trace keeps where the first such access started.
 // Only this crate looks into a trace, and it is total in the trace's length.
 pub mod name;
-pub mod plain;
+mod plain;
 
 ghost use mathlib.Core.Path.{_≡_};
 ghost use mathlib.Core.Bool.{_&&_};

@@ -10,7 +10,7 @@ use crate::store32;
 use crate::wide;
 
 // The byte at x, 0 outside.
-pub fn read8(at: u32, w: &[u8], x: u32) -> u8
+pub(crate) fn read8(at: u32, w: &[u8], x: u32) -> u8
     ensures { λ r. ⌜ r ≡ byteAt at (now (w .entry)) x ⌝ }
 {
     let i = place_of(at, x);
@@ -18,7 +18,7 @@ pub fn read8(at: u32, w: &[u8], x: u32) -> u8
 }
 
 // Stores b at x, unless x is outside.
-pub fn write8(at: u32, w: &mut [u8], x: u32, b: u8)
+pub(crate) fn write8(at: u32, w: &mut [u8], x: u32, b: u8)
     ensures { λ _. ⌜ now (w .exit) ≡ putByte at (now (w .entry)) x b ⌝ }
 {
     let i = place_of(at, x);
@@ -28,7 +28,7 @@ pub fn write8(at: u32, w: &mut [u8], x: u32, b: u8)
 }
 
 // The word at x, lowest byte first.
-pub fn read32(at: u32, w: &[u8], x: u32) -> u32
+pub(crate) fn read32(at: u32, w: &[u8], x: u32) -> u32
     ensures { λ r. ⌜ r ≡ wordAt at (now (w .entry)) x ⌝ }
 {
     let i = place_of(at, x);
@@ -39,7 +39,7 @@ pub fn read32(at: u32, w: &[u8], x: u32) -> u32
 }
 
 // Stores the word v at x, lowest byte first; bytes outside are dropped.
-pub fn write32(at: u32, w: &mut [u8], x: u32, v: u32)
+pub(crate) fn write32(at: u32, w: &mut [u8], x: u32, v: u32)
     ensures { λ _. ⌜ now (w .exit) ≡ putWord at (now (w .entry)) x v ⌝ }
 {
     let i = place_of(at, x);
@@ -61,7 +61,7 @@ fn whole(i: usize, n: usize) -> bool
 }
 
 // The word at x, byte by byte: any of them may be outside.
-pub fn read32_split(at: u32, w: &[u8], x: u32) -> u32
+pub(crate) fn read32_split(at: u32, w: &[u8], x: u32) -> u32
     ensures { λ r. ⌜ r ≡ wordAt at (now (w .entry)) x ⌝ }
 {
     let b0 = wide(read8(at, w, x));
@@ -72,7 +72,7 @@ pub fn read32_split(at: u32, w: &[u8], x: u32) -> u32
 }
 
 // Stores the word v at x, byte by byte: any of them may be outside.
-pub fn write32_split(at: u32, w: &mut [u8], x: u32, v: u32)
+pub(crate) fn write32_split(at: u32, w: &mut [u8], x: u32, v: u32)
     ensures { λ _. ⌜ now (w .exit) ≡ putWord at (now (w .entry)) x v ⌝ }
 {
     let x1 = std::num::wrapping_add_u32(x, 1);
@@ -85,7 +85,7 @@ pub fn write32_split(at: u32, w: &mut [u8], x: u32, v: u32)
 }
 
 // Stores the word v upward from x, byte by byte, up to the first one outside.
-pub fn write32_upward(at: u32, w: &mut [u8], x: u32, v: u32)
+pub(crate) fn write32_upward(at: u32, w: &mut [u8], x: u32, v: u32)
     ensures { λ _. ⌜ now (w .exit) ≡ putPrivileged at (now (w .entry)) x v ⌝ }
 {
     let mut y = x;

@@ -6,50 +6,50 @@ use mathlib.Core.Bool.{Bool, true, false, not}
 use lib.ListN.{length, getD}
 use borrow.Author.Tests.{le-leb, lt-leb, not-true, not-false}
 use Rattle.register.specs.Words.{wordsIn, same}
-use Rattle.case_reader.specs.declared.append.Next.{Next}
-use Rattle.case_reader.specs.declared.append.Next.the-variants.{At, Full}
+use Rattle.case_reader.specs.declared.append.NextPlace.{NextPlace}
+use Rattle.case_reader.specs.declared.append.NextPlace.the-variants.{At, Full}
 use Rattle.case_reader.specs.Pieces.{pieces}
-use Rattle.linker_spec.specs.Outcome.{Bytes}
+use Rattle.linker_spec.specs.Outcome.{Buffers}
 use Rattle.call_cases.specs.Buffers.{change, lays, laid, compared}
 use Rattle.call_cases.specs.declared.buffers.Verdict.the-variants.{Same, Window, Records, Names, Missing}
 
 -- the pieces of two buffers
 
 abbrev Two : Type 0
-Two = Next × List ℕ × List ℕ
+Two = NextPlace × List ℕ × List ℕ
 
 pub past : (file : List ℕ) (at : ℕ) (b a : List ℕ) → length file / 4 < at → _≡_ {A = Two} (Full, b, a) (laid file at b a)
 unfolding laid
 past file at b a h = rw (lt-leb at (length file / 4) h)
 
 module _ (file : List ℕ) (at : ℕ) (b a : List ℕ) (h : at ≤ length file / 4) {n m : ℕ} (en : n ≡ getD (wordsIn file) at 0)
-    (em : m ≡ getD (wordsIn file) (at + 1) 0) {x : Next} {b₂ : List ℕ} (eb : _≡_ {A = Next × List ℕ} (x, b₂) (pieces n file (at + 2) b)) where
+    (em : m ≡ getD (wordsIn file) (at + 1) 0) {x : NextPlace} {b₂ : List ℕ} (eb : _≡_ {A = NextPlace × List ℕ} (x, b₂) (pieces n file (at + 2) b)) where
   there : lays n m file (at + 2) a (x, b₂) ≡ laid file at b a
   unfolding laid
   there = rw (le-leb at (length file / 4) h, ← en, ← em, ← eb)
 
   pub not-before : x ≡ Full → _≡_ {A = Two} (Full, b₂, a) (laid file at b a)
   unfolding lays
-  not-before z = ap (λ (t : Next). lays n m file (at + 2) a (t, b₂)) (sym z) ∙ there
+  not-before z = ap (λ (t : NextPlace). lays n m file (at + 2) a (t, b₂)) (sym z) ∙ there
 
-  module _ (next : ℕ) (z : x ≡ At next) {y : Next} {a₂ : List ℕ} (ea : _≡_ {A = Next × List ℕ} (y, a₂) (pieces n file (at + 2) a)) where
+  module _ (next : ℕ) (z : x ≡ At next) {y : NextPlace} {a₂ : List ℕ} (ea : _≡_ {A = NextPlace × List ℕ} (y, a₂) (pieces n file (at + 2) a)) where
     on : change m file next b₂ (y, a₂) ≡ laid file at b a
     unfolding lays
-    on = ap (λ (t : Next × List ℕ). change m file next b₂ t) ea ∙ ap (λ (t : Next). lays n m file (at + 2) a (t, b₂)) (sym z) ∙ there
+    on = ap (λ (t : NextPlace × List ℕ). change m file next b₂ t) ea ∙ ap (λ (t : NextPlace). lays n m file (at + 2) a (t, b₂)) (sym z) ∙ there
 
     pub not-after : y ≡ Full → _≡_ {A = Two} (Full, b₂, a₂) (laid file at b a)
     unfolding change
-    not-after u = ap (λ (t : Next). change m file next b₂ (t, a₂)) (sym u) ∙ on
+    not-after u = ap (λ (t : NextPlace). change m file next b₂ (t, a₂)) (sym u) ∙ on
 
     pub all-laid
-        : {e : ℕ} {v : Next} {a₃ : List ℕ} → y ≡ At e → _≡_ {A = Next × List ℕ} (v, a₃) (pieces m file next a₂)
+        : {e : ℕ} {v : NextPlace} {a₃ : List ℕ} → y ≡ At e → _≡_ {A = NextPlace × List ℕ} (v, a₃) (pieces m file next a₂)
         → _≡_ {A = Two} (v, b₂, a₃) (laid file at b a)
     unfolding change
-    all-laid u p = ap (λ (t : Next × List ℕ). (t .0, b₂, t .1)) p ∙ ap (λ (t : Next). change m file next b₂ (t, a₂)) (sym u) ∙ on
+    all-laid u p = ap (λ (t : NextPlace × List ℕ). (t .0, b₂, t .1)) p ∙ ap (λ (t : NextPlace). change m file next b₂ (t, a₂)) (sym u) ∙ on
 
 -- the comparison, buffer after buffer
 
-module _ (b a : Bytes) {s₁ : Bool} (e₁ : s₁ ≡ same (b .window) (a .window)) where
+module _ (b a : Buffers) {s₁ : Bool} (e₁ : s₁ ≡ same (b .window) (a .window)) where
   pub other-window : not s₁ ≡ true → Window ≡ compared b a
   unfolding compared
   other-window h = rw (← e₁, not-true s₁ h)

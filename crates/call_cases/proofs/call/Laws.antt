@@ -4,12 +4,12 @@ use mathlib.Core.Path.{_≡_}
 use mathlib.Core.List.{List}
 use lib.ListN.{getD}
 use borrow.Author.Tests.{ne-eqb}
-use Rattle.linker_spec.specs.Outcome.{Bytes, Outcome, initializeOutcome, loadOutcome, unloadOutcome}
+use Rattle.linker_spec.specs.Outcome.{Buffers, Outcome, initializeOutcome, loadOutcome, unloadOutcome}
 use Rattle.linker_spec.specs.Touches.{initializeTouches, loadTouches, unloadTouches}
-use Rattle.linker.specs.Calls.Steps.{toLoad}
+use Rattle.linker.specs.Calls.Steps.{loadArguments}
 use Rattle.call_cases.specs.Case.{called, touchedBy}
 
-module _ (ws : List ℕ) (at : ℕ) (b : Bytes) {a base size k : ℕ} (ea : a ≡ getD ws (at + 2) 0) (eb : base ≡ getD ws (at + 7) 0)
+module _ (ws : List ℕ) (at : ℕ) (b : Buffers) {a base size k : ℕ} (ea : a ≡ getD ws (at + 2) 0) (eb : base ≡ getD ws (at + 7) 0)
     (es : size ≡ getD ws (at + 8) 0) (ek : k ≡ getD ws (at + 1) 0) {o : Outcome} {touch : ℕ × ℕ} where
   pub initializes : k ≡ 1 → (o ≡ initializeOutcome base size a b) × (touch ≡ initializeTouches base size a b)
       → (o ≡ called ws at b) × (touch ≡ touchedBy ws at b)
@@ -19,7 +19,7 @@ module _ (ws : List ℕ) (at : ℕ) (b : Bytes) {a base size k : ℕ} (ea : a �
   pub loads
       : {da ds ba bs auto level : ℕ} → k ≡ 2 → da ≡ getD ws (at + 9) 0 → ds ≡ getD ws (at + 10) 0 → ba ≡ getD ws (at + 11) 0
       → bs ≡ getD ws (at + 12) 0 → auto ≡ getD ws (at + 13) 0 → level ≡ getD ws (at + 14) 0
-      → (o ≡ loadOutcome (toLoad base size da ds ba bs) auto level a b) × (touch ≡ loadTouches (toLoad base size da ds ba bs) auto level a b)
+      → (o ≡ loadOutcome (loadArguments base size da ds ba bs) auto level a b) × (touch ≡ loadTouches (loadArguments base size da ds ba bs) auto level a b)
       → (o ≡ called ws at b) × (touch ≡ touchedBy ws at b)
   unfolding called touchedBy
   loads z e₁ e₂ e₃ e₄ e₅ e₆ e = rw (← ek, z, ← ea, ← eb, ← es, ← e₁, ← e₂, ← e₃, ← e₄, ← e₅, ← e₆) e

@@ -9,8 +9,8 @@ use lib.ListN.{length, take, drop}
 use lib.Dec.{leb}
 use borrow.Author.Tests.{le-leb, lt-leb, leb-true, leb-false, not-true, not-false}
 use Rattle.case_reader.specs.Append.{appended, appended-fits}
-use Rattle.case_reader.specs.declared.append.Next.{Next}
-use Rattle.case_reader.specs.declared.append.Next.the-variants.{At}
+use Rattle.case_reader.specs.declared.append.NextPlace.{NextPlace}
+use Rattle.case_reader.specs.declared.append.NextPlace.the-variants.{At}
 
 -- the test of an append
 pub room : (i n all : ℕ) → i ≤ all → leb n (all - i) ≡ leb (i + n) all
@@ -30,5 +30,5 @@ module _ (i n all : ℕ) {r : Bool} (e : r ≡ leb (i + n) all) where
 -- all of s in l
 pub laid
     : (s : List ℕ) (i : ℕ) (l : List ℕ) {n : ℕ} {b : List ℕ} → i + n ≤ length l → n ≡ length s
-    → b ≡ take i l ++ s ++ drop (i + n) l → _≡_ {A = Next × List ℕ} (At (i + n), b) (appended s i l)
+    → b ≡ take i l ++ s ++ drop (i + n) l → _≡_ {A = NextPlace × List ℕ} (At (i + n), b) (appended s i l)
 laid s i l h e g = rw (g, e, appended-fits s i l (rw e at h))

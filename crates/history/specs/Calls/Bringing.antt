@@ -9,12 +9,12 @@ use Rattle.window.specs.Mirror.{runM}
 use Rattle.register.specs.Module.{Module, Register}
 use Rattle.linker_spec.specs.declared.rebase.Rebased.{Rebased}
 use Rattle.linker_spec.specs.Relocation.{resetExternalRelocations}
-use Rattle.linker_spec.specs.Calls.{Answer, NotACro, BadSegment, enter}
-use Rattle.history.specs.Arrival.{Image, baseOf, sizeOf, Area}
+use Rattle.linker_spec.specs.Calls.{Answer, NotACro, BadSegment, addRecord}
+use Rattle.history.specs.LoadedModule.{Image, baseOf, sizeOf, Area}
 use Rattle.history.specs.WellLaid.{WellLaid}
-use Rattle.history.specs.Steps.Wp.{Memory, Does, Kept, runM-bind, does-ret, does-then, does-wider}
+use Rattle.history.specs.Steps.Wp.{Memory, Does, SameOutside, runM-bind, does-ret, does-then, does-wider}
 use Rattle.history.specs.Steps.Windowed.{same-on}
-use Rattle.history.specs.Rebase.Rebased.{Outcome}
+use Rattle.history.specs.Rebase.Rebased.{RebaseLeaves}
 use Rattle.history.specs.Rebase.Standing.{reset-stands}
 use Rattle.history.specs.Rebase.Arrives.{Arrived, recorded, Refuses}
 
@@ -30,28 +30,28 @@ does-runs S h = record { lies = h .lies; gives = (refl, h .gives) }
 
 -- N is what the rebase and the reset made of B, whatever B is outside the areas
 pub record Brought (m : Image) (step : Prog Rebased) (B N : Memory) : Type 0 where
-  pub arrived : Arrived m B N
-  pub bytes : N ≡ brought step (baseOf (m .coming)) B
-  pub alike : (D : Memory) → Agree (Area m) B D → Agree (Area m) N (brought step (baseOf (m .coming)) D)
+  pub loadedModules : Arrived m B N
+  pub bytes : N ≡ brought step (baseOf (m .loadCall)) B
+  pub alike : (D : Memory) → Agree (Area m) B D → Agree (Area m) N (brought step (baseOf (m .loadCall)) D)
 
 -- S holds the module's areas; Q is asked of the call
 module _ (S : ℕ → Type 0) (Q : Answer → Memory → Type 0) (m : Image) (laid : WellLaid m) (low : Low (Area m))
-    (bytes : (o : ℕ) → o < sizeOf (m .coming) → m .file o < 256) (i : (q : ℕ) → Area m q → S q) where
+    (bytes : (o : ℕ) → o < sizeOf (m .loadCall) → m .file o < 256) (i : (q : ℕ) → Area m q → S q) where
   abbrev at : ℕ
-  at = baseOf (m .coming)
+  at = baseOf (m .loadCall)
 
   pub brings
       : {B : Memory} (records names : ℕ) (r : Register) (auto : Bool) (next : Module → Prog Answer) (step : Prog Rebased)
-      → Does (Area m) step (Outcome m) B → Refuses Q m B
-      → ((N : Memory) → Brought m step B N → Does S (recorded records names r at (sizeOf (m .coming)) auto next) Q N)
-      → Does S (step >>= λ x. enter records names r at (sizeOf (m .coming)) auto next x) Q B
-  unfolding enter Outcome brought
+      → Does (Area m) step (RebaseLeaves m) B → Refuses Q m B
+      → ((N : Memory) → Brought m step B N → Does S (recorded records names r at (sizeOf (m .loadCall)) auto next) Q N)
+      → Does S (step >>= λ x. addRecord records names r at (sizeOf (m .loadCall)) auto next x) Q B
+  unfolding addRecord RebaseLeaves brought
   brings {B} records names r auto next step d refuses after =
       does-then S step _ (does-wider (Area m) S i (does-runs (Area m) d)) (λ x M h. go x M (h .0 .0) (h .0 .1) (h .1))
     where
       go
-          : (x : Rebased) (M : Memory) → M ≡ runM step B .1 → Outcome m x M → Kept (Area m) B M
-          → Does S (enter records names r at (sizeOf (m .coming)) auto next x) Q M
+          : (x : Rebased) (M : Memory) → M ≡ runM step B .1 → RebaseLeaves m x M → SameOutside (Area m) B M
+          → Does S (addRecord records names r at (sizeOf (m .loadCall)) auto next x) Q M
       go x M e (inl z) k = rw z (does-ret S (refuses NotACro M (inl refl) k))
       go x M e (inr (inl z)) k = rw z (does-ret S (refuses BadSegment M (inr refl) k))
       go x M e (inr (inr h)) k =
@@ -68,7 +68,7 @@ module _ (S : ℕ → Type 0) (Q : Answer → Memory → Type 0) (m : Image) (la
           ∙ sym (ap (λ p. p .1) (runM-bind step (λ _. resetExternalRelocations at) B)) in
           after N
           (record {
-            arrived =
+            loadedModules =
                 record { view = g .0 .1 .0; headed = g .0 .1 .1; stands = g .0 .1 .2; outside = λ q o. g .1 q o ∙ k q o };
             bytes = z;
             alike = λ D a. rw z (same-on (Area m) (step >>= λ _. resetExternalRelocations at) B D (both .lies) a .1);

@@ -6,19 +6,19 @@ use native.Mathlib.Omega.{arith}
 use lib.ListN.{length}
 use Rattle.register.specs.Module.{Module}
 use Rattle.register.specs.Change.{without}
-use Rattle.history.specs.Arrival.{Image, Area}
-use Rattle.history.specs.Steps.Wp.{Memory, Kept}
-use Rattle.history.specs.Steps.Shows.{shows-agree}
+use Rattle.history.specs.LoadedModule.{Image, Area}
+use Rattle.history.specs.Steps.Wp.{Memory, SameOutside}
+use Rattle.history.specs.Steps.ModuleBytes.{shows-agree}
 use Rattle.history.specs.Steps.Links.{Links}
-use Rattle.history.specs.Steps.World.{Cast, Sound, World}
+use Rattle.history.specs.Steps.AllModulesShow.{Modules, Sound, AllModulesShow}
 use Rattle.history.specs.Steps.Leaving.{skip, skip-low, skip-high, skip-not, skip-below, skip-other, skip-suc}
 use Rattle.history.specs.Steps.Own.{RecordedAll}
-use Rattle.history.specs.Calls.Scene.{recorded-same}
+use Rattle.history.specs.Calls.LinkedState.{recorded-same}
 
-abbrev pub fewer : Cast → ℕ → Cast
+abbrev pub fewer : Modules → ℕ → Modules
 fewer C d = record { number = pred (C .number); image = λ k. C .image (skip d k); rest = λ k. C .rest (skip d k) }
 
-module _ (C : Cast) (sound : Sound C) (d : ℕ) (below : d < C .number) where
+module _ (C : Modules) (sound : Sound C) (d : ℕ) (below : d < C .number) where
   inside : (k : ℕ) → k < pred (C .number) → skip d k < C .number
   inside k l = skip-below (C .number) d k below l
 
@@ -32,10 +32,10 @@ module _ (C : Cast) (sound : Sound C) (d : ℕ) (below : d < C .number) where
       }
 
   -- the others stand, whatever became of its areas
-  pub fewer-world
-      : {φ : ℕ → Links} {n v : ℕ → ℕ} {M N : Memory} → World C φ n v M → Kept (Area (C .image d)) M N
-      → World (fewer C d) (λ k. φ (skip d k)) (λ k. n (skip d k)) (λ k. v (skip d k)) N
-  fewer-world w t =
+  pub fewer-modules-show
+      : {φ : ℕ → Links} {n v : ℕ → ℕ} {M N : Memory} → AllModulesShow C φ n v M → SameOutside (Area (C .image d)) M N
+      → AllModulesShow (fewer C d) (λ k. φ (skip d k)) (λ k. n (skip d k)) (λ k. v (skip d k)) N
+  fewer-modules-show w t =
       record {
         stands =
             λ k l.

@@ -15,54 +15,55 @@ use Rattle.layout.specs.Header.{nextCro, previousCro}
 use Rattle.register.specs.declared.words.Crs.the-variants.{Known}
 use Rattle.register.specs.Module.{Module, Register}
 use Rattle.register.specs.Change.{appended}
-use Rattle.linker_spec.specs.declared.rebase.Lent.{Lent}
+use Rattle.linker_spec.specs.declared.rebase.LoadArguments.{LoadArguments}
 use Rattle.linker_spec.specs.Exports.{readModule}
 use Rattle.linker_spec.specs.Calls as calls
 use Rattle.linker_spec.specs.Calls.{Answer, NotACro, BadSegment, NoRoom, Done, fits, rebase, missingNow, linked}
+use Rattle.history.specs.Below.{length-more}
 use Rattle.history.specs.Image.{moduleName}
-use Rattle.history.specs.Arrival.{loaded, Image, baseOf, Area}
+use Rattle.history.specs.LoadedModule.{loaded, Image, baseOf, Area}
 use Rattle.history.specs.Imports.{Import, Exports}
 use Rattle.history.specs.WellLaid.{WellLaid}
-use Rattle.history.specs.Steps.Wp.{Memory, Does, Kept, does-ret, does-then, does-wider}
-use Rattle.history.specs.Steps.Shows.{shows-agree}
+use Rattle.history.specs.Steps.Wp.{Memory, Does, does-ret, does-then, does-wider}
+use Rattle.history.specs.Steps.ModuleBytes.{shows-agree}
 use Rattle.history.specs.Steps.Links.{Links, Stands}
-use Rattle.history.specs.Steps.World.{Cast, World, put, put-same, put-other}
-use Rattle.history.specs.Steps.Listing.{Listed}
+use Rattle.history.specs.Steps.AllModulesShow.{Modules, AllModulesShow, put, put-same, put-other}
+use Rattle.history.specs.Steps.Listing.{ListWords}
 use Rattle.history.specs.Steps.Records.{Recorded}
 use Rattle.history.specs.Steps.Recording.{records}
-use Rattle.history.specs.Steps.Final.{Final}
+use Rattle.history.specs.Steps.LinksResolved.{LinksResolved}
 use Rattle.history.specs.Steps.Own.{RecordedAll}
 use Rattle.history.specs.Steps.Fixing.{fixedAt, fixed-view, fixed-agree}
-use Rattle.history.specs.Rebase.Header.{Fresh}
+use Rattle.history.specs.Rebase.Header.{AsInFile}
 use Rattle.history.specs.Rebase.Rebased.{rebased}
 use Rattle.history.specs.Rebase.Arrives.{Arrived, Refuses, recorded}
-use Rattle.history.specs.Calls.Scene.{baseIn, Scene, Book, AtRest, extended, image-new, image-old, rest-new, each, more-sound, listed-same, final-same, recorded-same}
-use Rattle.history.specs.Calls.Linked.{recorded-more, length-more, fixedCast, links-in}
+use Rattle.history.specs.Calls.LinkedState.{baseIn, LinkedState, RegisterMatches, AtRest, extended, image-new, image-old, rest-new, each, more-sound, listed-same, resolved-same, recorded-same}
+use Rattle.history.specs.Calls.Linked.{recorded-more, fixedCast, links-in}
 use Rattle.history.specs.Calls.Bringing.{brought, Brought, brings}
 
 -- the bytes at rest of a module that is loaded over the memory B
-unfoldable pub restOf : Lent → Image → ℕ → Memory → Memory
+unfoldable pub restOf : LoadArguments → Image → ℕ → Memory → Memory
 restOf l m level B = fixedAt m level (brought (rebase l) (l .base) B)
 
 -- m stands beside those of C; its bytes at rest are what the bytes before the call say, those of its areas alone
-pub record Came (C : Cast) (l : Lent) (m : Image) (level : ℕ) (B : Memory) (s : Register) (N : Memory) : Type 0 where
+pub record LoadSucceeded (C : Modules) (l : LoadArguments) (m : Image) (level : ℕ) (B : Memory) (s : Register) (N : Memory) : Type 0 where
   pub rest : Memory
   pub joined : AtRest (extended C m rest) s N
   pub bytes : rest ≡ restOf l m level B
   pub alike : (D : Memory) → Agree (Area m) B D → Agree (Area m) rest (restOf l m level D)
 
 -- what is said of the answer
-unfoldable pub Answered : Cast → Lent → Image → ℕ → Memory → Answer → Memory → Type 0
-Answered C l m level B (Done v s) N = Came C l m level B s N
-Answered C l m level B NotACro N = Unit {0}
-Answered C l m level B BadSegment N = Unit {0}
-Answered C l m level B Answer.BadWindow N = Unit {0}
-Answered C l m level B Answer.NoRegister N = Unit {0}
-Answered C l m level B NoRoom N = Unit {0}
-Answered C l m level B Answer.Kept N = Unit {0}
+unfoldable pub LoadAnswered : Modules → LoadArguments → Image → ℕ → Memory → Answer → Memory → Type 0
+LoadAnswered C l m level B (Done v s) N = LoadSucceeded C l m level B s N
+LoadAnswered C l m level B NotACro N = Unit {0}
+LoadAnswered C l m level B BadSegment N = Unit {0}
+LoadAnswered C l m level B Answer.BadWindow N = Unit {0}
+LoadAnswered C l m level B Answer.NoRegister N = Unit {0}
+LoadAnswered C l m level B NoRoom N = Unit {0}
+LoadAnswered C l m level B Answer.NotLoaded N = Unit {0}
 
 -- the areas of all and of the new one
-abbrev pub Reach : Cast → Image → ℕ → Type 0
+abbrev pub Reach : Modules → Image → ℕ → Type 0
 Reach C m q = (k : ℕ) × (k < suc (C .number)) × Area (put (C .image) (C .number) m k) q
 
 -- of all with the new one, only one exports to an import
@@ -70,19 +71,19 @@ abbrev pub Once : ℕ → (ℕ → Image) → Type 0
 Once n x = (t : ℕ) → t < n → (i : Import) (j k p q : ℕ) → j < n → k < n → Exports (x j) (x t) i p → Exports (x k) (x t) i q → j ≡ k
 
 -- and no two have one name
-abbrev pub Names : ℕ → (ℕ → Image) → Type 0
-Names n x = (j k : ℕ) → j < n → k < n → moduleName (x j .file) ≡ moduleName (x k .file) → j ≡ k
+abbrev pub DistinctNames : ℕ → (ℕ → Image) → Type 0
+DistinctNames n x = (j k : ℕ) → j < n → k < n → moduleName (x j .file) ≡ moduleName (x k .file) → j ≡ k
 
-module _ (C : Cast) (m : Image) (laid : WellLaid m) (low : Low (Area m))
-    (off : (k q : ℕ) → k < C .number → Area (C .image k) q → Area m q → ⊥) {φ : ℕ → Links} {x y : ℕ → ℕ} {B : Memory} (scene : Scene C φ x y B) where
+module _ (C : Modules) (m : Image) (laid : WellLaid m) (low : Low (Area m))
+    (off : (k q : ℕ) → k < C .number → Area (C .image k) q → Area m q → ⊥) {φ : ℕ → Links} {x y : ℕ → ℕ} {B : Memory} (linkedState : LinkedState C φ x y B) where
   abbrev n : ℕ
   n = C .number
 
   -- the new one stands beside the others, without links
-  world-new
+  modules-show-new
       : (N : Memory) → Arrived m B N
-      → World (extended C m N) (put φ n (λ _. none)) (put x n (word (m .file) nextCro)) (put y n (word (m .file) previousCro)) N
-  world-new N h =
+      → AllModulesShow (extended C m N) (put φ n (λ _. none)) (put x n (word (m .file) nextCro)) (put y n (word (m .file) previousCro)) N
+  modules-show-new N h =
       record {
         stands =
             each C m N
@@ -97,53 +98,53 @@ module _ (C : Cast) (m : Image) (laid : WellLaid m) (low : Low (Area m))
           rw (put-other φ n (λ _. none) k o, put-other x n (word (m .file) nextCro) k o, put-other y n (word (m .file) previousCro) k o)
           (record {
             shows =
-                shows-agree (C .image k) (scene .sound .laid k l) (λ q s. sym (h .outside q (λ u. off k q l s u))) (scene .world .stands k l .shows);
+                shows-agree (C .image k) (linkedState .sound .laid k l) (λ q s. sym (h .outside q (λ u. off k q l s u))) (linkedState .modulesShow .stands k l .shows);
           })
 
   module _ (T : Memory) where
-    abbrev E : Cast
+    abbrev E : Modules
     E = extended C m T
 
     old-base : (k : ℕ) → k < n → baseIn C k ≡ baseIn E k
-    old-base k l = ap (λ z. baseOf (z .coming)) (sym (image-old C m T k l))
+    old-base k l = ap (λ z. baseOf (z .loadCall)) (sym (image-old C m T k l))
 
-    listed-old : (a b : ℕ) → Listed (baseIn E) n (put x n a) (put y n b)
+    listed-old : (a b : ℕ) → ListWords (baseIn E) n (put x n a) (put y n b)
     listed-old a b =
         listed-same n old-base (λ k l. sym (put-other x n a k (λ e. absurd (omega (arith, e)))))
-        (λ k l. sym (put-other y n b k (λ e. absurd (omega (arith, e))))) (scene .listed)
+        (λ k l. sym (put-other y n b k (λ e. absurd (omega (arith, e))))) (linkedState .listed)
 
-    final-old : (ψ : Links) (j : ℕ) → j < n → Final n (E .image) (E .image j) (put φ n ψ j)
-    final-old ψ j l =
+    resolved-old : (ψ : Links) (j : ℕ) → j < n → LinksResolved n (E .image) (E .image j) (put φ n ψ j)
+    resolved-old ψ j l =
         rw (put-other φ n ψ j (λ e. absurd (omega (arith, e))), image-old C m T j l)
-        (final-same n (λ k g. sym (image-old C m T k g)) (scene .links j l))
+        (resolved-same n (λ k g. sym (image-old C m T k g)) (linkedState .links j l))
 
-    new-nonzero : baseOf (m .coming) ≢ 0 → (k : ℕ) → k < suc n → baseIn E k ≢ 0
-    new-nonzero z = each C m T (λ k x U. baseOf (x .coming) ≢ 0) (scene .nonzero) z
+    new-nonzero : baseOf (m .loadCall) ≢ 0 → (k : ℕ) → k < suc n → baseIn E k ≢ 0
+    new-nonzero z = each C m T (λ k x U. baseOf (x .loadCall) ≢ 0) (linkedState .nonzero) z
 
-    module _ (r : Register) (book : Book C r) where
+    module _ (r : Register) (registerMatches : RegisterMatches C r) where
       old-recorded : RecordedAll (E .image) (r .modules)
       old-recorded =
-          recorded-same (C .image) (E .image) (r .modules) (λ k l. sym (image-old C m T k (rw (book .many) at l))) (book .recorded)
+          recorded-same (C .image) (E .image) (r .modules) (λ k l. sym (image-old C m T k (rw (registerMatches .many) at l))) (registerMatches .recorded)
 
       old-crs : r .crs ≡ Known (baseIn E 0)
-      old-crs = book .crs ∙ ap Known (old-base 0 (scene .some))
+      old-crs = registerMatches .crs ∙ ap Known (old-base 0 (linkedState .some))
 
-      book-new : (k : Module) → Recorded m k → (missing : List (List ℕ)) → Book E (missingNow (appended r k) missing)
+      book-new : (k : Module) → Recorded m k → (missing : List (List ℕ)) → RegisterMatches E (missingNow (appended r k) missing)
       unfolding missingNow appended
       book-new k rec missing =
           record {
-            recorded = recorded-more (E .image) (r .modules) k old-recorded (rw (book .many, image-new C m T) rec);
-            many = length-more (r .modules) k ∙ ap suc (book .many);
+            recorded = recorded-more (E .image) (r .modules) k old-recorded (rw (registerMatches .many, image-new C m T) rec);
+            many = length-more (r .modules) k ∙ ap suc (registerMatches .many);
             crs = old-crs;
           }
 
   -- the new one fixed, said of the cast
-  recast
-      : (level : ℕ) (N : Memory) {ψ : ℕ → Links} {u v : ℕ → ℕ} {L : Memory} → World (fixedCast (extended C m N) n level) ψ u v L
-      → World (extended C m (fixedAt m level N)) ψ u v L
-  recast level N w = record { stands = λ k l. rw (← same k (ℕ-discrete k n)) (w .stands k l) }
+  modules-again
+      : (level : ℕ) (N : Memory) {ψ : ℕ → Links} {u v : ℕ → ℕ} {L : Memory} → AllModulesShow (fixedCast (extended C m N) n level) ψ u v L
+      → AllModulesShow (extended C m (fixedAt m level N)) ψ u v L
+  modules-again level N w = record { stands = λ k l. rw (← same k (ℕ-discrete k n)) (w .stands k l) }
     where
-      E : Cast
+      E : Modules
       E = extended C m N
 
       same : (k : ℕ) → Dec (k ≡ n) → fixedCast E n level .rest k ≡ extended C m (fixedAt m level N) .rest k
@@ -158,22 +159,22 @@ module _ (C : Cast) (m : Image) (laid : WellLaid m) (low : Low (Area m))
           ∙ put-other (C .rest) n N k o
           ∙ sym (put-other (C .rest) n (fixedAt m level N) k o)
 
-module _ (C : Cast) (l : Lent) (auto : Bool) (level : ℕ) (f : ℕ → ℕ) where
+module _ (C : Modules) (l : LoadArguments) (auto : Bool) (level : ℕ) (f : ℕ → ℕ) where
   abbrev m : Image
-  m = record { coming = loaded l auto level; file = f }
+  m = record { loadCall = loaded l auto level; file = f }
 
   abbrev images : ℕ → Image
   images = put (C .image) (C .number) m
 
   -- a load leaves all at rest, if it is not refused
   pub loads
-      : (laid : WellLaid m) (low : Low (Area m)) → ((o : ℕ) → o < l .size → f o < 256) → l .«data_at» < 2 ^ 32 → l .«bss_at» < 2 ^ 32
+      : (laid : WellLaid m) (low : Low (Area m)) → ((o : ℕ) → o < l .size → f o < 256) → l .«data_segment» < 2 ^ 32 → l .«bss_segment» < 2 ^ 32
       → ((k q : ℕ) → k < C .number → Area (C .image k) q → Area m q → ⊥) → l .base ≢ 0 → level ≢ 2 → level ≢ 3
-      → Once (suc (C .number)) images → Names (suc (C .number)) images → {φ : ℕ → Links} {x y : ℕ → ℕ} {B : Memory} → Scene C φ x y B → (r : Register)
-      → Book C r → Fresh m B → (recordRoom nameRoom : ℕ)
-      → Does (Reach C m) (calls.load l true level recordRoom nameRoom r) (Answered C l m level B) B
-  unfolding calls.load Answered restOf
-  loads laid low bytes data-low bss-low off nonzero c d once names {φ} {x} {y} {B} scene r book fresh recordRoom nameRoom =
+      → Once (suc (C .number)) images → DistinctNames (suc (C .number)) images → {φ : ℕ → Links} {x y : ℕ → ℕ} {B : Memory} → LinkedState C φ x y B → (r : Register)
+      → RegisterMatches C r → AsInFile m B → (recordRoom nameRoom : ℕ)
+      → Does (Reach C m) (calls.load l true level recordRoom nameRoom r) (LoadAnswered C l m level B) B
+  unfolding calls.load LoadAnswered restOf
+  loads laid low bytes data-low bss-low off nonzero c d once names {φ} {x} {y} {B} linkedState r registerMatches fresh recordRoom nameRoom =
       brings S Q m laid low bytes inside recordRoom nameRoom r true (linked r l true level) (rebase l)
       (rebased l auto level f laid low bytes data-low bss-low fresh) refuses after
     where
@@ -181,7 +182,7 @@ module _ (C : Cast) (l : Lent) (auto : Bool) (level : ℕ) (f : ℕ → ℕ) whe
       S = Reach C m
 
       Q : Answer → Memory → Type 0
-      Q = Answered C l m level B
+      Q = LoadAnswered C l m level B
 
       inside : (q : ℕ) → Area m q → S q
       inside q s = (C .number, omega arith, rw (put-same (C .image) (C .number) m) s)
@@ -192,10 +193,10 @@ module _ (C : Cast) (l : Lent) (auto : Bool) (level : ℕ) (f : ℕ → ℕ) whe
 
       came
           : (N : Memory) → Brought m (rebase l) B N → (k : Module) → Recorded m k → (missing : List (List ℕ)) (L : Memory)
-          (ψ : ℕ → Links) (u v : ℕ → ℕ) → World (fixedCast (extended C m N) (C .number) level) ψ u v L
-          → Listed (baseIn (extended C m N)) (suc (C .number)) u v
-          → ((j : ℕ) → j < suc (C .number) → Final (suc (C .number)) images (images j) (ψ j))
-          → Came C l m level B (missingNow (appended r k) missing) L
+          (ψ : ℕ → Links) (u v : ℕ → ℕ) → AllModulesShow (fixedCast (extended C m N) (C .number) level) ψ u v L
+          → ListWords (baseIn (extended C m N)) (suc (C .number)) u v
+          → ((j : ℕ) → j < suc (C .number) → LinksResolved (suc (C .number)) images (images j) (ψ j))
+          → LoadSucceeded C l m level B (missingNow (appended r k) missing) L
       came N g k rec missing L ψ u v w h rest =
           let T = fixedAt m level N in
           record {
@@ -205,16 +206,16 @@ module _ (C : Cast) (l : Lent) (auto : Bool) (level : ℕ) (f : ℕ → ℕ) whe
                   links = ψ;
                   next = u;
                   previous = v;
-                  scene =
+                  linkedState =
                       record {
-                        sound = more-sound C m T (scene .sound) laid low (fixed-view m laid low level c d (g .arrived .view)) off;
+                        sound = more-sound C m T (linkedState .sound) laid low (fixed-view m laid low level c d (g .loadedModules .view)) off;
                         some = omega arith;
-                        nonzero = new-nonzero C m laid low off scene T nonzero;
-                        world = recast C m laid low off scene level N w;
+                        nonzero = new-nonzero C m laid low off linkedState T nonzero;
+                        modulesShow = modules-again C m laid low off linkedState level N w;
                         listed = h;
                         links = rest;
                       };
-                  book = book-new C m laid low off scene T r book k rec missing;
+                  registerMatches = book-new C m laid low off linkedState T r registerMatches k rec missing;
                 };
             bytes = ap (fixedAt m level) (g .bytes);
             alike = λ D a. fixed-agree m laid low level c d N (brought (rebase l) (l .base) D) (g .alike D a);
@@ -225,14 +226,14 @@ module _ (C : Cast) (l : Lent) (auto : Bool) (level : ℕ) (f : ℕ → ℕ) whe
       joins N g k rec false = does-ret S tt
       joins N g k rec true =
           let new = image-new C m N in
-          links-in (extended C m N) (more-sound C m N (scene .sound) laid low (g .arrived .view) off)
-          (new-nonzero C m laid low off scene N nonzero) (C .number) refl (scene .some) (rw new refl) once names r
-          (old-recorded C m laid low off scene N r book) (book .many) (old-crs C m laid low off scene N r book) k (rw new rec) l (rw new refl)
+          links-in (extended C m N) (more-sound C m N (linkedState .sound) laid low (g .loadedModules .view) off)
+          (new-nonzero C m laid low off linkedState N nonzero) (C .number) refl (linkedState .some) (rw new refl) once names r
+          (old-recorded C m laid low off linkedState N r registerMatches) (registerMatches .many) (old-crs C m laid low off linkedState N r registerMatches) k (rw new rec) l (rw new refl)
           (rw new refl) level c d {Q = Q} (λ fixed missing L ψ u v w h rest. came N g k rec missing L ψ u v w h rest)
-          (put-same φ (C .number) (λ _. none)) (final-old C m laid low off scene N (λ _. none)) (world-new C m laid low off scene N (g .arrived))
-          (listed-old C m laid low off scene N (word f nextCro) (word f previousCro))
+          (put-same φ (C .number) (λ _. none)) (resolved-old C m laid low off linkedState N (λ _. none)) (modules-show-new C m laid low off linkedState N (g .loadedModules))
+          (listed-old C m laid low off linkedState N (word f nextCro) (word f previousCro))
 
       after : (N : Memory) → Brought m (rebase l) B N → Does S (recorded recordRoom nameRoom r (l .base) (l .size) true (linked r l true level)) Q N
       after N g =
-          does-then S (readModule (l .base) (l .size) true) _ (does-wider (Area m) S inside (records m laid low (g .arrived .view) (l .size)))
+          does-then S (readModule (l .base) (l .size) true) _ (does-wider (Area m) S inside (records m laid low (g .loadedModules .view) (l .size)))
           (λ k M h. rw (h .0 .2) (joins N g k (h .0 .0) (fits recordRoom nameRoom r k)))

@@ -13,23 +13,23 @@ use Rattle.linker_spec.specs.Resets.{resetImporters}
 use Rattle.linker_spec.specs.Unrebase.{unrebase}
 use Rattle.linker_spec.specs.Calls as calls
 use Rattle.linker_spec.specs.Calls.{Answer, Done, unlisted, leave, unload}
-use Rattle.history.specs.Arrival.{Area}
+use Rattle.history.specs.LoadedModule.{Area}
 use Rattle.history.specs.Imports.{Import, Exports}
 use Rattle.history.specs.Steps.Wp.{Memory, Does, does-mono, does-ret, does-then, does-wider}
-use Rattle.history.specs.Steps.Shows.{shows-view}
+use Rattle.history.specs.Steps.ModuleBytes.{shows-view}
 use Rattle.history.specs.Steps.Links.{Links}
-use Rattle.history.specs.Steps.World.{Cast, Sound, World, All, base}
-use Rattle.history.specs.Steps.Listing.{Listed}
+use Rattle.history.specs.Steps.AllModulesShow.{Modules, Sound, AllModulesShow, All, base}
+use Rattle.history.specs.Steps.Listing.{ListWords}
 use Rattle.history.specs.Steps.Leaving.{skip, skip-low, skip-not, skip-below, distinct, unregisters}
-use Rattle.history.specs.Steps.Final.{dropped}
+use Rattle.history.specs.Steps.LinksResolved.{dropped}
 use Rattle.history.specs.Steps.ByBase.{finds}
-use Rattle.history.specs.Steps.Reaching.{resets-world}
+use Rattle.history.specs.Steps.Reaching.{resets-modules-show}
 use Rattle.history.specs.Rebase.Unrebased.{unrebases}
 use Rattle.history.specs.Steps.Once.{Unlike, once}
-use Rattle.history.specs.Calls.Scene.{AtRest}
-use Rattle.history.specs.Calls.Gone.{fewer, fewer-sound, fewer-world, recorded-without, length-without}
+use Rattle.history.specs.Calls.LinkedState.{AtRest}
+use Rattle.history.specs.Calls.Gone.{fewer, fewer-sound, fewer-modules-show, recorded-without, length-without}
 
-module _ (C : Cast) (sound : Sound C) (unlike : Unlike C) where
+module _ (C : Modules) (sound : Sound C) (unlike : Unlike C) where
   abbrev S : ℕ → Type 0
   S = All C sound
 
@@ -37,14 +37,14 @@ module _ (C : Cast) (sound : Sound C) (unlike : Unlike C) where
   b = base C sound
 
   module _ (d : ℕ) (above : 0 < d) (below : d < C .number) where
-    abbrev Left : (ℕ → Links) → Memory → Type 0
-    Left φ N =
-        (u : ℕ → ℕ) × (t : ℕ → ℕ) × World (fewer C d) (λ k. φ (skip d k)) u t N × Listed (λ k. b (skip d k)) (pred (C .number)) u t
+    abbrev OthersShow : (ℕ → Links) → Memory → Type 0
+    OthersShow φ N =
+        (u : ℕ → ℕ) × (t : ℕ → ℕ) × AllModulesShow (fewer C d) (λ k. φ (skip d k)) u t N × ListWords (λ k. b (skip d k)) (pred (C .number)) u t
 
     -- number d leaves its list and gets its offsets back
     pub goes
-        : {A : Type 0} (a : A) (crs : Crs) → crs ≡ Known (b 0) → {φ : ℕ → Links} {x y : ℕ → ℕ} {M : Memory} → World C φ x y M
-        → Listed b (C .number) x y → Does S (unlisted crs (b d) >> (unrebase (b d) >> ret a)) (λ c N. (c ≡ a) × Left φ N) M
+        : {A : Type 0} (a : A) (crs : Crs) → crs ≡ Known (b 0) → {φ : ℕ → Links} {x y : ℕ → ℕ} {M : Memory} → AllModulesShow C φ x y M
+        → ListWords b (C .number) x y → Does S (unlisted crs (b d) >> (unrebase (b d) >> ret a)) (λ c N. (c ≡ a) × OthersShow φ N) M
     unfolding unlisted
     goes a crs e {φ} {x} {y} w h =
         rw e
@@ -55,51 +55,51 @@ module _ (C : Cast) (sound : Sound C) (unlike : Unlike C) where
         (unrebases (C .image d) (sound .laid d below) (sound .low d below)
         (shows-view (C .image d) (sound .laid d below) (sound .view d below) (g .2 .stands d below .shows))))
         (λ _ L t.
-        does-ret S (refl, ((λ k. g .0 (skip d k)), (λ k. g .1 (skip d k)), fewer-world C sound d below (g .2) (t .1), g .3)))))
+        does-ret S (refl, ((λ k. g .0 (skip d k)), (λ k. g .1 (skip d k)), fewer-modules-show C sound d below (g .2) (t .1), g .3)))))
 
     once-of
         : (l : ℕ) → l < C .number → (i : Import) (j k p q : ℕ) → j < C .number → k < C .number → Exports (C .image j) (C .image l) i p
         → Exports (C .image k) (C .image l) i q → j ≡ k
     once-of l g = once (C .image l) (sound .laid l g) (C .number) (C .image) (unlike .names) (unlike .exports)
 
-    abbrev Gone : Register → Answer → Memory → Type 0
-    Gone r a N = (a ≡ Done 1 (removed r d)) × AtRest (fewer C d) (removed r d) N
+    abbrev AfterUnload : Register → Answer → Memory → Type 0
+    AfterUnload r a N = (a ≡ Done 1 (removed r d)) × AtRest (fewer C d) (removed r d) N
 
-    pub unload-does : (r : Register) {M : Memory} → AtRest C r M → Does S (unload (b d) r) (Gone r) M
+    pub unload-does : (r : Register) {M : Memory} → AtRest C r M → Does S (unload (b d) r) (AfterUnload r) M
     unfolding unload leave removed
     unload-does r {M} s =
-        let some : d < length (r .modules) = rw (s .book .many) below in
-        let fewer-many : length (without (r .modules) d) ≡ pred (C .number) = length-without (r .modules) d some ∙ ap pred (s .book .many) in
-        let recs = recorded-without (C .image) (r .modules) d (s .book .recorded) in
+        let some : d < length (r .modules) = rw (s .registerMatches .many) below in
+        let fewer-many : length (without (r .modules) d) ≡ pred (C .number) = length-without (r .modules) d some ∙ ap pred (s .registerMatches .many) in
+        let recs = recorded-without (C .image) (r .modules) d (s .registerMatches .recorded) in
         let f =
         finds (C .image) (r .modules) d 0 (b d) some refl
-        (λ j l. distinct C sound (unlike .nonzero) j d (omega arith) below (λ e. absurd (omega (arith, e)))) (s .book .recorded) in
+        (λ j l. distinct C sound (unlike .nonzero) j d (omega arith) below (λ e. absurd (omega (arith, e)))) (s .registerMatches .recorded) in
         let z : 0 + d ≡ d = omega arith in
         rw (f .2, z)
         (does-then S (resetImporters (f .0) (without (r .modules) d)) _
-        (resets-world C sound (C .image d) (f .0) (f .1) d (without (r .modules) d) below fewer-many recs (s .scene .world))
+        (resets-modules-show C sound (C .image d) (f .0) (f .1) d (without (r .modules) d) below fewer-many recs (s .linkedState .modulesShow))
         (λ _ N g.
-        does-mono S (goes (Done 1 (removed r d)) (r .crs) (s .book .crs) (g .1) (s .scene .listed))
+        does-mono S (goes (Done 1 (removed r d)) (r .crs) (s .registerMatches .crs) (g .1) (s .linkedState .listed))
         (λ a L t. (
           t .0,
           record {
             links = λ k. g .0 (skip d k);
             next = t .1 .0;
             previous = t .1 .1;
-            scene =
+            linkedState =
                 record {
                   sound = fewer-sound C sound d below;
                   some = let z : 0 < pred (C .number) = omega arith in z;
                   nonzero = λ k l. unlike .nonzero (skip d k) (skip-below (C .number) d k below l);
-                  world = t .1 .2;
+                  modulesShow = t .1 .2;
                   listed = t .1 .3;
                   links =
                       λ k l.
                       let i = skip-below (C .number) d k below l in
                       dropped (C .number) d below (C .image) (C .image (skip d k)) (sound .laid (skip d k) i) (once-of (skip d k) i) (unlike .names)
-                      (s .scene .links (skip d k) i) (g .2 (skip d k) i (skip-not d k));
+                      (s .linkedState .links (skip d k) i) (g .2 (skip d k) i (skip-not d k));
                 };
-            book =
-                record { recorded = recs; many = fewer-many; crs = s .book .crs ∙ ap (λ k. Known (b k)) (sym (skip-low d 0 above)) };
+            registerMatches =
+                record { recorded = recs; many = fewer-many; crs = s .registerMatches .crs ∙ ap (λ k. Known (b k)) (sym (skip-low d 0 above)) };
           },
         ))))

@@ -8,7 +8,7 @@ use Rattle.window.specs.Memory.{if_then_else_}
 use Rattle.register.specs.Module.{Module}
 use Rattle.register.specs.Change.{without}
 use Rattle.register.specs.Read.Read.{lookupIn, exportOf}
-use Rattle.linker_spec.specs.Calls.{Standing, unknown, stands, firstWithBase}
+use Rattle.linker_spec.specs.Calls.{FirstWithBase, unknown, stands, firstWithBase}
 use Rattle.history.specs.Outcomes.{SameModule, SameModules}
 
 -- what holds of the branches of two tests holds of what they choose, if the tests agree
@@ -58,7 +58,7 @@ lookup-same [] (n ∷ ns) e name = absurd e
 lookup-same (m ∷ ms) [] e name = absurd e
 
 -- the first with a base: none in both, or modules of one number
-pub data BothFind : Standing → Standing → Type 0 where
+pub data BothFind : FirstWithBase → FirstWithBase → Type 0 where
   neither : BothFind unknown unknown
   both : (m n : Module) (k : ℕ) → SameModule m n → BothFind (stands m k) (stands n k)
 

@@ -10,11 +10,11 @@ use Rattle.window.specs.Access.{Prog, ret, _>>=_, run, run-bind}
 use Rattle.register.specs.Module.{Module, Register}
 use Rattle.register.specs.Change.{appended, removed, withCrs}
 use Rattle.register.specs.Buffers.{encodeMissing}
-use Rattle.linker_spec.specs.declared.rebase.Lent.{Lent}
+use Rattle.linker_spec.specs.declared.rebase.LoadArguments.{LoadArguments}
 use Rattle.linker_spec.specs.declared.rebase.Rebased.{Rebased}
 use Rattle.linker_spec.specs.Imports.{applyImportNamedSymbols}
-use Rattle.linker_spec.specs.Calls.{Answer, NotACro, BadSegment, NoRoom, Kept, Done, number, value, enter, initialized, initialize, missingNow, linked, load, Standing, leave, unload}
-use Rattle.linker_spec.specs.Outcome.{Bytes, Outcome, refused, registerAfter, settle, outcome, initializeOutcome, loadOutcome, unloadOutcome}
+use Rattle.linker_spec.specs.Calls.{Answer, NotACro, BadSegment, NoRoom, NotLoaded, Done, number, value, addRecord, initialized, initialize, missingNow, linked, load, FirstWithBase, leave, unload}
+use Rattle.linker_spec.specs.Outcome.{Buffers, Outcome, refused, registerAfter, outcomeOf, callOutcome, initializeOutcome, loadOutcome, unloadOutcome}
 use Rattle.linker_spec.specs.Refusals.{lentRegister, windowed}
 use Rattle.history.specs.Outcomes.{SameModules, SameEncoded}
 use Rattle.history.specs.Order.Modules.{choose, same-with, same-without, BothFind, neither, both, find-same}
@@ -28,10 +28,10 @@ pub record SameEffect (o p : Outcome) : Type 0 where
   pub window : o .left .window ≡ p .left .window
   pub missing : o .left .missing ≡ p .left .missing
 
-module _ (b c : Bytes) (e : SameEncoded b c) (at : ℕ) where
+module _ (b c : Buffers) (e : SameEncoded b c) (at : ℕ) where
   -- programs with the same effect on any window, one over each register
   abbrev Like : Prog Answer → Prog Answer → Type 0
-  Like p q = (w : List ℕ) → SameEffect (settle b (run at p w)) (settle c (run at q w))
+  Like p q = (w : List ℕ) → SameEffect (outcomeOf b (run at p w)) (outcomeOf c (run at q w))
 
   -- after one and the same program, if what follows is alike whatever that gave
   like-after : {A : Type 0} (p q : Prog A) (f g : A → Prog Answer) → p ≡ q → ((a : A) → Like (f a) (g a)) → Like (p >>= f) (q >>= g)
@@ -43,7 +43,7 @@ module _ (b c : Bytes) (e : SameEncoded b c) (at : ℕ) where
 
   -- a done call's register shows only its missing names
   like-done : (v : ℕ) (r s : Register) → r .missing ≡ s .missing → Like (ret (Done v r)) (ret (Done v s))
-  unfolding run settle registerAfter encodeMissing number value
+  unfolding run outcomeOf registerAfter encodeMissing number value
   like-done v r s m w = record { number = refl; value = refl; window = refl; missing = rw m }
 
   abbrev r : Register
@@ -55,8 +55,8 @@ module _ (b c : Bytes) (e : SameEncoded b c) (at : ℕ) where
   -- a record is read from the window alone, and fits into both buffers or neither
   like-enter
       : (base size : ℕ) (auto : Bool) (f g : Module → Prog Answer) → ((m : Module) → Like (f m) (g m)) → (x : Rebased)
-      → Like (enter (length (b .records)) (length (b .names)) r base size auto f x) (enter (length (c .records)) (length (c .names)) s base size auto g x)
-  unfolding enter run settle registerAfter number value
+      → Like (addRecord (length (b .records)) (length (b .names)) r base size auto f x) (addRecord (length (c .records)) (length (c .names)) s base size auto g x)
+  unfolding addRecord run outcomeOf registerAfter number value
   like-enter base size auto f g h Rebased.NotACro = stays NotACro
   like-enter base size auto f g h Rebased.BadSegment = stays BadSegment
   like-enter base size auto f g h Rebased.Done =
@@ -84,7 +84,7 @@ module _ (b c : Bytes) (e : SameEncoded b c) (at : ℕ) where
       ∙ ap (applyImportNamedSymbols (appended s m .modules) base) (e .registers .missing)
 
   like-load
-      : (l : Lent) (auto : Bool) (level : ℕ)
+      : (l : LoadArguments) (auto : Bool) (level : ℕ)
       → Like (load l auto level (length (b .records)) (length (b .names)) r) (load l auto level (length (c .records)) (length (c .names)) s)
   unfolding load linked missingNow
   like-load l auto level =
@@ -97,9 +97,9 @@ module _ (b c : Bytes) (e : SameEncoded b c) (at : ℕ) where
       (λ _. like-after _ _ _ _ refl (λ fixed. like-done fixed _ _ refl)))))))
 
   -- the module that goes is the same but for that order
-  like-leave : (base : ℕ) {x y : Standing} → BothFind x y → Like (leave r base x) (leave s base y)
-  unfolding leave removed run settle registerAfter number value
-  like-leave base neither = stays Kept
+  like-leave : (base : ℕ) {x y : FirstWithBase} → BothFind x y → Like (leave r base x) (leave s base y)
+  unfolding leave removed run outcomeOf registerAfter number value
+  like-leave base neither = stays NotLoaded
   like-leave base (both m n k f) =
       like-after _ _ _ _ (importers-same m n _ _ f (same-without (r .modules) (s .modules) k (e .registers .modules)))
       (λ _. like-after _ _ _ _ (rw (e .registers .crs))
@@ -111,15 +111,15 @@ module _ (b c : Bytes) (e : SameEncoded b c) (at : ℕ) where
 
   -- on the same window
   same-settled
-      : (p q : Prog Answer) → b .window ≡ c .window → Like p q → SameEffect (settle b (run at p (b .window))) (settle c (run at q (c .window)))
-  same-settled p q w h = subst (λ v. SameEffect (settle b (run at p (b .window))) (settle c (run at q v))) w (h (b .window))
+      : (p q : Prog Answer) → b .window ≡ c .window → Like p q → SameEffect (outcomeOf b (run at p (b .window))) (outcomeOf c (run at q (c .window)))
+  same-settled p q w h = subst (λ v. SameEffect (outcomeOf b (run at p (b .window))) (outcomeOf c (run at q v))) w (h (b .window))
 
   -- a call whose programs are alike: the tests before it are passed or failed alike
   same-outcome
       : (call : ℕ → ℕ → Register → Prog Answer) → b .window ≡ c .window
       → Like (call (length (b .records)) (length (b .names)) r) (call (length (c .records)) (length (c .names)) s)
-      → SameEffect (outcome call at b) (outcome call at c)
-  unfolding outcome
+      → SameEffect (callOutcome call at b) (callOutcome call at c)
+  unfolding callOutcome
   same-outcome call w h =
       rw (e .valid-both .0, e .valid-both .1)
       (choose SameEffect (ap (goodWindow at) w) (same-settled _ _ w h)
@@ -128,20 +128,20 @@ module _ (b c : Bytes) (e : SameEncoded b c) (at : ℕ) where
 -- the three calls
 
 pub initialize-order
-    : (base size at : ℕ) (b c : Bytes) → SameEncoded b c → b .window ≡ c .window
+    : (base size at : ℕ) (b c : Buffers) → SameEncoded b c → b .window ≡ c .window
     → SameEffect (initializeOutcome base size at b) (initializeOutcome base size at c)
 unfolding initializeOutcome
 initialize-order base size at b c e w = same-outcome b c e at (initialize base size) w (like-initialize b c e at base size)
 
 pub load-order
-    : (l : Lent) (auto level at : ℕ) (b c : Bytes) → SameEncoded b c → b .window ≡ c .window
+    : (l : LoadArguments) (auto level at : ℕ) (b c : Buffers) → SameEncoded b c → b .window ≡ c .window
     → SameEffect (loadOutcome l auto level at b) (loadOutcome l auto level at c)
 unfolding loadOutcome
 load-order l auto level at b c e w =
     same-outcome b c e at (load l (not (eqb auto 0)) level) w (like-load b c e at l (not (eqb auto 0)) level)
 
 pub unload-order
-    : (base at : ℕ) (b c : Bytes) → SameEncoded b c → b .window ≡ c .window
+    : (base at : ℕ) (b c : Buffers) → SameEncoded b c → b .window ≡ c .window
     → SameEffect (unloadOutcome base at b) (unloadOutcome base at c)
 unfolding unloadOutcome
 unload-order base at b c e w = same-outcome b c e at (λ records names. unload base) w (like-unload b c e at base)

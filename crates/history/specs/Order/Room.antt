@@ -16,7 +16,7 @@ use Rattle.register.specs.Change.{appended}
 use Rattle.register.specs.CheckIs.{register-parts, size-words, word₀, word₃, word₄}
 use Rattle.register.specs.Buffers.{names-are}
 use Rattle.linker_spec.specs.Calls.{fits}
-use Rattle.linker_spec.specs.Outcome.{Bytes}
+use Rattle.linker_spec.specs.Outcome.{Buffers}
 use Rattle.linker_spec.specs.Refusals.{lentRegister}
 use Rattle.linker_spec.specs.Valid.{Valid}
 use Rattle.linker_spec.specs.Fit.{words-of, names-of}
@@ -32,17 +32,17 @@ settled-header ws =
     go true = take-set-lt 8 ws 3 32 (omega arith)
     go false = refl
 
-abbrev words : Bytes → List ℕ
+abbrev words : Buffers → List ℕ
 words x = settled (wordsIn (x .records))
 
 parts
-    : (x : Bytes) → Valid x
+    : (x : Buffers) → Valid x
     → (proper (lentRegister x) ≡ true) × (encodes (x .records) (x .names) (x .missing) (lentRegister x) ≡ true)
 parts x v = register-parts (x .records) (x .names) (x .missing) v
 
 -- what the header counts: modules, words, name bytes
 counted
-    : (x : Bytes) → Valid x
+    : (x : Buffers) → Valid x
     → (getD (words x) 0 0 ≡ length (lentRegister x .modules))
     × (getD (words x) 3 0 ≡ 4 * length (encodeWords (lentRegister x)))
     × (getD (words x) 4 0 ≡ length (recordNames (lentRegister x .modules)))
@@ -55,7 +55,7 @@ counted x v =
       word₄ (x .records) (x .names) (x .missing) r (p .0) (p .1),
     )
 
-module _ (b c : Bytes) (e : SameEncoded b c) where
+module _ (b c : Buffers) (e : SameEncoded b c) where
   -- the header's bytes are the same, so its words are
   header-same : take 8 (words b) ≡ take 8 (words c)
   header-same =

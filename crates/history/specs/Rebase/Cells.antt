@@ -15,17 +15,17 @@ use Rattle.window.specs.Loop.{loop}
 use Rattle.window.specs.Within.{In, Four}
 use Rattle.window.specs.Mirror.{word, word-same, put4, put4-on, put4-off}
 use Rattle.linker_spec.specs.Rebase.{moveWord, movePointers}
-use Rattle.history.specs.Arrival.{movedOffset}
-use Rattle.history.specs.Steps.Wp.{Memory, Does, Kept, does-mono, does-ret, does-then, does-read, does-loop, ends-put32, reads-get32}
+use Rattle.history.specs.LoadedModule.{movedOffset}
+use Rattle.history.specs.Steps.Wp.{Memory, Does, SameOutside, does-mono, does-ret, does-then, does-read, does-loop, ends-put32, reads-get32}
 
 -- turn i writes in the cell C i, of whose bytes Q i speaks; M is where the loop starts
 module _ (C : ℕ → ℕ → Type 0) (Q : ℕ → Memory → Type 0) (M : Memory) where
   -- the first j turns are made
-  pub record Turned (j : ℕ) (N : Memory) : Type 0 where
+  pub record TurnsMade (j : ℕ) (N : Memory) : Type 0 where
     pub done : (i : ℕ) → i < j → Q i N
-    pub kept : Kept (λ q. (i : ℕ) × (i < j) × C i q) M N
+    pub kept : SameOutside (λ q. (i : ℕ) × (i < j) × C i q) M N
 
-  pub none-turned : Turned 0 M
+  pub none-turned : TurnsMade 0 M
   none-turned = record { done = λ i l. absurd (omega arith); kept = λ q o. refl }
 
   -- Q i is a matter of the bytes of C i
@@ -34,7 +34,7 @@ module _ (C : ℕ → ℕ → Type 0) (Q : ℕ → Memory → Type 0) (M : Memor
 
   pub turned-more
       : (j : ℕ) (N L : Memory) → ((i : ℕ) → i < j → (q : ℕ) → C i q → C j q → ⊥) → ((i : ℕ) → i < j → Local i)
-      → Turned j N → Q j L → Kept (C j) N L → Turned (suc j) L
+      → TurnsMade j N → Q j L → SameOutside (C j) N L → TurnsMade (suc j) L
   turned-more j N L apart local t h k =
       record {
         done = λ i l. one i l (ℕ-discrete i j);
@@ -48,12 +48,12 @@ module _ (C : ℕ → ℕ → Type 0) (Q : ℕ → Memory → Type 0) (M : Memor
   pub cells
       : (S : ℕ → Type 0) {A : Type 0} (body : ℕ → A → Prog A) (n : ℕ) (a : A)
       → ((i j : ℕ) → i < j → j < n → (q : ℕ) → C i q → C j q → ⊥) → ((i : ℕ) → i < n → Local i)
-      → ((j : ℕ) (b : A) (N : Memory) → j < n → Turned j N → Does S (body j b) (λ _ L. Q j L × Kept (C j) N L) N)
-      → Does S (loop body 0 n a) (λ _ N. Turned n N) M
+      → ((j : ℕ) (b : A) (N : Memory) → j < n → TurnsMade j N → Does S (body j b) (λ _ L. Q j L × SameOutside (C j) N L) N)
+      → Does S (loop body 0 n a) (λ _ N. TurnsMade n N) M
   cells S body n a apart local turn =
       let z : 0 + n ≡ n = omega arith in
       rw z at
-      (does-loop S body (λ j b N. Turned j N) 0 n a M
+      (does-loop S body (λ j b N. TurnsMade j N) 0 n a M
       (λ j b N z l t.
       does-mono S (turn j b N (omega arith) t)
       (λ c L h. turned-more j N L (λ i g. apart i j g (omega arith)) (λ i g. local i (omega arith)) t (h .0) (h .1)))
@@ -64,43 +64,43 @@ pub put4-word : (M : Memory) (p v : ℕ) → v < 2 ^ 32 → word (put4 M p v) p 
 unfolding word
 put4-word M p v l = join-at (put4 M p v) (λ k. byteOf k v) p (put4-on M p v) ∙ join-bytes v ∙ omega arith
 
-pub word-off : (M N : Memory) (X : ℕ → Type 0) (p : ℕ) → Kept X M N → ((q : ℕ) → In p 4 q → X q → ⊥) → word N p ≡ word M p
+pub word-off : (M N : Memory) (X : ℕ → Type 0) (p : ℕ) → SameOutside X M N → ((q : ℕ) → In p 4 q → X q → ⊥) → word N p ≡ word M p
 word-off M N X p k o = word-same N M p (λ j l. k (p + j) (o (p + j) (omega arith, omega arith)))
 
 module _ (S : ℕ → Type 0) (base : ℕ) where
   pub moves-word
-      : (p : ℕ) {M : Memory} → Four S p → Does S (moveWord true base p) (λ _ N. (word N p ≡ movedOffset base (word M p)) × Kept (In p 4) M N) M
+      : (p : ℕ) {M : Memory} → Four S p → Does S (moveWord true base p) (λ _ N. (word N p ≡ movedOffset base (word M p)) × SameOutside (In p 4) M N) M
   unfolding moveWord movedOffset
   moves-word p {M} s = does-read S (get32 p) _ (word M p) (reads-get32 S p s refl) (go (ℕ-discrete (word M p) 0))
     where
       go
           : Dec (word M p ≡ 0)
           → Does S (if eqb (word M p) 0 then ret tt else put32 p (word M p ⊕ base))
-          (λ _ N. (word N p ≡ (if eqb (word M p) 0 then 0 else word M p ⊕ base)) × Kept (In p 4) M N) M
+          (λ _ N. (word N p ≡ (if eqb (word M p) 0 then 0 else word M p ⊕ base)) × SameOutside (In p 4) M N) M
       go (yes e) = rw (eq-eqb (word M p) 0 e) (does-ret S (e, λ q o. refl))
       go (no n) =
           rw (ne-eqb (word M p) 0 n)
           (ends-put32 S p (word M p ⊕ base) s (put4-word M p (word M p ⊕ base) (omega arith), λ q o. put4-off M p (word M p ⊕ base) q o))
 
 -- x is one of a list; its numbers go up by 4 or more
-unfoldable pub Among : ℕ → List ℕ → Type 0
-Among x [] = ⊥
-Among x (y ∷ ys) = (x ≡ y) ⊎ Among x ys
+unfoldable pub Member : ℕ → List ℕ → Type 0
+Member x [] = ⊥
+Member x (y ∷ ys) = (x ≡ y) ⊎ Member x ys
 
 unfoldable pub Spread : List ℕ → Type 0
 Spread [] = Unit {0}
-Spread (y ∷ ys) = ((x : ℕ) → Among x ys → y + 4 ≤ x) × Spread ys
+Spread (y ∷ ys) = ((x : ℕ) → Member x ys → y + 4 ≤ x) × Spread ys
 
 -- the words at these distances from e
 abbrev pub Columns : ℕ → List ℕ → ℕ → Type 0
-Columns e xs q = (x : ℕ) × Among x xs × In (e + x) 4 q
+Columns e xs q = (x : ℕ) × Member x xs × In (e + x) 4 q
 
 module _ (S : ℕ → Type 0) (base e : ℕ) where
   pub moves-columns
-      : (xs : List ℕ) (M : Memory) → Spread xs → ((x : ℕ) → Among x xs → Four S (e + x) × (e ⊕ x ≡ e + x))
+      : (xs : List ℕ) (M : Memory) → Spread xs → ((x : ℕ) → Member x xs → Four S (e + x) × (e ⊕ x ≡ e + x))
       → Does S (movePointers true base e xs)
-      (λ _ N. ((x : ℕ) → Among x xs → word N (e + x) ≡ movedOffset base (word M (e + x))) × Kept (Columns e xs) M N) M
-  unfolding movePointers Among Spread
+      (λ _ N. ((x : ℕ) → Member x xs → word N (e + x) ≡ movedOffset base (word M (e + x))) × SameOutside (Columns e xs) M N) M
+  unfolding movePointers Member Spread
   moves-columns [] M s f = does-ret S ((λ x a. absurd a), λ q o. refl)
   moves-columns (y ∷ ys) M s f =
       rw (f y (inl refl) .1)

@@ -14,12 +14,12 @@ use Rattle.layout.specs.Segments.{field, segmentEntry, segment}
 use Rattle.layout.specs.declared.segments.FoundSegment.the-variants.{Found}
 use Rattle.history.specs.Below.{AllBelow, below}
 use Rattle.history.specs.Image.{tables, segments, start, count, entry, fileSegment}
-use Rattle.history.specs.Arrival.{Image, baseOf, sizeOf, movedOffset, Area}
+use Rattle.history.specs.LoadedModule.{Image, baseOf, sizeOf, movedOffset, Area}
 use Rattle.history.specs.WellLaid.{table, tableNumber, WellLaid}
-use Rattle.history.specs.Steps.Wp.{Memory, Reads, reads-then, reads-ret, reads-get32}
+use Rattle.history.specs.Steps.Wp.{Memory, ReadsValue, reads-then, reads-ret, reads-get32}
 use Rattle.history.specs.Steps.Parts.{part-inside, entry-in-table}
 use Rattle.history.specs.Steps.Reading.{plain-sum, four-at, entry-at}
-use Rattle.history.specs.Rebase.Stage.{word-is, Stage, header-reads}
+use Rattle.history.specs.Rebase.PartlyRebased.{word-is, PartlyRebased, header-reads}
 
 -- a table's field is one of the 17 that move, and no table has empty entries
 abbrev FieldOf : ℕ → Type 0
@@ -58,18 +58,18 @@ module _ (m : Image) (laid : WellLaid m) (low : Low (Area m)) where
   F = m .file
 
   abbrev base : ℕ
-  base = baseOf (m .coming)
+  base = baseOf (m .loadCall)
 
   abbrev S : ℕ → Type 0
   S = Area m
 
   -- an entry lies in the image
-  pub entry-inside : (n i : ℕ) → n < 12 → i < count F (tableNumber n) → entry F (tableNumber n) i + tableNumber n .width ≤ sizeOf (m .coming)
+  pub entry-inside : (n i : ℕ) → n < 12 → i < count F (tableNumber n) → entry F (tableNumber n) i + tableNumber n .width ≤ sizeOf (m .loadCall)
   entry-inside n i l h =
       let w = field-of n l .1 in
       let e = part-inside m laid (table n) _ (entry-in-table F n i (tableNumber n .width - 1) l h (omega (arith, w))) in omega (arith, w, e)
 
-  module _ {ζ : ℕ → List ℕ} {M : Memory} (s : Stage m ζ M) where
+  module _ {ζ : ℕ → List ℕ} {M : Memory} (s : PartlyRebased m ζ M) where
     pub start-is : (n : ℕ) → n < 12 → word M (base + tableNumber n .field) ≡ movedOffset base (start F (tableNumber n))
     unfolding start
     start-is n l = let f = field-of n l .0 in rw (f .2) (s .fields (f .0) (f .1))
@@ -83,24 +83,24 @@ module _ (m : Image) (laid : WellLaid m) (low : Low (Area m)) where
         (λ k h.
         s .header-plain (0xb0 + 8 * f .0 + 4 + k) (omega (arith, f .1)) ((λ i. absurd (omega (arith, i))), λ j g i. absurd (omega (arith, i)))))
 
-    pub reads-start : (n : ℕ) → n < 12 → Reads S (field base (tableNumber n .field)) (movedOffset base (start F (tableNumber n))) M
+    pub reads-start : (n : ℕ) → n < 12 → ReadsValue S (field base (tableNumber n .field)) (movedOffset base (start F (tableNumber n))) M
     reads-start n l = let f = field-of n l .0 in header-reads m laid low (tableNumber n .field) (omega (arith, f .1, f .2)) (start-is n l)
 
-    pub reads-count : (n : ℕ) → n < 12 → Reads S (field base (tableNumber n .field + 4)) (count F (tableNumber n)) M
+    pub reads-count : (n : ℕ) → n < 12 → ReadsValue S (field base (tableNumber n .field + 4)) (count F (tableNumber n)) M
     reads-count n l = let f = field-of n l .0 in header-reads m laid low (tableNumber n .field + 4) (omega (arith, f .1, f .2)) (count-is n l)
 
     module _ (i : ℕ) (l : i < count F segments) (plain : (k : ℕ) → k < 12 → M (base + (entry F segments i + k)) ≡ F (entry F segments i + k)) where
-      inside : entry F segments i + 12 ≤ sizeOf (m .coming)
+      inside : entry F segments i + 12 ≤ sizeOf (m .loadCall)
       unfolding tables
       inside = entry-inside 0 i (lit< tt) l
 
-      reads-part : (x : ℕ) → x + 4 ≤ 12 → Reads S (get32 (base + (entry F segments i + x))) (word F (entry F segments i + x)) M
+      reads-part : (x : ℕ) → x + 4 ≤ 12 → ReadsValue S (get32 (base + (entry F segments i + x))) (word F (entry F segments i + x)) M
       reads-part x h =
           reads-get32 S _ (four-at m laid low (entry F segments i + x) (omega (arith, inside)))
           (word-is F M base (entry F segments i + x)
           (λ k g. let e : entry F segments i + x + k ≡ entry F segments i + (x + k) = omega arith in rw e (plain (x + k) (omega arith))))
 
-      reads-entry : Reads S (segmentEntry (base + entry F segments i)) (fileSegment F i) M
+      reads-entry : ReadsValue S (segmentEntry (base + entry F segments i)) (fileSegment F i) M
       unfolding segmentEntry fileSegment
       reads-entry =
           let t = plain-sum m laid low (entry F segments i + 11) (omega (arith, inside)) in
@@ -112,7 +112,7 @@ module _ (m : Image) (laid : WellLaid m) (low : Low (Area m)) where
           (reads-then S (get32 (base + (entry F segments i + 4))) _ _ (reads-part 4 (lit≤ tt))
           (reads-then S (get32 (base + (entry F segments i + 8))) _ _ (reads-part 8 (lit≤ tt)) (reads-ret S _))))
 
-      pub reads-file-segment : Reads S (segment base i) (Found (fileSegment F i)) M
+      pub reads-file-segment : ReadsValue S (segment base i) (Found (fileSegment F i)) M
       unfolding segment tables
       reads-file-segment =
           reads-then S (field base segmentNum) _ (count F segments) (reads-count 0 (lit< tt))

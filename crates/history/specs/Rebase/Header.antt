@@ -14,13 +14,13 @@ use Rattle.window.specs.Mirror.{word, word-same}
 use Rattle.layout.specs.Header.{firstRebased}
 use Rattle.linker_spec.specs.Rebase.{moveWord, moveHeader}
 use Rattle.history.specs.Image.{tables, segments, count, entry}
-use Rattle.history.specs.Arrival.{Image, baseOf, sizeOf, movedOffset, Area}
+use Rattle.history.specs.LoadedModule.{Image, baseOf, sizeOf, movedOffset, Area}
 use Rattle.history.specs.WellLaid.{Part, header, table, string, tableNumber, InPart, WellLaid}
-use Rattle.history.specs.Steps.Wp.{Memory, Does, Kept, does-mono, does-then}
+use Rattle.history.specs.Steps.Wp.{Memory, Does, SameOutside, does-mono, does-then}
 use Rattle.history.specs.Steps.Parts.{sort, part-inside, entry-in-table, apart}
 use Rattle.history.specs.Steps.Reading.{plain-sum, four-at}
-use Rattle.history.specs.Rebase.Cells.{Turned, cells, moves-word, word-off, Among}
-use Rattle.history.specs.Rebase.Stage.{word-is, Stage}
+use Rattle.history.specs.Rebase.Cells.{TurnsMade, cells, moves-word, word-off, Member}
+use Rattle.history.specs.Rebase.PartlyRebased.{word-is, PartlyRebased}
 
 -- nothing moved yet in any table
 abbrev pub unmoved : ℕ → List ℕ
@@ -28,21 +28,21 @@ unmoved n = []
 
 module _ (m : Image) where
   -- the image stands in memory as the file has it
-  abbrev pub Fresh : Memory → Type 0
-  Fresh B = (o : ℕ) → o < sizeOf (m .coming) → B (baseOf (m .coming) + o) ≡ m .file o
+  abbrev pub AsInFile : Memory → Type 0
+  AsInFile B = (o : ℕ) → o < sizeOf (m .loadCall) → B (baseOf (m .loadCall) + o) ≡ m .file o
 
   -- the segments' table is as the file has it
   abbrev pub FileRows : Memory → Type 0
   FileRows M =
       (i k : ℕ) → i < count (m .file) segments → k < 12
-      → M (baseOf (m .coming) + (entry (m .file) segments i + k)) ≡ m .file (entry (m .file) segments i + k)
+      → M (baseOf (m .loadCall) + (entry (m .file) segments i + k)) ≡ m .file (entry (m .file) segments i + k)
 
 module _ (m : Image) (laid : WellLaid m) (low : Low (Area m)) where
   abbrev F : ℕ → ℕ
   F = m .file
 
   abbrev base : ℕ
-  base = baseOf (m .coming)
+  base = baseOf (m .loadCall)
 
   abbrev S : ℕ → Type 0
   S = Area m
@@ -60,7 +60,7 @@ module _ (m : Image) (laid : WellLaid m) (low : Low (Area m)) where
 
   moves-fields
       : (M : Memory)
-      → Does S (loop (λ i _. moveWord true base (base ⊕ (firstRebased + 8 * i))) 0 17 tt) (λ _ N. Turned Field (FieldMoved M) M 17 N) M
+      → Does S (loop (λ i _. moveWord true base (base ⊕ (firstRebased + 8 * i))) 0 17 tt) (λ _ N. TurnsMade Field (FieldMoved M) M 17 N) M
   moves-fields M =
       cells Field (FieldMoved M) M S (λ i _. moveWord true base (base ⊕ (firstRebased + 8 * i))) 17 tt
       (λ i j l h q a b. absurd (omega (arith, a, b)))
@@ -76,9 +76,9 @@ module _ (m : Image) (laid : WellLaid m) (low : Low (Area m)) where
         g .1,
       ))))
 
-  module _ {B : Memory} (fresh : Fresh m B) where
+  module _ {B : Memory} (fresh : AsInFile m B) where
     header-left
-        : (M N : Memory) → Kept (In (base + 0x84) 4) B M → Turned Field (FieldMoved M) M 17 N → (o : ℕ) → o < sizeOf (m .coming)
+        : (M N : Memory) → SameOutside (In (base + 0x84) 4) B M → TurnsMade Field (FieldMoved M) M 17 N → (o : ℕ) → o < sizeOf (m .loadCall)
         → (In 0x84 4 o → ⊥) → ((i : ℕ) → i < 17 → In (0xb0 + 8 * i) 4 o → ⊥) → N (base + o) ≡ F o
     header-left M N k t o l n u =
         t .kept (base + o) (λ c. u (c .0) (c .1) (omega (arith, c .2), omega (arith, c .2)))
@@ -86,7 +86,7 @@ module _ (m : Image) (laid : WellLaid m) (low : Low (Area m)) where
         ∙ fresh o l
 
     past
-        : (M N : Memory) → Kept (In (base + 0x84) 4) B M → Turned Field (FieldMoved M) M 17 N → (r : Part) (o : ℕ) → header ≢ r → InPart F r o
+        : (M N : Memory) → SameOutside (In (base + 0x84) 4) B M → TurnsMade Field (FieldMoved M) M 17 N → (r : Part) (o : ℕ) → header ≢ r → InPart F r o
         → N (base + o) ≡ F o
     unfolding InPart
     past M N k t r o n h =
@@ -94,8 +94,8 @@ module _ (m : Image) (laid : WellLaid m) (low : Low (Area m)) where
         header-left M N k t o (part-inside m laid r o h) (λ i. absurd (omega (arith, i))) (λ j g i. absurd (omega (arith, g, i)))
 
     -- after it the image is at its first stage
-    pub header-does : Does S (moveHeader true base) (λ _ N. Stage m unmoved N × FileRows m N) B
-    unfolding moveHeader Among tables
+    pub header-does : Does S (moveHeader true base) (λ _ N. PartlyRebased m unmoved N × FileRows m N) B
+    unfolding moveHeader Member tables
     header-does =
         let h = in-header 0x84 (lit≤ tt) in
         rw (h .0)

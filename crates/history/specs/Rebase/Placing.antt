@@ -17,24 +17,24 @@ use Rattle.layout.specs.Segments.{field, setSegment, setSegmentEntry}
 use Rattle.layout.specs.declared.format.Segment.{Segment}
 use Rattle.layout.specs.declared.format.SegmentType.{SegmentType}
 use Rattle.layout.specs.declared.format.SegmentType.the-variants.{Code, RoData, Data, Bss}
-use Rattle.linker_spec.specs.declared.rebase.Lent.{Lent}
+use Rattle.linker_spec.specs.declared.rebase.LoadArguments.{LoadArguments}
 use Rattle.linker_spec.specs.declared.rebase.Placed.{Placed}
 use Rattle.linker_spec.specs.declared.rebase.Placed.the-variants.{Refused, Put}
 use Rattle.linker_spec.specs.Rebase.{at-offset, movedPlace, lentPlace, place}
 use Rattle.history.specs.Image.{tables, segments, start, count, entry}
-use Rattle.history.specs.Arrival.{Image, baseOf, movedOffset, loadedPlace, oldFor, Area}
+use Rattle.history.specs.LoadedModule.{Image, baseOf, movedOffset, loadedPlace, oldFor, Area}
 use Rattle.history.specs.WellLaid.{WellLaid}
-use Rattle.history.specs.Steps.Wp.{Memory, Does, Kept, does-read, does-put32, ends-put32}
+use Rattle.history.specs.Steps.Wp.{Memory, Does, SameOutside, does-read, does-put32, ends-put32}
 use Rattle.history.specs.Steps.Reading.{plain-sum, four-at, entry-at}
 use Rattle.history.specs.Rebase.Cells.{put4-word, word-off}
-use Rattle.history.specs.Rebase.Stage.{Stage}
+use Rattle.history.specs.Rebase.PartlyRebased.{PartlyRebased}
 use Rattle.history.specs.Rebase.Fields.{entry-inside, reads-start}
 
 -- three words written one after the other
 three-words
     : (M : Memory) (p a b c : ℕ) → a < 2 ^ 32 → b < 2 ^ 32 → c < 2 ^ 32
     → (word (put4 (put4 (put4 M p a) (p + 4) b) (p + 8) c) p ≡ a) × (word (put4 (put4 (put4 M p a) (p + 4) b) (p + 8) c) (p + 4) ≡ b)
-    × (word (put4 (put4 (put4 M p a) (p + 4) b) (p + 8) c) (p + 8) ≡ c) × Kept (In p 12) M (put4 (put4 (put4 M p a) (p + 4) b) (p + 8) c)
+    × (word (put4 (put4 (put4 M p a) (p + 4) b) (p + 8) c) (p + 8) ≡ c) × SameOutside (In p 12) M (put4 (put4 (put4 M p a) (p + 4) b) (p + 8) c)
 three-words M p a b c ha hb hc = (
   off M₂ (p + 8) c p (λ q i j. absurd (omega (arith, i, j)))
       ∙ off M₁ (p + 4) b p (λ q i j. absurd (omega (arith, i, j)))
@@ -57,11 +57,11 @@ three-words M p a b c ha hb hc = (
     off N x v y o = word-off N (put4 N x v) (In x 4) y (λ q n. put4-off N x v q n) o
 
 -- a segment is refused, or put where the image says
-abbrev pub Puts : Placed → Lent → Segment → SegmentType → ℕ → Type 0
+abbrev pub Puts : Placed → LoadArguments → Segment → SegmentType → ℕ → Type 0
 Puts x l s k old = (x ≡ Refused) ⊎ (x ≡ Put (at-offset s (loadedPlace l s k)) (oldFor s k (l .base) old))
 
 moved-cases
-    : (l : Lent) (s : Segment) (old : ℕ)
+    : (l : LoadArguments) (s : Segment) (old : ℕ)
     → (movedPlace l s old ≡ Refused) ⊎ (movedPlace l s old ≡ Put (at-offset s (movedOffset (l .base) (s .offset))) old)
 unfolding movedPlace movedOffset
 moved-cases l s old = go (ℕ-discrete (s .offset) 0)
@@ -80,27 +80,27 @@ moved-cases l s old = go (ℕ-discrete (s .offset) 0)
     go (yes e) = inr (rw (eq-eqb (s .offset) 0 e) (ap (λ x. Put (at-offset s x) old) e))
     go (no n) = rw (ne-eqb (s .offset) 0 n) (pick (ltb (l .base ⊕ l .size) (s .offset ⊕ l .base)) (Put (at-offset s (s .offset ⊕ l .base)) old))
 
-pub place-cases : (l : Lent) (s : Segment) (k : SegmentType) (old : ℕ) → Puts (place l s k old) l s k old
+pub place-cases : (l : LoadArguments) (s : Segment) (k : SegmentType) (old : ℕ) → Puts (place l s k old) l s k old
 unfolding place loadedPlace oldFor lentPlace
 place-cases l s Code old = moved-cases l s old
 place-cases l s RoData old = moved-cases l s old
-place-cases l s Data old = go (eqb (s .size) 0) (ltb (l .«data_size») (s .size))
+place-cases l s Data old = go (eqb (s .size) 0) (ltb (l .«data_segment_size») (s .size))
   where
     go
         : (c d : Bool)
-        → ((if c then movedPlace l s old else (if d then Refused else Put (at-offset s (l .«data_at»)) (s .offset ⊕ l .base))) ≡ Refused)
-        ⊎ ((if c then movedPlace l s old else (if d then Refused else Put (at-offset s (l .«data_at»)) (s .offset ⊕ l .base)))
-        ≡ Put (at-offset s (if c then movedOffset (l .base) (s .offset) else l .«data_at»)) (if c then old else s .offset ⊕ l .base))
+        → ((if c then movedPlace l s old else (if d then Refused else Put (at-offset s (l .«data_segment»)) (s .offset ⊕ l .base))) ≡ Refused)
+        ⊎ ((if c then movedPlace l s old else (if d then Refused else Put (at-offset s (l .«data_segment»)) (s .offset ⊕ l .base)))
+        ≡ Put (at-offset s (if c then movedOffset (l .base) (s .offset) else l .«data_segment»)) (if c then old else s .offset ⊕ l .base))
     go true d = moved-cases l s old
     go false true = inl refl
     go false false = inr refl
-place-cases l s Bss old = go (eqb (s .size) 0) (ltb (l .«bss_size») (s .size))
+place-cases l s Bss old = go (eqb (s .size) 0) (ltb (l .«bss_segment_size») (s .size))
   where
     go
         : (c d : Bool)
-        → ((if c then movedPlace l s old else (if d then Refused else Put (at-offset s (l .«bss_at»)) old)) ≡ Refused)
-        ⊎ ((if c then movedPlace l s old else (if d then Refused else Put (at-offset s (l .«bss_at»)) old))
-        ≡ Put (at-offset s (if c then movedOffset (l .base) (s .offset) else l .«bss_at»)) old)
+        → ((if c then movedPlace l s old else (if d then Refused else Put (at-offset s (l .«bss_segment»)) old)) ≡ Refused)
+        ⊎ ((if c then movedPlace l s old else (if d then Refused else Put (at-offset s (l .«bss_segment»)) old))
+        ≡ Put (at-offset s (if c then movedOffset (l .base) (s .offset) else l .«bss_segment»)) old)
     go true d = moved-cases l s old
     go false true = inl refl
     go false false = inr refl
@@ -119,18 +119,18 @@ moved-small base x = go (eqb x 0)
     go true = lit< tt
     go false = omega arith
 
-pub place-small : (l : Lent) (s : Segment) (k : SegmentType) → l .«data_at» < 2 ^ 32 → l .«bss_at» < 2 ^ 32 → loadedPlace l s k < 2 ^ 32
+pub place-small : (l : LoadArguments) (s : Segment) (k : SegmentType) → l .«data_segment» < 2 ^ 32 → l .«bss_segment» < 2 ^ 32 → loadedPlace l s k < 2 ^ 32
 unfolding loadedPlace
 place-small l s Code d b = moved-small (l .base) (s .offset)
 place-small l s RoData d b = moved-small (l .base) (s .offset)
 place-small l s Data d b = go (eqb (s .size) 0)
   where
-    go : (c : Bool) → (if c then movedOffset (l .base) (s .offset) else l .«data_at») < 2 ^ 32
+    go : (c : Bool) → (if c then movedOffset (l .base) (s .offset) else l .«data_segment») < 2 ^ 32
     go true = moved-small (l .base) (s .offset)
     go false = d
 place-small l s Bss d b = go (eqb (s .size) 0)
   where
-    go : (c : Bool) → (if c then movedOffset (l .base) (s .offset) else l .«bss_at») < 2 ^ 32
+    go : (c : Bool) → (if c then movedOffset (l .base) (s .offset) else l .«bss_segment») < 2 ^ 32
     go true = moved-small (l .base) (s .offset)
     go false = b
 
@@ -145,18 +145,18 @@ module _ (m : Image) (laid : WellLaid m) (low : Low (Area m)) where
   F = m .file
 
   abbrev base : ℕ
-  base = baseOf (m .coming)
+  base = baseOf (m .loadCall)
 
   abbrev S : ℕ → Type 0
   S = Area m
 
   -- the write back of one segment
   pub sets-segment
-      : {ζ : ℕ → List ℕ} {M : Memory} → Stage m ζ M → (i : ℕ) → i < count F segments → (s : Segment) → s .offset < 2 ^ 32 → s .size < 2 ^ 32
+      : {ζ : ℕ → List ℕ} {M : Memory} → PartlyRebased m ζ M → (i : ℕ) → i < count F segments → (s : Segment) → s .offset < 2 ^ 32 → s .size < 2 ^ 32
       → Does S (setSegment base i s)
       (λ _ N.
       (word N (base + entry F segments i) ≡ s .offset) × (word N (base + entry F segments i + 4) ≡ s .size)
-      × (word N (base + entry F segments i + 8) ≡ segmentTypeNumber (s .kind)) × Kept (In (base + entry F segments i) 12) M N) M
+      × (word N (base + entry F segments i + 8) ≡ segmentTypeNumber (s .kind)) × SameOutside (In (base + entry F segments i) 12) M N) M
   unfolding setSegment setSegmentEntry tables
   sets-segment {ζ} {M} st i l s ho hs =
       let b = entry-inside m laid low 0 i (lit< tt) l in

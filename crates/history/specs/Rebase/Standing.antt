@@ -12,15 +12,15 @@ use Rattle.layout.specs.Header.{nextCro, previousCro}
 use Rattle.linker_spec.specs.Relocation.{resetExternalRelocations}
 use Rattle.history.specs.Below.{AllBelow, below}
 use Rattle.history.specs.Image.{externals, count}
-use Rattle.history.specs.Arrival.{Image, baseOf, sizeOf, Area}
+use Rattle.history.specs.LoadedModule.{Image, baseOf, sizeOf, Area}
 use Rattle.history.specs.WellLaid.{header, table, InPart, Touched, external, WellLaid}
-use Rattle.history.specs.Steps.Wp.{Memory, Does, Kept, does-mono}
+use Rattle.history.specs.Steps.Wp.{Memory, Does, SameOutside, does-mono}
 use Rattle.history.specs.Steps.View.{View}
 use Rattle.history.specs.Steps.Parts.{sort, apart, external-part}
-use Rattle.history.specs.Steps.Shows.{mark-offset, word-count}
+use Rattle.history.specs.Steps.ModuleBytes.{mark-offset, word-count}
 use Rattle.history.specs.Steps.Links.{symbolFor, markFor, symbols, marks, Stands}
-use Rattle.history.specs.Rebase.Stage.{Headed, headed-same}
-use Rattle.history.specs.Rebase.Reset.{Outer, reset-does}
+use Rattle.history.specs.Rebase.PartlyRebased.{Headed, headed-same}
+use Rattle.history.specs.Rebase.Reset.{ExternalByte, reset-does}
 
 -- the bytes of a word are those that it was read from
 pub byte-word : (F : ℕ → ℕ) (o k : ℕ) → k < 4 → ((i : ℕ) → i < 4 → F (o + i) < 256) → F (o + k) ≡ byteOf k (word F o)
@@ -45,20 +45,20 @@ module _ (m : Image) (laid : WellLaid m) (low : Low (Area m)) where
   F = m .file
 
   abbrev base : ℕ
-  base = baseOf (m .coming)
+  base = baseOf (m .loadCall)
 
   -- nothing of it is in the header
-  outer-header : (o j : ℕ) → o < 0x138 → j < count F externals → Outer m j (base + o) → ⊥
+  outer-header : (o j : ℕ) → o < 0x138 → j < count F externals → ExternalByte m j (base + o) → ⊥
   unfolding InPart Touched
   outer-header o j l h (inl a) = laid .in-place .words-off (external j) (a .0) (a .1) header o l tt (a .2)
   outer-header o j l h (inr e) =
       let d = mark-offset m laid o j e in
       apart m laid header (table 5) o (λ z. absurd (omega (arith, ap sort z))) l (rw d (external-part m laid j 6 h (lit< tt)))
 
-  outer-headed : {M N : Memory} → Headed m M → Kept (λ q. (j : ℕ) × (j < count F externals) × Outer m j q) M N → Headed m N
+  outer-headed : {M N : Memory} → Headed m M → SameOutside (λ q. (j : ℕ) × (j < count F externals) × ExternalByte m j q) M N → Headed m N
   outer-headed h k = headed-same m (λ o l. k (base + o) (λ c. outer-header o (c .0) l (c .1) (c .2))) h
 
-  module _ (bytes : (o : ℕ) → o < sizeOf (m .coming) → F o < 256) where
+  module _ (bytes : (o : ℕ) → o < sizeOf (m .loadCall) → F o < 256) where
     list-word
         : {N : Memory} → Headed m N → (x k : ℕ) → 0x88 ≤ x → x + 4 ≤ 0x90 → k < 4 → N (base + x + k) ≡ byteOf k (word F x)
     list-word h x k a b l =

@@ -23,33 +23,33 @@ use Rattle.layout.specs.declared.segments.FoundSegment.the-variants.{Found, Mis
 use Rattle.linker_spec.specs.Rebase.{moved, moveWord, moveHeader, movePointers, moveTable, moveTables}
 use Rattle.linker_spec.specs.Unrebase.{leavesAs, unmoveFound, unmoveSegment, unmoveSegments, unrebase}
 use Rattle.history.specs.Image.{tables, segments, start, count, entry}
-use Rattle.history.specs.Arrival.{Image, baseOf, movedOffset, Area}
+use Rattle.history.specs.LoadedModule.{Image, baseOf, movedOffset, Area}
 use Rattle.history.specs.WellLaid.{header, table, tableNumber, InPart, WellLaid}
-use Rattle.history.specs.Steps.Wp.{Memory, Does, Kept, does-mono, does-ret, does-then, does-read, does-get32, does-put32, does-loop, does-wider, ends-put32, Reads}
+use Rattle.history.specs.Steps.Wp.{Memory, Does, SameOutside, does-mono, does-ret, does-then, does-read, does-get32, does-put32, does-loop, does-wider, ends-put32, ReadsValue}
 use Rattle.history.specs.Steps.View.{four, View, table-field, table-count}
 use Rattle.history.specs.Steps.Parts.{sort, field-bounds, apart, image-area, entry-in-table}
 use Rattle.history.specs.Steps.Reading.{plain-sum, four-at, entry-at}
-use Rattle.history.specs.Rebase.Cells.{Among}
-use Rattle.history.specs.Rebase.Stage.{header-reads}
+use Rattle.history.specs.Rebase.Cells.{Member}
+use Rattle.history.specs.Rebase.PartlyRebased.{header-reads}
 use Rattle.history.specs.Rebase.Fields.{entry-inside}
-use Rattle.history.specs.Rebase.Viewed.{Fits, fits}
+use Rattle.history.specs.Rebase.Viewed.{InEntry, fits}
 
 -- what is left does not matter
-abbrev Any : {A : Type 0} → A → Memory → Type 0
-Any a N = Unit {0}
+abbrev Anything : {A : Type 0} → A → Memory → Type 0
+Anything a N = Unit {0}
 
 -- a word that moves is read and written in its place
 module _ (S : ℕ → Type 0) (back : Bool) (base : ℕ) where
-  word-any : (p : ℕ) {M : Memory} → Four S p → Does S (moveWord back base p) Any M
+  word-any : (p : ℕ) {M : Memory} → Four S p → Does S (moveWord back base p) Anything M
   unfolding moveWord
   word-any p {M} s = does-get32 S p _ s (go (eqb (word M p) 0))
     where
-      go : (b : Bool) → Does S (if b then ret tt else put32 p (moved back base (word M p))) Any M
+      go : (b : Bool) → Does S (if b then ret tt else put32 p (moved back base (word M p))) Anything M
       go true = does-ret S tt
       go false = ends-put32 S p (moved back base (word M p)) s tt
 
-  pointers-any : (e : ℕ) (xs : List ℕ) (M : Memory) → ((x : ℕ) → Among x xs → Four S (e ⊕ x)) → Does S (movePointers back base e xs) Any M
-  unfolding movePointers Among
+  pointers-any : (e : ℕ) (xs : List ℕ) (M : Memory) → ((x : ℕ) → Member x xs → Four S (e ⊕ x)) → Does S (movePointers back base e xs) Anything M
+  unfolding movePointers Member
   pointers-any e [] M f = does-ret S tt
   pointers-any e (x ∷ xs) M f =
       does-then S (moveWord back base (e ⊕ x)) _ (word-any (e ⊕ x) (f x (inl refl))) (λ _ N h. pointers-any e xs N (λ y a. f y (inr a)))
@@ -59,14 +59,14 @@ module _ (m : Image) where
   F = m .file
 
   abbrev base : ℕ
-  base = baseOf (m .coming)
+  base = baseOf (m .loadCall)
 
   -- the header says where the nine tables are
-  record Led (M : Memory) : Type 0 where
+  record HeaderLocatesTables (M : Memory) : Type 0 where
     starts : (n : ℕ) → n < 9 → word M (base + tableNumber n .field) ≡ movedOffset base (start F (tableNumber n))
     counts : (n : ℕ) → n < 9 → word M (base + (tableNumber n .field + 4)) ≡ count F (tableNumber n)
 
-  view-leads : {M : Memory} → View m M → Led M
+  view-leads : {M : Memory} → View m M → HeaderLocatesTables M
   unfolding start count
   view-leads v =
       record {
@@ -78,7 +78,7 @@ module _ (m : Image) where
   abbrev Past : ℕ → Type 0
   Past q = Area m q × (base + 0x138 ≤ q)
 
-  led-kept : {M N : Memory} → Led M → Kept Past M N → Led N
+  led-kept : {M N : Memory} → HeaderLocatesTables M → SameOutside Past M N → HeaderLocatesTables N
   led-kept {M} {N} h k =
       record {
         starts = λ n l. same (tableNumber n .field) (omega (arith, field-bounds n l)) ∙ h .starts n l;
@@ -93,7 +93,7 @@ module _ (m : Image) (laid : WellLaid m) (low : Low (Area m)) where
   S = Area m
 
   abbrev at : ℕ
-  at = baseOf (m .coming)
+  at = baseOf (m .loadCall)
 
   abbrev G : ℕ → ℕ
   G = m .file
@@ -136,16 +136,16 @@ module _ (m : Image) (laid : WellLaid m) (low : Low (Area m)) where
       field at (tableNumber t .field + 4) >>= λ n.
       if eqb a 0 then ret tt else loop (λ i _. movePointers false at (entryAt a i (tableNumber t .width)) xs) 0 n tt
 
-  reads-led : {M : Memory} (x u : ℕ) → x + 4 ≤ 0x138 → word M (at + x) ≡ u → Reads S (field at x) u M
+  reads-led : {M : Memory} (x u : ℕ) → x + 4 ≤ 0x138 → word M (at + x) ≡ u → ReadsValue S (field at x) u M
   reads-led x u l e = header-reads m laid low x l e
 
   -- what is written past the header leaves it as it was
-  past-does : {A : Type 0} {c : Prog A} {M : Memory} → Led m M → Does (Past m) c Any M → Does S c (λ _ N. Led m N) M
+  past-does : {A : Type 0} {c : Prog A} {M : Memory} → HeaderLocatesTables m M → Does (Past m) c Anything M → Does S c (λ _ N. HeaderLocatesTables m N) M
   past-does h d = does-mono S (does-wider (Past m) S (λ q s. s .0) d) (λ _ N g. led-kept m h (g .1))
 
   table-any
-      : (t : ℕ) (xs : List ℕ) → t < 9 → 4 ≤ tableNumber t .width → Fits (tableNumber t .width) xs → {M : Memory} → Led m M
-      → Does S (mover t xs) (λ _ N. Led m N) M
+      : (t : ℕ) (xs : List ℕ) → t < 9 → 4 ≤ tableNumber t .width → InEntry (tableNumber t .width) xs → {M : Memory} → HeaderLocatesTables m M
+      → Does S (mover t xs) (λ _ N. HeaderLocatesTables m N) M
   table-any t xs l w f {M} h =
       does-read S (field at (tableNumber t .field)) _ a (reads-led (tableNumber t .field) a (omega (arith, b)) (h .starts t l))
       (does-read S (field at (tableNumber t .field + 4)) _ c (reads-led (tableNumber t .field + 4) c (omega (arith, b)) (h .counts t l))
@@ -162,7 +162,7 @@ module _ (m : Image) (laid : WellLaid m) (low : Low (Area m)) where
 
       go
           : (z : Bool)
-          → Does S (if z then ret tt else loop (λ i _. movePointers false at (entryAt a i (tableNumber t .width)) xs) 0 c tt) (λ _ N. Led m N) M
+          → Does S (if z then ret tt else loop (λ i _. movePointers false at (entryAt a i (tableNumber t .width)) xs) 0 c tt) (λ _ N. HeaderLocatesTables m N) M
       go true = does-ret S h
       go false =
           past-does h
@@ -172,8 +172,8 @@ module _ (m : Image) (laid : WellLaid m) (low : Low (Area m)) where
           (pointers-any (Past m) false at (at + entry G (tableNumber t) i) xs N
           (λ x e. entry-four t i x (omega arith) (omega arith) (fits (tableNumber t .width) xs f x e)))) tt)
 
-  tables-any : {M : Memory} → Led m M → Does S (moveTables false at pointerTables) (λ _ N. Led m N) M
-  unfolding moveTables moveTable pointerTables tables Fits
+  tables-any : {M : Memory} → HeaderLocatesTables m M → Does S (moveTables false at pointerTables) (λ _ N. HeaderLocatesTables m N) M
+  unfolding moveTables moveTable pointerTables tables InEntry
   tables-any h =
       does-then S (moveTable false at (pointerTable 0xd0 0xd4 8 1 0 0 0)) _
       (table-any 1 (0 ∷ []) (lit< tt) (lit≤ tt) (lit≤ tt, tt) h)
@@ -192,7 +192,7 @@ module _ (m : Image) (laid : WellLaid m) (low : Low (Area m)) where
       (λ _ M₅ h₅. does-ret S h₅)))))
 
   -- a segment's entry, whatever it says, is read and written in its place
-  module _ (i : ℕ) (l : i < count G segments) {M : Memory} (h : Led m M) where
+  module _ (i : ℕ) (l : i < count G segments) {M : Memory} (h : HeaderLocatesTables m M) where
     abbrev row : ℕ
     row = at + entry G segments i
 
@@ -222,7 +222,7 @@ module _ (m : Image) (laid : WellLaid m) (low : Low (Area m)) where
         (rw (place 0 i (lit< tt) l (lit≤ tt))
         (does-then S (segmentEntry row) _ entry-any (λ s N e. does-ret S e)))))
 
-    set-any : (s : Segment) → Does S (setSegment at i s) (λ _ N. Led m N) M
+    set-any : (s : Segment) → Does S (setSegment at i s) (λ _ N. HeaderLocatesTables m N) M
     unfolding setSegment setSegmentEntry tables
     set-any s =
         does-read S (field at segmentTableOffset) _ (movedOffset at (start G segments))
@@ -233,19 +233,19 @@ module _ (m : Image) (laid : WellLaid m) (low : Low (Area m)) where
         (does-put32 (Past m) (row ⊕ 4) (s .size) _ (row-four 4 (lit≤ tt))
         (ends-put32 (Past m) (row ⊕ 8) (segmentTypeNumber (s .kind)) (row-four 8 (lit≤ tt)) tt)))))
 
-    unmove-any : Does S (unmoveSegment at i) (λ _ N. Led m N) M
+    unmove-any : Does S (unmoveSegment at i) (λ _ N. HeaderLocatesTables m N) M
     unfolding unmoveSegment unmoveFound
     unmove-any = does-then S (segment at i) _ segment-any (λ s N e. rw e (go s))
       where
-        go : (s : FoundSegment) → Does S (unmoveFound at i s) (λ _ N. Led m N) M
+        go : (s : FoundSegment) → Does S (unmoveFound at i s) (λ _ N. HeaderLocatesTables m N) M
         go Missing = does-ret S h
         go (Found s) = set-any (leavesAs at s (s .kind))
 
-  segments-any : {M : Memory} → Led m M → Does S (unmoveSegments at) (λ _ N. Led m N) M
+  segments-any : {M : Memory} → HeaderLocatesTables m M → Does S (unmoveSegments at) (λ _ N. HeaderLocatesTables m N) M
   unfolding unmoveSegments tables
   segments-any {M} h =
       does-read S (field at segmentNum) _ (count G segments) (reads-led segmentNum (count G segments) (lit≤ tt) (h .counts 0 (lit< tt)))
-      (does-loop S {A = Unit {0}} (λ i _. unmoveSegment at i) (λ _ _ N. Led m N) 0 (count G segments) tt M
+      (does-loop S {A = Unit {0}} (λ i _. unmoveSegment at i) (λ _ _ N. HeaderLocatesTables m N) 0 (count G segments) tt M
       (λ i _ N z l g. unmove-any i (omega arith) g) h)
 
   header-four : (x : ℕ) → x + 4 ≤ 0x138 → Four S (at ⊕ x)
@@ -254,7 +254,7 @@ module _ (m : Image) (laid : WellLaid m) (low : Low (Area m)) where
       let b = plain-sum m laid low x (omega (arith, h)) in
       let e : at ⊕ x ≡ at + x = omega (arith, b) in rw e (four-at m laid low x (omega (arith, h)))
 
-  header-any : {M : Memory} → Does S (moveHeader false at) Any M
+  header-any : {M : Memory} → Does S (moveHeader false at) Anything M
   unfolding moveHeader
   header-any =
       does-then S (moveWord false at (at ⊕ 0x84)) _ (word-any S false at (at ⊕ 0x84) (header-four 0x84 (lit≤ tt)))

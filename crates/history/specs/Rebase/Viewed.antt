@@ -12,34 +12,34 @@ use Rattle.layout.specs.Header.{onUnresolvedSegmentTag}
 use Rattle.layout.specs.Tables.{pointerTable, pointerTables}
 use Rattle.linker_spec.specs.Rebase.{moveTable, moveTables}
 use Rattle.history.specs.Image.{tables, start, count, entry}
-use Rattle.history.specs.Arrival.{Image, baseOf, movedOffset, Area}
+use Rattle.history.specs.LoadedModule.{Image, baseOf, movedOffset, Area}
 use Rattle.history.specs.Imports.{named, indexed, anonymous, importEntry}
 use Rattle.history.specs.WellLaid.{tableNumber, InPart, WellLaid}
 use Rattle.history.specs.Steps.Wp.{Memory, Does, does-ret, does-then}
 use Rattle.history.specs.Steps.View.{Pointing, name-field, table-field, export-name, import-name, import-batch, entry-name, entry-indexed, entry-anonymous, Plain, handler-tag, table-count, export-tag, indexed-tag, import-index, import-tag, indexed-count, anonymous-count, relocation-tag, relocation-addend, PlainByte, relocation-kind, relocation-end, string-byte, View}
-use Rattle.history.specs.Rebase.Cells.{Among, Spread}
-use Rattle.history.specs.Rebase.Stage.{word-is, Stage, Rows}
+use Rattle.history.specs.Rebase.Cells.{Member, Spread}
+use Rattle.history.specs.Rebase.PartlyRebased.{word-is, PartlyRebased, Rows}
 use Rattle.history.specs.Rebase.Header.{unmoved}
 use Rattle.history.specs.Rebase.Fields.{start-is, count-is}
 use Rattle.history.specs.Rebase.Tables.{with-columns, table-moves}
 
 -- every number of the list is in an entry of w bytes; is apart from the word at x
-unfoldable pub Fits : ℕ → List ℕ → Type 0
-Fits w [] = Unit {0}
-Fits w (y ∷ ys) = (y + 4 ≤ w) × Fits w ys
+unfoldable pub InEntry : ℕ → List ℕ → Type 0
+InEntry w [] = Unit {0}
+InEntry w (y ∷ ys) = (y + 4 ≤ w) × InEntry w ys
 
-pub fits : (w : ℕ) (ys : List ℕ) → Fits w ys → (x : ℕ) → Among x ys → x + 4 ≤ w
-unfolding Fits Among
+pub fits : (w : ℕ) (ys : List ℕ) → InEntry w ys → (x : ℕ) → Member x ys → x + 4 ≤ w
+unfolding InEntry Member
 fits w [] f x a = absurd a
 fits w (y ∷ ys) f x (inl e) = rw e (f .0)
 fits w (y ∷ ys) f x (inr a) = fits w ys (f .1) x a
 
-unfoldable pub Away : ℕ → List ℕ → Type 0
-Away x [] = Unit {0}
-Away x (y ∷ ys) = ((y + 4 ≤ x) ⊎ (x + 4 ≤ y)) × Away x ys
+unfoldable pub ClearOf : ℕ → List ℕ → Type 0
+ClearOf x [] = Unit {0}
+ClearOf x (y ∷ ys) = ((y + 4 ≤ x) ⊎ (x + 4 ≤ y)) × ClearOf x ys
 
-away : (x k : ℕ) (ys : List ℕ) → Away x ys → k < 4 → (y : ℕ) → Among y ys → In y 4 (x + k) → ⊥
-unfolding Away Among
+away : (x k : ℕ) (ys : List ℕ) → ClearOf x ys → k < 4 → (y : ℕ) → Member y ys → In y 4 (x + k) → ⊥
+unfolding ClearOf Member
 away x k [] f l y a i = absurd a
 away x k (z ∷ ys) f l y (inl e) i = elim (f .0) [ inl h ↦ absurd (omega (arith, e, h, i)) | inr h ↦ absurd (omega (arith, e, h, i)) ]
 away x k (z ∷ ys) f l y (inr a) i = away x k ys (f .1) l y a i
@@ -52,7 +52,7 @@ pointed =
     8 (4 ∷ [])
 
 one : (x : ℕ) → Spread (x ∷ [])
-unfolding Spread Among
+unfolding Spread Member
 one x = ((λ y a. absurd a), tt)
 
 module _ (m : Image) (laid : WellLaid m) (low : Low (Area m)) where
@@ -60,14 +60,14 @@ module _ (m : Image) (laid : WellLaid m) (low : Low (Area m)) where
   F = m .file
 
   abbrev base : ℕ
-  base = baseOf (m .coming)
+  base = baseOf (m .loadCall)
 
   abbrev S : ℕ → Type 0
   S = Area m
 
   pub tables-move
-      : {M : Memory} → Stage m unmoved M → Rows m M → Does S (moveTables true base pointerTables) (λ _ N. Stage m pointed N × Rows m N) M
-  unfolding moveTables moveTable pointerTables tables with-columns pointed Spread Among Fits
+      : {M : Memory} → PartlyRebased m unmoved M → Rows m M → Does S (moveTables true base pointerTables) (λ _ N. PartlyRebased m pointed N × Rows m N) M
+  unfolding moveTables moveTable pointerTables tables with-columns pointed Spread Member InEntry
   tables-move s r =
       does-then S (moveTable true base (pointerTable 0xd0 0xd4 8 1 0 0 0)) _
       (table-moves m laid low 1 (0 ∷ []) (lit< tt) (one 0) (fits 8 (0 ∷ []) (lit≤ tt, tt)) (omega arith) refl s r)
@@ -95,9 +95,9 @@ module _ (m : Image) (laid : WellLaid m) (low : Low (Area m)) where
         ((λ x a. elim a [ inl e ↦ omega (arith, e) | inr b ↦ absurd b ]), one 12),
       )
 
-  module _ {M : Memory} (s : Stage m pointed M) (r : Rows m M) where
+  module _ {M : Memory} (s : PartlyRebased m pointed M) (r : Rows m M) where
     -- a word of table n, by its column
-    column : (n i x : ℕ) → n < 12 → n ≢ 0 → i < count F (tableNumber n) → x + 4 ≤ tableNumber n .width → Away x (pointed n)
+    column : (n i x : ℕ) → n < 12 → n ≢ 0 → i < count F (tableNumber n) → x + 4 ≤ tableNumber n .width → ClearOf x (pointed n)
         → word M (base + (entry F (tableNumber n) i + x)) ≡ word F (entry F (tableNumber n) i + x)
     column n i x l z h w a =
         word-is F M base (entry F (tableNumber n) i + x)
@@ -105,17 +105,17 @@ module _ (m : Image) (laid : WellLaid m) (low : Low (Area m)) where
         let e : entry F (tableNumber n) i + x + k ≡ entry F (tableNumber n) i + (x + k) = omega arith in
         rw e (s .plain n i (x + k) l z h (omega arith) (away x k (pointed n) a g)))
 
-    column-0 : (n i : ℕ) → n < 12 → n ≢ 0 → i < count F (tableNumber n) → 4 ≤ tableNumber n .width → Away 0 (pointed n)
+    column-0 : (n i : ℕ) → n < 12 → n ≢ 0 → i < count F (tableNumber n) → 4 ≤ tableNumber n .width → ClearOf 0 (pointed n)
         → word M (base + entry F (tableNumber n) i) ≡ word F (entry F (tableNumber n) i)
     column-0 n i l z h w a = let e : entry F (tableNumber n) i + 0 ≡ entry F (tableNumber n) i = omega arith in rw e at (column n i 0 l z h w a)
 
     moved-0
-        : (n i : ℕ) → n < 12 → n ≢ 0 → i < count F (tableNumber n) → Among 0 (pointed n)
+        : (n i : ℕ) → n < 12 → n ≢ 0 → i < count F (tableNumber n) → Member 0 (pointed n)
         → word M (base + entry F (tableNumber n) i) ≡ movedOffset base (word F (entry F (tableNumber n) i))
     moved-0 n i l z h a = let e : entry F (tableNumber n) i + 0 ≡ entry F (tableNumber n) i = omega arith in rw e at (s .moved n i 0 l z h a)
 
     moves : (o : ℕ) → Pointing F o → word M (base + o) ≡ movedOffset base (word F o)
-    unfolding tables start pointed with-columns Among importEntry
+    unfolding tables start pointed with-columns Member importEntry
     moves o name-field = s .fields 2 (lit< tt)
     moves o (table-field n l) = start-is m laid low s n (omega arith)
     moves o (export-name i l) = moved-0 1 i (lit< tt) (omega arith) l (inl refl)
@@ -128,7 +128,7 @@ module _ (m : Image) (laid : WellLaid m) (low : Low (Area m)) where
     moves o (entry-anonymous i l) = s .moved 4 i 12 (lit< tt) (omega arith) l (inr (inr (inl refl)))
 
     stays : (o : ℕ) → Plain F o → word M (base + o) ≡ word F o
-    unfolding tables count pointed with-columns Away
+    unfolding tables count pointed with-columns ClearOf
     stays o handler-tag =
         word-is F M base onUnresolvedSegmentTag
         (λ k h. s .header-plain (onUnresolvedSegmentTag + k) (omega arith) ((λ i. absurd (omega (arith, i))), λ j g i. absurd (omega (arith, i))))
@@ -145,7 +145,7 @@ module _ (m : Image) (laid : WellLaid m) (low : Low (Area m)) where
     stays o (relocation-addend i l) = column 5 i 8 (lit< tt) (omega arith) l (lit≤ tt) tt
 
     byte-stays : (o : ℕ) → PlainByte F o → M (base + o) ≡ F o
-    unfolding tables pointed with-columns Among InPart
+    unfolding tables pointed with-columns Member InPart
     byte-stays o (relocation-kind i l) = s .plain 5 i 4 (lit< tt) (omega arith) l (lit< tt) (λ x a. absurd a)
     byte-stays o (relocation-end i l) = s .plain 5 i 5 (lit< tt) (omega arith) l (lit< tt) (λ x a. absurd a)
     byte-stays o (string-byte p q h z i l) = s .strings p q (h, z, i)

@@ -10,10 +10,10 @@ use lib.ListN.{length, getD}
 use lib.Dec.{eqb}
 use borrow.Author.Tests.{eq-eqb, ne-eqb}
 use Rattle.window.specs.Memory.{if_then_else_}
-use Rattle.history.specs.Arrival.{Arrival, baseOf, isCrs}
+use Rattle.history.specs.LoadedModule.{LoadedModule, baseOf, isCrs}
 use Rattle.linker_spec.specs.declared.call.Call.{Call}
 use Rattle.linker_spec.specs.declared.call.Call.the-variants.{Initialize, Load, Unload}
-use Rattle.history.specs.Sessions.{Turn, done, brought, arrived, others, stay, standing}
+use Rattle.history.specs.Sessions.{CallRecord, done, brought, loadedModules, others, stay, standing}
 use Rattle.history.specs.Below.{Each, Pairs}
 use Rattle.history.specs.Steps.Leaving.{skip, skip-low, skip-high, skip-suc}
 
@@ -105,70 +105,70 @@ map-pairs f R [] h = tt
 map-pairs f R (x ∷ xs) h = (map-each f (R (f x)) xs (h .0), map-pairs f R xs (h .1))
 
 -- a list without some of its elements
-pub data Among {A : Type 0} : List A → List A → Type 0 where
-  nothing : Among [] []
-  keeps : (a : A) (xs ys : List A) → Among xs ys → Among (a ∷ xs) (a ∷ ys)
-  drops : (a : A) (xs ys : List A) → Among xs ys → Among xs (a ∷ ys)
+pub data Sublist {A : Type 0} : List A → List A → Type 0 where
+  nothing : Sublist [] []
+  keeps : (a : A) (xs ys : List A) → Sublist xs ys → Sublist (a ∷ xs) (a ∷ ys)
+  drops : (a : A) (xs ys : List A) → Sublist xs ys → Sublist xs (a ∷ ys)
 
-pub among-same : {A : Type 0} (xs : List A) → Among xs xs
+pub among-same : {A : Type 0} (xs : List A) → Sublist xs xs
 among-same [] = nothing
 among-same (x ∷ xs) = keeps x xs xs (among-same xs)
 
-pub among-left : {A : Type 0} (xs ys : List A) → Among xs (xs ++ ys)
+pub among-left : {A : Type 0} (xs ys : List A) → Sublist xs (xs ++ ys)
 among-left [] [] = nothing
 among-left [] (y ∷ ys) = drops y [] ys (among-left [] ys)
 among-left (x ∷ xs) ys = keeps x xs (xs ++ ys) (among-left xs ys)
 
-pub among-append : {A : Type 0} (xs ys zs : List A) → Among xs ys → Among (xs ++ zs) (ys ++ zs)
+pub among-append : {A : Type 0} (xs ys zs : List A) → Sublist xs ys → Sublist (xs ++ zs) (ys ++ zs)
 among-append xs ys zs nothing = among-same zs
 among-append xs ys zs (keeps a us vs h) = keeps a (us ++ zs) (vs ++ zs) (among-append us vs zs h)
 among-append xs ys zs (drops a us vs h) = drops a (us ++ zs) (vs ++ zs) (among-append us vs zs h)
 
-pub among-each : {A : Type 0} (P : A → Type 0) (xs ys : List A) → Among xs ys → Each P ys → Each P xs
+pub among-each : {A : Type 0} (P : A → Type 0) (xs ys : List A) → Sublist xs ys → Each P ys → Each P xs
 unfolding Each
 among-each P xs ys nothing h = tt
 among-each P xs ys (keeps a us vs g) h = (h .0, among-each P us vs g (h .1))
 among-each P xs ys (drops a us vs g) h = among-each P us vs g (h .1)
 
-pub among-pairs : {A : Type 0} (R : A → A → Type 0) (xs ys : List A) → Among xs ys → Pairs R ys → Pairs R xs
+pub among-pairs : {A : Type 0} (R : A → A → Type 0) (xs ys : List A) → Sublist xs ys → Pairs R ys → Pairs R xs
 unfolding Pairs
 among-pairs R xs ys nothing h = tt
 among-pairs R xs ys (keeps a us vs g) h = (among-each (R a) us vs g (h .0), among-pairs R us vs g (h .1))
 among-pairs R xs ys (drops a us vs g) h = among-pairs R us vs g (h .1)
 
-pub among-trans : {A : Type 0} (xs ys zs : List A) → Among xs ys → Among ys zs → Among xs zs
+pub among-trans : {A : Type 0} (xs ys zs : List A) → Sublist xs ys → Sublist ys zs → Sublist xs zs
 among-trans xs ys zs h nothing = h
 among-trans xs ys zs h (drops a us vs g) = drops a xs vs (among-trans xs us vs h g)
 among-trans xs ys zs (keeps b ss ts h) (keeps a us vs g) = keeps a ss vs (among-trans ss us vs h g)
 among-trans xs ys zs (drops b ss ts h) (keeps a us vs g) = drops a xs vs (among-trans xs us vs h g)
 
 -- what stands is among what came
-pub others-among : (base : ℕ) (S : List Arrival) → Among (others base S) S
+pub others-among : (base : ℕ) (S : List LoadedModule) → Sublist (others base S) S
 unfolding others
 others-among base [] = nothing
-others-among base (a ∷ S) = go (isCrs (a .coming) || not (eqb (baseOf (a .coming)) base)) (others-among base S)
+others-among base (a ∷ S) = go (isCrs (a .loadCall) || not (eqb (baseOf (a .loadCall)) base)) (others-among base S)
   where
-    go : (b : Bool) → Among (others base S) S → Among (if b then a ∷ others base S else others base S) (a ∷ S)
+    go : (b : Bool) → Sublist (others base S) S → Sublist (if b then a ∷ others base S else others base S) (a ∷ S)
     go true h = keeps a (others base S) S h
     go false h = drops a (others base S) S h
 
-stay-among : (c : Call) (S : List Arrival) → Among (stay c S) S
+stay-among : (c : Call) (S : List LoadedModule) → Sublist (stay c S) S
 unfolding stay
 stay-among (Initialize base size) S = among-same S
 stay-among (Load l auto level) S = among-same S
 stay-among (Unload base) S = others-among base S
 
-pub standing-among : (ts : List Turn) → Among (standing ts) (arrived ts)
-unfolding standing arrived
+pub standing-among : (ts : List CallRecord) → Sublist (standing ts) (loadedModules ts)
+unfolding standing loadedModules
 standing-among [] = nothing
 standing-among (t ∷ ts) =
-    among-append (if done t then stay (t .call) (standing ts) else standing ts) (arrived ts) (brought t)
+    among-append (if done t then stay (t .call) (standing ts) else standing ts) (loadedModules ts) (brought t)
     (go (done t) (standing-among ts))
   where
     go
-        : (b : Bool) → Among (standing ts) (arrived ts)
-        → Among (if b then stay (t .call) (standing ts) else standing ts) (arrived ts)
-    go true h = among-trans (stay (t .call) (standing ts)) (standing ts) (arrived ts) (stay-among (t .call) (standing ts)) h
+        : (b : Bool) → Sublist (standing ts) (loadedModules ts)
+        → Sublist (if b then stay (t .call) (standing ts) else standing ts) (loadedModules ts)
+    go true h = among-trans (stay (t .call) (standing ts)) (standing ts) (loadedModules ts) (stay-among (t .call) (standing ts)) h
     go false h = h
 
 -- a list without its element number d
@@ -191,42 +191,42 @@ lacking-length (x ∷ xs) zero l = refl
 lacking-length (x ∷ xs) (suc d) l = ap suc (lacking-length xs d (omega arith))
 
 -- no two with one base
-abbrev pub OtherBase : Arrival → Arrival → Type 0
-OtherBase a b = baseOf (a .coming) ≢ baseOf (b .coming)
+abbrev pub OtherBase : LoadedModule → LoadedModule → Type 0
+OtherBase a b = baseOf (a .loadCall) ≢ baseOf (b .loadCall)
 
 -- a base's module leaves, number d, or none has it; the CRS has another one
-pub data Leaver (base : ℕ) (S : List Arrival) : Type 0 where
+pub data Leaver (base : ℕ) (S : List LoadedModule) : Type 0 where
   leaves
-      : (d : ℕ) → d < length S → ((e : Arrival) → baseOf (getD S d e .coming) ≡ base) → ((e : Arrival) → isCrs (getD S d e .coming) ≡ false)
+      : (d : ℕ) → d < length S → ((e : LoadedModule) → baseOf (getD S d e .loadCall) ≡ base) → ((e : LoadedModule) → isCrs (getD S d e .loadCall) ≡ false)
       → others base S ≡ lacking S d → Leaver base S
-  stays : Each (λ a. baseOf (a .coming) ≢ base) S → others base S ≡ S → Leaver base S
+  stays : Each (λ a. baseOf (a .loadCall) ≢ base) S → others base S ≡ S → Leaver base S
 
 module _ (base : ℕ) where
   -- none has the base
-  whole : (S : List Arrival) → Each (λ a. baseOf (a .coming) ≢ base) S → others base S ≡ S
+  whole : (S : List LoadedModule) → Each (λ a. baseOf (a .loadCall) ≢ base) S → others base S ≡ S
   unfolding others Each
   whole [] h = refl
-  whole (a ∷ S) h = rw (ne-eqb (baseOf (a .coming)) base (h .0)) (go (isCrs (a .coming)) (whole S (h .1)))
+  whole (a ∷ S) h = rw (ne-eqb (baseOf (a .loadCall)) base (h .0)) (go (isCrs (a .loadCall)) (whole S (h .1)))
     where
       go : (b : Bool) → others base S ≡ S → (if b || true then a ∷ others base S else others base S) ≡ a ∷ S
       go true q = ap (λ T. a ∷ T) q
       go false q = ap (λ T. a ∷ T) q
 
   pub leaver
-      : (S : List Arrival) → Pairs OtherBase S → Each (λ a. isCrs (a .coming) ≡ true → baseOf (a .coming) ≢ base) S → Leaver base S
+      : (S : List LoadedModule) → Pairs OtherBase S → Each (λ a. isCrs (a .loadCall) ≡ true → baseOf (a .loadCall) ≢ base) S → Leaver base S
   unfolding others Each Pairs lacking
   leaver [] h c = stays tt refl
-  leaver (a ∷ S) h c = go (ℕ-discrete (baseOf (a .coming)) base) (isCrs (a .coming)) refl (leaver S (h .1) (c .1))
+  leaver (a ∷ S) h c = go (ℕ-discrete (baseOf (a .loadCall)) base) (isCrs (a .loadCall)) refl (leaver S (h .1) (c .1))
     where
-      go : Dec (baseOf (a .coming) ≡ base) → (b : Bool) → isCrs (a .coming) ≡ b → Leaver base S → Leaver base (a ∷ S)
+      go : Dec (baseOf (a .loadCall) ≡ base) → (b : Bool) → isCrs (a .loadCall) ≡ b → Leaver base S → Leaver base (a ∷ S)
       go (yes e) true i r = absurd (c .0 i e)
       go (yes e) false i r =
           leaves 0 (omega arith) (λ _. e) (λ _. i)
-          (rw (i, eq-eqb (baseOf (a .coming)) base e)
-          (whole S (each-mono (OtherBase a) (λ b. baseOf (b .coming) ≢ base) S (λ b n z. n (e ∙ sym z)) (h .0))))
+          (rw (i, eq-eqb (baseOf (a .loadCall)) base e)
+          (whole S (each-mono (OtherBase a) (λ b. baseOf (b .loadCall) ≢ base) S (λ b n z. n (e ∙ sym z)) (h .0))))
       go (no o) b i (stays n q) = stays (o, n) (whole (a ∷ S) (o, n))
       go (no o) b i (leaves d l e f q) =
-          leaves (suc d) (omega arith) e f (rw (ne-eqb (baseOf (a .coming)) base o) (kept (isCrs (a .coming)) q))
+          leaves (suc d) (omega arith) e f (rw (ne-eqb (baseOf (a .loadCall)) base o) (kept (isCrs (a .loadCall)) q))
         where
           kept
               : (b : Bool) → others base S ≡ lacking S d

@@ -10,15 +10,15 @@ use Rattle.window.specs.Within.{Low}
 use Rattle.window.specs.Mirror.{word}
 use Rattle.layout.specs.Segments.{entryAt}
 use Rattle.history.specs.Image.{tables, namedImports, moduleEntries, start, count, entry, nameOf, moduleName}
-use Rattle.history.specs.Arrival.{Image, baseOf, movedOffset, Area}
+use Rattle.history.specs.LoadedModule.{Image, baseOf, movedOffset, Area}
 use Rattle.history.specs.Imports.{Import, named, indexed, anonymous, importEntry, importNumber, wanted, InRun, From}
 use Rattle.history.specs.WellLaid.{table, Pointer, of-import, WellLaid}
-use Rattle.history.specs.Steps.Wp.{Memory, Reads, reads-get32}
+use Rattle.history.specs.Steps.Wp.{Memory, ReadsValue, reads-get32}
 use Rattle.history.specs.Steps.View.{View, import-name}
 use Rattle.history.specs.Steps.Parts.{part-inside, entry-in-table}
 use Rattle.history.specs.Steps.Reading.{four-at, entry-at}
 use Rattle.history.specs.Steps.Turns.{import-inside}
-use Rattle.history.specs.Steps.Records.{Asks}
+use Rattle.history.specs.Steps.Records.{ImportsFrom}
 use Rattle.history.specs.Steps.Runs.{Begins, EntryBegins}
 use Rattle.history.specs.Steps.Entries.{no-run}
 
@@ -34,7 +34,7 @@ module _ (m : Image) (laid : WellLaid m) (low : Low (Area m)) {T : Memory} (view
   F = m .file
 
   abbrev base : ℕ
-  base = baseOf (m .coming)
+  base = baseOf (m .loadCall)
 
   abbrev S : ℕ → Type 0
   S = Area m
@@ -42,7 +42,7 @@ module _ (m : Image) (laid : WellLaid m) (low : Low (Area m)) {T : Memory} (view
   -- the pointer of the name that a named import asks for
   pub reads-import-name
       : {M : Memory} → View m M → (i : ℕ) → i < count F namedImports
-      → Reads S (get32 (base + importEntry F (named i))) (movedOffset base (wanted F (named i))) M
+      → ReadsValue S (get32 (base + importEntry F (named i))) (movedOffset base (wanted F (named i))) M
   unfolding importEntry wanted
   reads-import-name w i l =
       let e = import-inside m laid low (named i) l in
@@ -92,8 +92,8 @@ module _ (m : Image) (laid : WellLaid m) (low : Low (Area m)) {T : Memory} (view
         let z : p ≡ named i = laid .alone .own-batch p (named i) h l (d ∙ sym b) in no-run m laid low view n v j g i (rw z at c)
 
     pub asks-entry : (j : ℕ) (i : Import) → j < count F moduleEntries → nameOf F (word F (entry F moduleEntries j)) ≡ moduleName (x .file)
-        → InRun F j i → Asks x m i
-    unfolding Asks From
+        → InRun F j i → ImportsFrom x m i
+    unfolding ImportsFrom From
     asks-entry j (named i) l e h = tt
     asks-entry j (indexed i) l e h = (j, l, h, sym e)
     asks-entry j (anonymous i) l e h = (j, l, h, sym e)

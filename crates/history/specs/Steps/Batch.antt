@@ -1,16 +1,16 @@
 -- A batch: its entries get a symbol, and its first entry the mark.
-use Prim.Native.Nat.{ℕ, zero, suc, _+_, _*_, _%_, _^_, _≤_, _<_}
+use Prim.Native.Nat.{ℕ, zero, suc, _+_, _%_, _≤_, _<_}
 use mathlib.Core.Path.{_≡_, refl, sym, ap, _∙_}
-use mathlib.Core.Logic.{_≢_, _⊎_, inl, inr}
+use mathlib.Core.Logic.{_≢_}
 use mathlib.Core.Bool.{Bool, true, false}
 use native.Mathlib.Omega.{arith}
 use native.Mathlib.Decide.{ℕ-discrete}
 use lib.Dec.{eqb, lit<}
 use borrow.Author.Tests.{eq-eqb, ne-eqb}
 use Rattle.window.specs.Memory.{if_then_else_, _⊕_}
-use Rattle.window.specs.Access.{Prog, ret, _>>=_, _>>_, get8, get32, put8}
-use Rattle.window.specs.Within.{In, Four, Low}
-use Rattle.window.specs.Mirror.{word, put1, put4}
+use Rattle.window.specs.Access.{ret, get8, get32, put8}
+use Rattle.window.specs.Within.{Low}
+use Rattle.window.specs.Mirror.{word}
 use Rattle.layout.specs.Header.{relocationEntrySize}
 use Rattle.layout.specs.Format.{relocationType}
 use Rattle.layout.specs.Relocation.Relocation.{relocatedWord, patch, applyRelocation}
@@ -22,14 +22,14 @@ use Rattle.layout.specs.declared.relocation.Patch.the-variants.{Word}
 use Rattle.layout.specs.declared.segments.Address.{Address}
 use Rattle.layout.specs.declared.segments.Address.the-variants.{At, Nowhere}
 use Rattle.linker_spec.specs.Relocation.{relocateAt, walk, batchLimit, mark, applyRelocationBatch, batchIsResolved}
-use Rattle.history.specs.Image.{tables, externals, count, entry, tag, kind, addend, endMark}
-use Rattle.history.specs.Arrival.{Image, baseOf, sizeOf, address, Area}
-use Rattle.history.specs.Imports.{Import, Batch, BatchOf}
-use Rattle.history.specs.WellLaid.{table, Relocated, external, WordAt, Writes, WellLaid}
-use Rattle.history.specs.Steps.Wp.{Memory, Does, Reads, does-mono, does-ret, does-then, does-read, ends-put8, ends-privileged, reads-then, reads-ret, reads-get8, reads-get32}
+use Rattle.history.specs.Image.{externals, count, entry, tag, kind, addend, endMark}
+use Rattle.history.specs.LoadedModule.{Image, baseOf, sizeOf, address, Area}
+use Rattle.history.specs.Imports.{Import, BatchOf}
+use Rattle.history.specs.WellLaid.{table, external, WordAt, Writes, WellLaid}
+use Rattle.history.specs.Steps.Wp.{Memory, Does, ReadsValue, does-ret, does-then, does-read, ends-put8, ends-privileged, reads-then, reads-ret, reads-get8, reads-get32}
 use Rattle.history.specs.Steps.View.{View, relocation-tag, relocation-addend, relocation-kind, relocation-end}
 use Rattle.history.specs.Steps.Parts.{image-area, part-inside, external-part}
-use Rattle.history.specs.Steps.Shows.{upd, upd-same, upd-other, wordFor, valueOf, markAt, Shows, put-word, put-mark, shows-view, is-mark, moving-area}
+use Rattle.history.specs.Steps.ModuleBytes.{upd, upd-same, upd-other, wordFor, valueOf, markAt, ModuleBytes, put-word, put-mark, shows-view, is-mark, moving-area}
 use Rattle.history.specs.Steps.Reading.{plain-sum, four-at, reads-address}
 
 -- whether a kind writes does not hang on the addend, the symbol or the place
@@ -71,14 +71,14 @@ module _ (m : Image) (laid : WellLaid m) (low : Low (Area m)) {T : Memory} (view
   F = m .file
 
   abbrev base : ℕ
-  base = baseOf (m .coming)
+  base = baseOf (m .loadCall)
 
   abbrev S : ℕ → Type 0
   S = Area m
 
   -- equal symbols and marks show the same
   pub shows-same
-      : {σ ρ μ ν : ℕ → ℕ} {M : Memory} → ((j : ℕ) → σ j ≡ ρ j) → ((j : ℕ) → μ j ≡ ν j) → Shows m T σ μ n v M → Shows m T ρ ν n v M
+      : {σ ρ μ ν : ℕ → ℕ} {M : Memory} → ((j : ℕ) → σ j ≡ ρ j) → ((j : ℕ) → μ j ≡ ν j) → ModuleBytes m T σ μ n v M → ModuleBytes m T ρ ν n v M
   shows-same e g s =
       record {
         words = λ j p k l h. rw (← e j) (s .words j p k l h);
@@ -90,7 +90,7 @@ module _ (m : Image) (laid : WellLaid m) (low : Low (Area m)) {T : Memory} (view
 
   -- an entry without a word has any symbol
   no-word
-      : {σ μ : ℕ → ℕ} {M : Memory} (j a : ℕ) → ((p : ℕ) → WordAt m (external j) p → ⊥) → Shows m T σ μ n v M → Shows m T (upd σ j a) μ n v M
+      : {σ μ : ℕ → ℕ} {M : Memory} (j a : ℕ) → ((p : ℕ) → WordAt m (external j) p → ⊥) → ModuleBytes m T σ μ n v M → ModuleBytes m T (upd σ j a) μ n v M
   no-word {σ} j a h s =
       record {
         words = λ i p k l g. rw (upd-other σ j a i (λ e. h p (rw e at g))) (s .words i p k l g);
@@ -121,8 +121,8 @@ module _ (m : Image) (laid : WellLaid m) (low : Low (Area m)) {T : Memory} (view
 
   -- one entry gets the symbol a
   pub relocates
-      : {σ μ : ℕ → ℕ} {M : Memory} (j a : ℕ) → j < count F externals → Shows m T σ μ n v M
-      → Does S (relocateAt (address m (tag F externals j)) (kind F externals j) (addend F externals j) a) (λ _ N. Shows m T (upd σ j a) μ n v N) M
+      : {σ μ : ℕ → ℕ} {M : Memory} (j a : ℕ) → j < count F externals → ModuleBytes m T σ μ n v M
+      → Does S (relocateAt (address m (tag F externals j)) (kind F externals j) (addend F externals j) a) (λ _ N. ModuleBytes m T (upd σ j a) μ n v N) M
   unfolding relocateAt applyRelocation patch
   relocates {σ} {μ} {M} j a l s = go (address m (tag F externals j)) refl
     where
@@ -131,11 +131,11 @@ module _ (m : Image) (laid : WellLaid m) (low : Low (Area m)) {T : Memory} (view
 
       go
           : (x : Address) → address m (tag F externals j) ≡ x
-          → Does S (relocateAt x (kind F externals j) (addend F externals j) a) (λ _ N. Shows m T (upd σ j a) μ n v N) M
+          → Does S (relocateAt x (kind F externals j) (addend F externals j) a) (λ _ N. ModuleBytes m T (upd σ j a) μ n v N) M
       go Nowhere e = does-ret S (no-word j a (λ p h. nowhere-no p (sym e ∙ word-address j p h)) s)
       go (At p) e = at-sort (sort t)
         where
-          at-sort : Sort t → Does S (patch p (relocatedWord t (addend F externals j) a p)) (λ _ N. Shows m T (upd σ j a) μ n v N) M
+          at-sort : Sort t → Does S (patch p (relocatedWord t (addend F externals j) a p)) (λ _ N. ModuleBytes m T (upd σ j a) μ n v N) M
           at-sort (writes f) =
               let h : WordAt m (external j) p = word-at j p l (f 0 0 0) e in
               let g = f (addend F externals j) a p in
@@ -145,7 +145,7 @@ module _ (m : Image) (laid : WellLaid m) (low : Low (Area m)) {T : Memory} (view
           at-sort (writes-not f) = rw (f (addend F externals j) a p) (does-ret S (no-word j a (λ q h. word-writes-not j q f h) s))
 
   -- an external entry lies in the image
-  pub entry-inside : (j : ℕ) → j < count F externals → entry F externals j + 12 ≤ sizeOf (m .coming)
+  pub entry-inside : (j : ℕ) → j < count F externals → entry F externals j + 12 ≤ sizeOf (m .loadCall)
   entry-inside j l = let e = part-inside m laid (table 5) (entry F externals j + 11) (external-part m laid j 11 l (lit< tt)) in omega (arith, e)
 
   pub entry-plus : (j k : ℕ) → j < count F externals → k < 12 → base + entry F externals j ⊕ k ≡ base + (entry F externals j + k)
@@ -161,27 +161,27 @@ module _ (m : Image) (laid : WellLaid m) (low : Low (Area m)) {T : Memory} (view
       let b = plain-sum m laid low (entry F externals (suc j)) (omega (arith, entry-inside (suc j) l)) in omega (arith, b)
 
   module _ {M : Memory} (w : View m M) (j : ℕ) (l : j < count F externals) where
-    pub reads-tag : Reads S (get32 (base + entry F externals j)) (tag F externals j) M
+    pub reads-tag : ReadsValue S (get32 (base + entry F externals j)) (tag F externals j) M
     unfolding tag
     reads-tag =
         reads-get32 S _ (four-at m laid low (entry F externals j) (omega (arith, entry-inside j l)))
         (w .kept (entry F externals j) (relocation-tag j l))
 
-    pub reads-kind : Reads S (get8 (base + entry F externals j ⊕ 4)) (kind F externals j) M
+    pub reads-kind : ReadsValue S (get8 (base + entry F externals j ⊕ 4)) (kind F externals j) M
     unfolding kind
     reads-kind =
         rw (entry-plus j 4 l (lit< tt))
         (reads-get8 S _ (image-area m laid (entry F externals j + 4) (omega (arith, entry-inside j l)))
         (w .kept-byte (entry F externals j + 4) (relocation-kind j l)))
 
-    reads-end : Reads S (get8 (base + entry F externals j ⊕ 5)) (endMark F j) M
+    reads-end : ReadsValue S (get8 (base + entry F externals j ⊕ 5)) (endMark F j) M
     unfolding endMark
     reads-end =
         rw (entry-plus j 5 l (lit< tt))
         (reads-get8 S _ (image-area m laid (entry F externals j + 5) (omega (arith, entry-inside j l)))
         (w .kept-byte (entry F externals j + 5) (relocation-end j l)))
 
-    pub reads-addend : Reads S (get32 (base + entry F externals j ⊕ 8)) (addend F externals j) M
+    pub reads-addend : ReadsValue S (get32 (base + entry F externals j ⊕ 8)) (addend F externals j) M
     unfolding addend
     reads-addend =
         rw (entry-plus j 8 l (lit< tt))
@@ -189,15 +189,15 @@ module _ (m : Image) (laid : WellLaid m) (low : Low (Area m)) {T : Memory} (view
         (w .kept (entry F externals j + 8) (relocation-addend j l)))
 
   -- entries j to f, f being the first from j on with an end mark
-  record Rest (j f : ℕ) : Type 0 where
+  record BatchRest (j f : ℕ) : Type 0 where
     ordered : j ≤ f
     inside : f < count F externals
     goes-on : (i : ℕ) → j ≤ i → i < f → endMark F i ≡ 0
     ends : endMark F f ≢ 0
 
   walks
-      : (fuel : ℕ) {σ ρ μ : ℕ → ℕ} {M : Memory} (j f a k : ℕ) → Rest j f → f < j + fuel → Set σ ρ j f a → Shows m T σ μ n v M
-      → Does S (walk fuel base a (base + entry F externals j) k) (λ _ N. Shows m T ρ μ n v N) M
+      : (fuel : ℕ) {σ ρ μ : ℕ → ℕ} {M : Memory} (j f a k : ℕ) → BatchRest j f → f < j + fuel → Set σ ρ j f a → ModuleBytes m T σ μ n v M
+      → Does S (walk fuel base a (base + entry F externals j) k) (λ _ N. ModuleBytes m T ρ μ n v N) M
   unfolding walk
   walks zero j f a k r l e s = absurd (omega (arith, r .ordered))
   walks (suc fuel) {σ} {ρ} {μ} {M} j f a k r l e s =
@@ -212,12 +212,12 @@ module _ (m : Image) (laid : WellLaid m) (low : Low (Area m)) {T : Memory} (view
       (λ _ N t. go N t (ℕ-discrete j f) (walks fuel {σ = upd σ j a} {ρ = ρ} {μ = μ} {M = N} (suc j) f a (suc k))))))))
     where
       go
-          : (N : Memory) → Shows m T (upd σ j a) μ n v N → Dec (j ≡ f)
-          → (Rest (suc j) f → f < suc j + fuel → Set (upd σ j a) ρ (suc j) f a → Shows m T (upd σ j a) μ n v N
-          → Does S (walk fuel base a (base + entry F externals (suc j)) (suc k)) (λ _ L. Shows m T ρ μ n v L) N)
+          : (N : Memory) → ModuleBytes m T (upd σ j a) μ n v N → Dec (j ≡ f)
+          → (BatchRest (suc j) f → f < suc j + fuel → Set (upd σ j a) ρ (suc j) f a → ModuleBytes m T (upd σ j a) μ n v N
+          → Does S (walk fuel base a (base + entry F externals (suc j)) (suc k)) (λ _ L. ModuleBytes m T ρ μ n v L) N)
           → Does S
           (if eqb (endMark F j) 0 then walk fuel base a (base + entry F externals j ⊕ relocationEntrySize) (suc k) else ret (suc k))
-          (λ _ L. Shows m T ρ μ n v L) N
+          (λ _ L. ModuleBytes m T ρ μ n v L) N
       go N t (yes d) h =
           rw (ne-eqb (endMark F j) 0 (λ z. r .ends (rw d at z)))
           (does-ret S (shows-same (λ x. last x (ℕ-discrete x j)) (λ x. refl) t))
@@ -242,8 +242,8 @@ module _ (m : Image) (laid : WellLaid m) (low : Low (Area m)) {T : Memory} (view
 
   -- the batch of an import, with its mark
   pub batch-does
-      : {σ ρ μ : ℕ → ℕ} {M : Memory} (i : Import) (e f a : ℕ) (b : Bool) → BatchOf F i e f → Set σ ρ e f a → Shows m T σ μ n v M
-      → Does S (applyRelocationBatch base (base + entry F externals e) a b) (λ _ N. Shows m T ρ (upd μ e (mark b)) n v N) M
+      : {σ ρ μ : ℕ → ℕ} {M : Memory} (i : Import) (e f a : ℕ) (b : Bool) → BatchOf F i e f → Set σ ρ e f a → ModuleBytes m T σ μ n v M
+      → Does S (applyRelocationBatch base (base + entry F externals e) a b) (λ _ N. ModuleBytes m T ρ (upd μ e (mark b)) n v N) M
   unfolding applyRelocationBatch
   batch-does {σ} {ρ} {μ} {M} i e f a b h g s =
       does-then S (walk batchLimit base a (base + entry F externals e) 0) _
@@ -258,8 +258,8 @@ module _ (m : Image) (laid : WellLaid m) (low : Low (Area m)) {T : Memory} (view
 
   -- whether it is resolved is what its mark says
   pub reads-mark
-      : {σ μ : ℕ → ℕ} {M : Memory} (e : ℕ) → e < count F externals → Shows m T σ μ n v M
-      → Reads S (batchIsResolved (base + entry F externals e)) (if eqb (μ e % 256) 0 then false else true) M
+      : {σ μ : ℕ → ℕ} {M : Memory} (e : ℕ) → e < count F externals → ModuleBytes m T σ μ n v M
+      → ReadsValue S (batchIsResolved (base + entry F externals e)) (if eqb (μ e % 256) 0 then false else true) M
   unfolding batchIsResolved
   reads-mark {σ} {μ} {M} e l s =
       reads-then S (get8 (base + entry F externals e ⊕ 6)) _ (μ e % 256)

@@ -8,14 +8,14 @@ use lib.ListN.{length}
 use borrow.Author.Tests.{eq-eqb, ne-eqb}
 use Rattle.register.specs.Module.{Module}
 use Rattle.linker_spec.specs.Calls.{unknown, stands, firstWithBase}
-use Rattle.history.specs.Arrival.{Image, baseOf}
+use Rattle.history.specs.LoadedModule.{Image, baseOf}
 use Rattle.history.specs.Steps.Records.{Recorded}
 use Rattle.history.specs.Steps.Own.{RecordedAll}
 
 -- that of number d if it is the first module there
 pub finds
-    : (x : ℕ → Image) (rs : List Module) (d k base : ℕ) → d < length rs → baseOf (x d .coming) ≡ base
-    → ((j : ℕ) → j < d → baseOf (x j .coming) ≢ base) → RecordedAll x rs
+    : (x : ℕ → Image) (rs : List Module) (d k base : ℕ) → d < length rs → baseOf (x d .loadCall) ≡ base
+    → ((j : ℕ) → j < d → baseOf (x j .loadCall) ≢ base) → RecordedAll x rs
     → (r : Module) × Recorded (x d) r × (firstWithBase base rs k ≡ stands r (k + d))
 unfolding RecordedAll firstWithBase
 finds x [] d k base l e o h = absurd (omega arith)
@@ -29,7 +29,7 @@ finds x (r ∷ rs) (suc d) k base l e o h =
 
 -- none has it
 pub finds-none
-    : (x : ℕ → Image) (rs : List Module) (k base : ℕ) → ((j : ℕ) → j < length rs → baseOf (x j .coming) ≢ base) → RecordedAll x rs
+    : (x : ℕ → Image) (rs : List Module) (k base : ℕ) → ((j : ℕ) → j < length rs → baseOf (x j .loadCall) ≢ base) → RecordedAll x rs
     → firstWithBase base rs k ≡ unknown
 unfolding RecordedAll firstWithBase
 finds-none x [] k base o h = refl

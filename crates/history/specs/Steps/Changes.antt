@@ -1,14 +1,14 @@
 -- Changes of links: at the entries in P each link becomes what R says, all others stay; loops whose turns change different entries.
-use Prim.Native.Nat.{ℕ, zero, suc, _+_, _≤_, _<_}
-use mathlib.Core.Path.{_≡_, refl, sym, _∙_}
+use Prim.Native.Nat.{ℕ, suc, _+_, _<_}
+use mathlib.Core.Path.{_≡_, refl, _∙_}
 use mathlib.Core.Logic.{_≢_, _⊎_, inl, inr}
 use mathlib.Core.Option.{Option}
 use native.Mathlib.Omega.{arith}
 use native.Mathlib.Decide.{ℕ-discrete}
-use Rattle.window.specs.Access.{Prog, _>>=_}
+use Rattle.window.specs.Access.{Prog}
 use Rattle.window.specs.Loop.{loop}
-use Rattle.history.specs.Arrival.{Image}
-use Rattle.history.specs.Steps.Wp.{Memory, Does, does-mono, does-then, does-loop}
+use Rattle.history.specs.LoadedModule.{Image}
+use Rattle.history.specs.Steps.Wp.{Memory, Does, does-mono, does-loop}
 use Rattle.history.specs.Steps.Links.{Links, Stands}
 
 pub record Change (P : ℕ → Type 0) (R : ℕ → Option ℕ → Option ℕ → Type 0) (φ ψ : Links) : Type 0 where

@@ -1,10 +1,8 @@
 -- What follows from links at rest: every import holds its address, and no byte of a module's areas is left open.
-use Prim.Native.Nat.{ℕ, suc, _+_, _%_, _^_, _≤_, _<_}
-use mathlib.Core.Path.{_≡_, refl, sym, ap, _∙_, fun-ext}
-use mathlib.Core.Logic.{_≢_}
+use Prim.Native.Nat.{ℕ, _^_, _≤_, _<_}
+use mathlib.Core.Path.{_≡_, sym, ap, _∙_, fun-ext}
 use mathlib.Core.Option.{Option, some, none}
 use native.Mathlib.Omega.{arith}
-use Rattle.window.specs.Memory.{_⊕_, _⊖_}
 use Rattle.window.specs.Bytes.{byteOf, join-bytes, join-at}
 use Rattle.window.specs.Within.{Agree}
 use Rattle.window.specs.Mirror.{word}
@@ -17,15 +15,15 @@ use Rattle.layout.specs.declared.relocation.Patch.the-variants.{Word}
 use Rattle.layout.specs.declared.segments.Address.{Address}
 use Rattle.layout.specs.declared.segments.Address.the-variants.{At}
 use Rattle.history.specs.Image.{externals, count, tag, kind, addend}
-use Rattle.history.specs.Arrival.{Image, address, handler, Area}
+use Rattle.history.specs.LoadedModule.{Image, address, handler, Area}
 use Rattle.history.specs.Imports.{Import, IsImport, BatchOf, Exporter, Holds}
-use Rattle.history.specs.WellLaid.{external, WordAt, Writes, WellLaid}
+use Rattle.history.specs.WellLaid.{external, WordAt, WellLaid}
 use Rattle.history.specs.Steps.Wp.{Memory}
-use Rattle.history.specs.Steps.Shows.{wordFor, valueOf, shows-unique}
+use Rattle.history.specs.Steps.ModuleBytes.{wordFor, valueOf, shows-unique}
 use Rattle.history.specs.Steps.Batch.{Sort, writes, writes-not, sort, word-nothing}
-use Rattle.history.specs.Steps.Links.{Links, symbolFor, symbols, marks, first-in, Stands}
+use Rattle.history.specs.Steps.Links.{Links, symbolFor, symbols, first-in, Stands}
 use Rattle.history.specs.Steps.Runs.{Begins}
-use Rattle.history.specs.Steps.Final.{Final, either}
+use Rattle.history.specs.Steps.LinksResolved.{LinksResolved, either}
 
 -- a relocated word is a word
 word-low : (t : RelocationType) (d a p v : ℕ) → relocatedWord t d a p ≡ Word v → v < 2 ^ 32
@@ -79,7 +77,7 @@ module _ (m : Image) {T : Memory} {φ : Links} {n v : ℕ} {M : Memory} (s : Sta
       let z = word-low (relocationType (kind F externals j)) (addend F externals j) (symbolFor (handler m) y) p u r in
       join-at M (λ k. byteOf k u) p (λ k c. s .shows .words j p k c w ∙ ap (byteOf k) q) ∙ join-bytes u ∙ omega (arith, z)
 
-  module _ (count-of : ℕ) (x : ℕ → Image) (rest : Final count-of x m φ) where
+  module _ (count-of : ℕ) (x : ℕ → Image) (rest : LinksResolved count-of x m φ) where
     -- the exporter's address, if one of those that stand is the exporter
     pub holds-exporter
         : (i : Import) → IsImport F i → (k : ℕ) → k < count-of → (p : ℕ) → Exporter (x k) m i p → Holds M m i p
@@ -93,8 +91,8 @@ module _ (m : Image) {T : Memory} {φ : Links} {n v : ℕ} {M : Memory} (s : Sta
     holds-handler i l o = holds i none (λ e f b. rest .missing i l e (b .first) o)
 
 -- links at rest are determined by the modules that stand
-pub final-unique : (n : ℕ) (x : ℕ → Image) (m : Image) {φ ψ : Links} → Final n x m φ → Final n x m ψ → (e : ℕ) → φ e ≡ ψ e
-final-unique n x m {φ} {ψ} f g e =
+pub resolved-unique : (n : ℕ) (x : ℕ → Image) (m : Image) {φ ψ : Links} → LinksResolved n x m φ → LinksResolved n x m ψ → (e : ℕ) → φ e ≡ ψ e
+resolved-unique n x m {φ} {ψ} f g e =
     either ((i : Import) × IsImport (m .file) i × Begins (m .file) i e) (φ e) (ψ e) (λ (i, l, b). at i l b)
     (λ o. f .others e (λ i l b. o (i, l, b)) ∙ sym (g .others e (λ i l b. o (i, l, b))))
   where

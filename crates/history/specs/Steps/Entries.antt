@@ -1,15 +1,13 @@
 -- A module entry: its name, and both its runs linked or unlinked.
-use Prim.Native.Nat.{ℕ, zero, suc, _+_, _*_, _^_, _≤_, _<_}
-use mathlib.Core.Path.{_≡_, refl, sym, ap, _∙_}
-use mathlib.Core.Logic.{_≢_, _⊎_, inl, inr}
-use mathlib.Core.List.{List}
+use Prim.Native.Nat.{ℕ, _+_, _≤_, _<_}
+use mathlib.Core.Path.{_≡_, sym, ap, _∙_}
+use mathlib.Core.Logic.{_⊎_, inl, inr}
 use mathlib.Core.Option.{Option, some, none}
 use native.Mathlib.Omega.{arith}
 use lib.Dec.{lit<, lit≤}
 use Rattle.window.specs.Memory.{_⊕_}
-use Rattle.window.specs.Access.{Prog, ret, _>>=_, _>>_, get32}
+use Rattle.window.specs.Access.{_>>=_, _>>_, get32}
 use Rattle.window.specs.Loop.{loop}
-use Rattle.window.specs.Name.{nameAt}
 use Rattle.window.specs.Within.{Low}
 use Rattle.window.specs.Mirror.{word}
 use Rattle.layout.specs.Segments.{entryAt}
@@ -19,37 +17,37 @@ use Rattle.register.specs.declared.read.Symbol.{Symbol}
 use Rattle.linker_spec.specs.Imports as imports
 use Rattle.linker_spec.specs.Imports.{importFrom, linkFrom, importsOf}
 use Rattle.linker_spec.specs.Resets.{resetAt}
-use Rattle.history.specs.Image.{tables, moduleEntries, externals, count, entry, nameOf}
-use Rattle.history.specs.Arrival.{Image, baseOf, sizeOf, movedOffset, handler, Area}
+use Rattle.history.specs.Image.{tables, moduleEntries, count, entry}
+use Rattle.history.specs.LoadedModule.{Image, baseOf, sizeOf, movedOffset, handler, Area}
 use Rattle.history.specs.Imports.{Import, named, indexed, anonymous, IsImport, wanted, runStart, runCount, InRun}
-use Rattle.history.specs.WellLaid.{table, of-entry, WellLaid}
-use Rattle.history.specs.Steps.Wp.{Memory, Does, Reads, does-mono, does-ret, does-then, does-read, reads-then, reads-ret, reads-get32}
+use Rattle.history.specs.WellLaid.{table, WellLaid}
+use Rattle.history.specs.Steps.Wp.{Memory, Does, ReadsValue, does-mono, does-then, does-read, reads-then, reads-ret, reads-get32}
 use Rattle.history.specs.Steps.View.{View, entry-name, entry-indexed, entry-anonymous, indexed-count, anonymous-count}
 use Rattle.history.specs.Steps.Parts.{part-inside, entry-in-table}
-use Rattle.history.specs.Steps.Shows.{shows-view}
-use Rattle.history.specs.Steps.Reading.{plain-sum, four-at, reads-name}
+use Rattle.history.specs.Steps.ModuleBytes.{shows-view}
+use Rattle.history.specs.Steps.Reading.{plain-sum, four-at}
 use Rattle.history.specs.Steps.Links.{Links, Stands}
 use Rattle.history.specs.Steps.Changes.{Change, change-then, change-iff, Changed}
-use Rattle.history.specs.Steps.Runs.{Begins, Linking, RunBegins, EntryBegins, by-index, by-tag, links-run, unlinks-run}
+use Rattle.history.specs.Steps.Runs.{Linking, RunBegins, EntryBegins, by-index, by-tag, links-run, unlinks-run}
 
 module _ (m : Image) (laid : WellLaid m) (low : Low (Area m)) {T : Memory} (view : View m T) (n v : ℕ) where
   abbrev F : ℕ → ℕ
   F = m .file
 
   abbrev base : ℕ
-  base = baseOf (m .coming)
+  base = baseOf (m .loadCall)
 
   abbrev S : ℕ → Type 0
   S = Area m
 
   module _ (j : ℕ) (l : j < count F moduleEntries) where
-    inside : entry F moduleEntries j + 20 ≤ sizeOf (m .coming)
+    inside : entry F moduleEntries j + 20 ≤ sizeOf (m .loadCall)
     unfolding tables
     inside = let e = part-inside m laid (table 4) _ (entry-in-table F 4 j 19 (lit< tt) l (lit< tt)) in omega (arith, e)
 
     -- the word at k of the entry
     reads-at : {M : Memory} (k : ℕ) {u : ℕ} → k + 4 ≤ 20 → word M (base + (entry F moduleEntries j + k)) ≡ u
-        → Reads S (get32 (base + entry F moduleEntries j ⊕ k)) u M
+        → ReadsValue S (get32 (base + entry F moduleEntries j ⊕ k)) u M
     reads-at k h e =
         let b = plain-sum m laid low (entry F moduleEntries j + k) (omega (arith, inside)) in
         let z : base + entry F moduleEntries j ⊕ k ≡ base + (entry F moduleEntries j + k) = omega (arith, b) in
@@ -57,7 +55,7 @@ module _ (m : Image) (laid : WellLaid m) (low : Low (Area m)) {T : Memory} (view
 
     -- the pointer of its name
     pub reads-entry-pointer
-        : {M : Memory} → View m M → Reads S (get32 (base + entry F moduleEntries j)) (movedOffset base (word F (entry F moduleEntries j))) M
+        : {M : Memory} → View m M → ReadsValue S (get32 (base + entry F moduleEntries j)) (movedOffset base (word F (entry F moduleEntries j))) M
     reads-entry-pointer w =
         reads-get32 S _ (four-at m laid low (entry F moduleEntries j) (omega (arith, inside))) (w .moved (entry F moduleEntries j) (entry-name j l))
 
@@ -89,26 +87,26 @@ module _ (m : Image) (laid : WellLaid m) (low : Low (Area m)) {T : Memory} (view
         out e (anonymous i, a, r, b) = inr (i, a, r, b)
 
     -- what the entry's words say
-    starts-indexed : {M : Memory} → View m M → Reads S (get32 (base + entry F moduleEntries j ⊕ 4)) (movedOffset base (runStart F j (indexed 0))) M
+    starts-indexed : {M : Memory} → View m M → ReadsValue S (get32 (base + entry F moduleEntries j ⊕ 4)) (movedOffset base (runStart F j (indexed 0))) M
     unfolding runStart
     starts-indexed w = reads-at 4 (lit≤ tt) (w .moved (entry F moduleEntries j + 4) (entry-indexed j l))
 
-    counts-indexed : {M : Memory} → View m M → Reads S (get32 (base + entry F moduleEntries j ⊕ 8)) (runCount F j (indexed 0)) M
+    counts-indexed : {M : Memory} → View m M → ReadsValue S (get32 (base + entry F moduleEntries j ⊕ 8)) (runCount F j (indexed 0)) M
     unfolding runCount
     counts-indexed w = reads-at 8 (lit≤ tt) (w .kept (entry F moduleEntries j + 8) (indexed-count j l))
 
     starts-anonymous : {M : Memory} → View m M
-        → Reads S (get32 (base + entry F moduleEntries j ⊕ 12)) (movedOffset base (runStart F j (anonymous 0))) M
+        → ReadsValue S (get32 (base + entry F moduleEntries j ⊕ 12)) (movedOffset base (runStart F j (anonymous 0))) M
     unfolding runStart
     starts-anonymous w = reads-at 12 (lit≤ tt) (w .moved (entry F moduleEntries j + 12) (entry-anonymous j l))
 
-    counts-anonymous : {M : Memory} → View m M → Reads S (get32 (base + entry F moduleEntries j ⊕ 16)) (runCount F j (anonymous 0)) M
+    counts-anonymous : {M : Memory} → View m M → ReadsValue S (get32 (base + entry F moduleEntries j ⊕ 16)) (runCount F j (anonymous 0)) M
     unfolding runCount
     counts-anonymous w = reads-at 16 (lit≤ tt) (w .kept (entry F moduleEntries j + 16) (anonymous-count j l))
 
     -- with no module to link to, its words are only read
     pub reads-runs
-        : {φ : Links} {M : Memory} → Stands m T φ n v M → Reads S (importsOf none base (base + entry F moduleEntries j)) tt M
+        : {φ : Links} {M : Memory} → Stands m T φ n v M → ReadsValue S (importsOf none base (base + entry F moduleEntries j)) tt M
     unfolding importsOf linkFrom
     reads-runs s =
         let w = shows-view m laid view (s .shows) in

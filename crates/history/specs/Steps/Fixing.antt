@@ -17,29 +17,29 @@ use Rattle.layout.specs.Segments.{field, setField, entryAt}
 use Rattle.linker_spec.specs.Fix.{fixedTo, fixPair, endTables, fixFrom, fix}
 use Rattle.linker_spec.specs.Cases.{level-1}
 use Rattle.history.specs.Image.{externals, entry}
-use Rattle.history.specs.Arrival.{Image, baseOf, sizeOf, Area}
+use Rattle.history.specs.LoadedModule.{Image, baseOf, sizeOf, Area}
 use Rattle.history.specs.WellLaid.{Part, header, table, string, InPart, Touched, external, WellLaid}
-use Rattle.history.specs.Steps.Wp.{Memory, WithinM, Does, Kept, does-ret, does-get32, ends-put32, does-then, does-loop, does-wider}
+use Rattle.history.specs.Steps.Wp.{Memory, WithinM, Does, SameOutside, does-ret, does-get32, ends-put32, does-then, does-loop, does-wider}
 use Rattle.history.specs.Steps.Windowed.{same-on}
 use Rattle.history.specs.Steps.View.{View, view-agree}
-use Rattle.history.specs.Steps.Parts.{sort, Spot, in-header, in-table, in-external, in-string, spot, entry-in-table, image-area, apart, external-part}
-use Rattle.history.specs.Steps.Shows.{markAt, Moving, in-word, is-mark, in-next, in-previous}
+use Rattle.history.specs.Steps.Parts.{sort, ReadOffset, in-header, in-table, in-external, in-string, read-offset, entry-in-table, image-area, apart, external-part}
+use Rattle.history.specs.Steps.ModuleBytes.{markAt, VolatileByte, in-word, is-mark, in-next, in-previous}
 use Rattle.history.specs.Steps.Reading.{plain-sum}
 use Rattle.history.specs.Steps.Links.{Links, Stands}
 
 -- the bytes at rest after fixing at that level
 unfoldable pub fixedAt : Image → ℕ → Memory → Memory
-fixedAt m level T = runM (fix (baseOf (m .coming)) (sizeOf (m .coming)) level) T .1
+fixedAt m level T = runM (fix (baseOf (m .loadCall)) (sizeOf (m .loadCall)) level) T .1
 
 module _ (m : Image) (laid : WellLaid m) (low : Low (Area m)) where
   abbrev F : ℕ → ℕ
   F = m .file
 
   abbrev base : ℕ
-  base = baseOf (m .coming)
+  base = baseOf (m .loadCall)
 
   abbrev whole : ℕ
-  whole = sizeOf (m .coming)
+  whole = sizeOf (m .loadCall)
 
   -- the header past the list words: all that is read or written
   abbrev X : ℕ → Type 0
@@ -60,15 +60,15 @@ module _ (m : Image) (laid : WellLaid m) (low : Low (Area m)) where
   does-field x f {Q} {M} l h g = rw (no-wrap x h) (does-get32 X (base + x) f (λ k i. (omega arith, omega arith)) (g (word M (base + x))))
 
   sets-field
-      : (x v : ℕ) {M N : Memory} → 0x98 ≤ x → x + 4 ≤ 0x138 → ((q : ℕ) → In (base + x) 4 q → W q) → Kept W M N
-      → Does X (setField base x v) (λ _ L. Kept W M L) N
+      : (x v : ℕ) {M N : Memory} → 0x98 ≤ x → x + 4 ≤ 0x138 → ((q : ℕ) → In (base + x) 4 q → W q) → SameOutside W M N
+      → Does X (setField base x v) (λ _ L. SameOutside W M L) N
   unfolding setField
   sets-field x v {M} {N} l h i k =
       rw (no-wrap x h)
       (ends-put32 X (base + x) v (λ j g. (omega arith, omega arith)) (λ q o. put4-off N (base + x) v q (λ g. o (i q g)) ∙ k q o))
 
   does-pair
-      : (i end : ℕ) {M N : Memory} → i < 15 → Kept W M N → Does X (fixPair base 0x120 i end) (λ _ L. Kept W M L) N
+      : (i end : ℕ) {M N : Memory} → i < 15 → SameOutside W M N → Does X (fixPair base 0x120 i end) (λ _ L. SameOutside W M L) N
   unfolding fixPair
   does-pair i end {M} {N} l k =
       does-field (0xc0 + 8 * i) _ (omega arith) (omega arith)
@@ -78,26 +78,26 @@ module _ (m : Image) (laid : WellLaid m) (low : Low (Area m)) where
           : (t c : ℕ) → Dec (0xc0 + 8 * i < 0x120)
           → Does X
           (if ltb (0xc0 + 8 * i) 0x120 then ret (if eqb c 0 then end else max end (entryAt t c (getD tableEntrySizes i 0)))
-          else (setField base (0xc0 + 8 * i + 4) 0 >>= λ _. ret end)) (λ _ L. Kept W M L) N
+          else (setField base (0xc0 + 8 * i + 4) 0 >>= λ _. ret end)) (λ _ L. SameOutside W M L) N
       go t c (yes h) = rw (lt-ltb (0xc0 + 8 * i) 0x120 h) (does-ret X k)
       go t c (no h) =
           rw (le-ltb (0xc0 + 8 * i) 0x120 (omega arith))
           (does-then X (setField base (0xc0 + 8 * i + 4) 0) (λ _. ret end)
           (sets-field (0xc0 + 8 * i + 4) 0 (omega arith) (omega arith) (λ q g. inr (omega arith, omega arith)) k) (λ _ L e. does-ret X e))
 
-  does-ends : (v : ℕ) {M N : Memory} → Kept W M N → Does X (endTables base 0x120 v) (λ _ L. Kept W M L) N
+  does-ends : (v : ℕ) {M N : Memory} → SameOutside W M N → Does X (endTables base 0x120 v) (λ _ L. SameOutside W M L) N
   unfolding endTables
   does-ends v {M} {N} k =
-      does-loop X (λ i _. setField base (0x120 + 8 * i) v) (λ _ _ L. Kept W M L) 0 3 (tt {0}) N
+      does-loop X (λ i _. setField base (0x120 + 8 * i) v) (λ _ _ L. SameOutside W M L) 0 3 (tt {0}) N
       (λ j b L l g h. sets-field (0x120 + 8 * j) v (omega arith) (omega arith) (λ q i. inr (omega arith, omega arith)) h) k
 
-  does-from : (M : Memory) → Does X (fixFrom base whole 0x120) (λ _ N. Kept W M N) M
+  does-from : (M : Memory) → Does X (fixFrom base whole 0x120) (λ _ N. SameOutside W M N) M
   unfolding fixFrom
   does-from M =
       does-field 0xb0 _ (lit≤ tt) (lit≤ tt)
       (λ code. does-field 0xb4 _ (lit≤ tt) (lit≤ tt)
       (λ bytes. does-then X (loop (fixPair base 0x120) 0 15 (code ⊕ bytes)) _
-      (does-loop X (fixPair base 0x120) (λ _ _ N. Kept W M N) 0 15 (code ⊕ bytes) M (λ j b N l g h. does-pair j b (omega arith) h) (λ q o. refl))
+      (does-loop X (fixPair base 0x120) (λ _ _ N. SameOutside W M N) 0 15 (code ⊕ bytes) M (λ j b N l g h. does-pair j b (omega arith) h) (λ q o. refl))
       (λ end N k. does-then X (endTables base 0x120 (base ⊕ fixedTo end base whole)) _ (does-ends (base ⊕ fixedTo end base whole) k)
       (λ _ L h. does-then X (setField base 0x98 (fixedTo end base whole)) _
       (sets-field 0x98 (fixedTo end base whole) (lit≤ tt) (lit≤ tt) (λ q i. inl i) h) (λ _ K e. does-ret X e)))))
@@ -108,14 +108,14 @@ module _ (m : Image) (laid : WellLaid m) (low : Low (Area m)) where
     unfolding fix
     fix-none c = rw (ne-eqb level 1 c, ne-eqb level 2 a, ne-eqb level 3 b) refl
 
-    does-fix : (M : Memory) → Does X (fix base whole level) (λ _ N. Kept W M N) M
+    does-fix : (M : Memory) → Does X (fix base whole level) (λ _ N. SameOutside W M N) M
     does-fix M = go (ℕ-discrete level 1)
       where
-        go : Dec (level ≡ 1) → Does X (fix base whole level) (λ _ N. Kept W M N) M
+        go : Dec (level ≡ 1) → Does X (fix base whole level) (λ _ N. SameOutside W M N) M
         go (yes e) = rw (e, level-1 base whole) (does-from M)
         go (no e) = rw (fix-none e) (does-ret X (λ q o. refl))
 
-    kept-fixed : (T : Memory) → Kept W T (fixedAt m level T)
+    kept-fixed : (T : Memory) → SameOutside W T (fixedAt m level T)
     unfolding fixedAt
     kept-fixed T = does-fix T .gives
 
@@ -144,7 +144,7 @@ module _ (m : Image) (laid : WellLaid m) (low : Low (Area m)) where
     written o (inl h) = (omega arith, λ l. omega arith)
     written o (inr h) = (omega arith, λ l. omega arith)
 
-    not-seen : (o : ℕ) → Spot F o → W (base + o) → ⊥
+    not-seen : (o : ℕ) → ReadOffset F o → W (base + o) → ⊥
     unfolding InPart
     not-seen o (in-header p g l) w = let h = written o w in absurd (omega (arith, h .1 g, l))
     not-seen o (in-table n i k l d f g c) w =
@@ -154,14 +154,14 @@ module _ (m : Image) (laid : WellLaid m) (low : Low (Area m)) where
 
     pub fixed-view : {T : Memory} → View m T → View m (fixedAt m level T)
     fixed-view {T} view =
-        view-agree m T (fixedAt m level T) (λ o h. sym (kept-fixed T (base + o) (not-seen o (spot F o h)))) view
+        view-agree m T (fixedAt m level T) (λ o h. sym (kept-fixed T (base + o) (not-seen o (read-offset F o h)))) view
 
     -- the header past the list words does not move
     mark-off : (j : ℕ) → markAt m j ≡ base + (entry F externals j + 6)
     unfolding markAt
     mark-off j = refl
 
-    still : (q : ℕ) → X q → Moving m q → ⊥
+    still : (q : ℕ) → X q → VolatileByte m q → ⊥
     unfolding InPart Touched
     still q x (in-word j p k l g) =
         let e : base + (p + k - base) ≡ p + k = omega arith in
@@ -176,12 +176,12 @@ module _ (m : Image) (laid : WellLaid m) (low : Low (Area m)) where
     in-x q (inl h) = (omega arith, omega arith)
     in-x q (inr h) = (omega arith, omega arith)
 
-    unmoved : (M : Memory) (q : ℕ) → Moving m q → runM (fix base whole level) M .1 q ≡ M q
+    unmoved : (M : Memory) (q : ℕ) → VolatileByte m q → runM (fix base whole level) M .1 q ≡ M q
     unmoved M q h = does-fix M .gives q (λ w. still q (in-x q w) h)
 
     -- the bytes at rest are fixed as if nothing had moved
     rest-fixed
-        : {T M : Memory} → ((q : ℕ) → Area m q → (Moving m q → ⊥) → M q ≡ T q) → (q : ℕ) → Area m q → (Moving m q → ⊥)
+        : {T M : Memory} → ((q : ℕ) → Area m q → (VolatileByte m q → ⊥) → M q ≡ T q) → (q : ℕ) → Area m q → (VolatileByte m q → ⊥)
         → runM (fix base whole level) M .1 q ≡ fixedAt m level T q
     unfolding fixedAt
     rest-fixed {T} {M} r q s o =

@@ -2,21 +2,19 @@
 use Prim.Native.Nat.{ℕ, zero, suc, pred, _+_, _-_, _^_, _≤_, _<_}
 use mathlib.Core.Path.{_≡_, refl, sym, ap, _∙_, subst}
 use mathlib.Core.Logic.{_≢_}
-use mathlib.Core.Bool.{Bool, true, false}
 use native.Mathlib.Omega.{arith}
 use native.Mathlib.Decide.{decLt, ℕ-discrete}
-use lib.Dec.{eqb, ltb, lit<}
+use lib.Dec.{eqb, ltb}
 use borrow.Author.Tests.{eq-eqb, ne-eqb, lt-ltb, le-ltb}
 use Rattle.window.specs.Memory.{if_then_else_}
-use Rattle.window.specs.Access.{Prog, ret, _>>=_, _>>_}
+use Rattle.window.specs.Access.{ret, _>>=_, _>>_}
 use Rattle.layout.specs.Segments.{field, setField}
 use Rattle.linker_spec.specs.Lists.{headLeaves, middleLeaves, newTail, tailLeaves, otherLeaves, leaves, unregister}
-use Rattle.history.specs.Arrival.{Image, baseOf, sizeOf}
-use Rattle.history.specs.Steps.Wp.{Memory, Does, Reads, does-mono, does-ret, does-then, does-read}
+use Rattle.history.specs.Steps.Wp.{Memory, Does, does-mono, does-ret, does-then, does-read}
 use Rattle.history.specs.Steps.Parts.{image-area}
 use Rattle.history.specs.Steps.Links.{Links}
-use Rattle.history.specs.Steps.World.{Cast, Sound, World, All, base, put, put-same, put-other, sets-next, sets-previous, reads-next, reads-previous}
-use Rattle.history.specs.Steps.Listing.{nextIn, previousIn, Listed, next-more, next-last, base-low}
+use Rattle.history.specs.Steps.AllModulesShow.{Modules, Sound, AllModulesShow, All, base, put, put-same, put-other, sets-next, sets-previous, reads-next, reads-previous}
+use Rattle.history.specs.Steps.Listing.{nextIn, previousIn, ListWords, next-more, next-last, base-low}
 
 -- the numbers without d
 unfoldable pub skip : ℕ → ℕ → ℕ
@@ -68,7 +66,7 @@ unfolding previousIn
 previous-0 b n = refl
 
 -- n modules listed; number d leaves
-module _ (b : ℕ → ℕ) (n d : ℕ) (above : 0 < d) (below : d < n) {x y : ℕ → ℕ} (h : Listed b n x y) where
+module _ (b : ℕ → ℕ) (n d : ℕ) (above : 0 < d) (below : d < n) {x y : ℕ → ℕ} (h : ListWords b n x y) where
   -- the one before it gets the one after it, or 0
   pub next-left : (i : ℕ) → i < pred n → put x (pred d) (nextIn b n d) (skip d i) ≡ nextIn (λ k. b (skip d k)) (pred n) i
   next-left i l = go (decLt i d) (ℕ-discrete i (pred d))
@@ -171,7 +169,7 @@ skip-not d i e = go (decLt i d)
     go (yes l) = omega (arith, e, skip-low d i l)
     go (no l) = omega (arith, e, skip-high d i (omega arith))
 
-module _ (C : Cast) (sound : Sound C) (nonzero : (k : ℕ) → k < C .number → base C sound k ≢ 0) where
+module _ (C : Modules) (sound : Sound C) (nonzero : (k : ℕ) → k < C .number → base C sound k ≢ 0) where
   abbrev S : ℕ → Type 0
   S = All C sound
 
@@ -184,13 +182,13 @@ module _ (C : Cast) (sound : Sound C) (nonzero : (k : ℕ) → k < C .number →
       sound .apart j k (b j + 0) l g o (image-area (C .image j) (sound .laid j l) 0 (omega (arith, sound .laid j l .alone .header-inside)))
       (rw e (image-area (C .image k) (sound .laid k g) 0 (omega (arith, sound .laid k g .alone .header-inside))))
 
-  module _ (n d : ℕ) (all : C .number ≡ n) (above : 0 < d) (below : d < n) (φ : ℕ → Links) (x y : ℕ → ℕ) (h : Listed b n x y) where
+  module _ (n d : ℕ) (all : C .number ≡ n) (above : 0 < d) (below : d < n) (φ : ℕ → Links) (x y : ℕ → ℕ) (h : ListWords b n x y) where
     inside : (k : ℕ) → k < n → k < C .number
     inside k l = rw all l
 
     -- the list words of the others are those of the list without d
-    abbrev Gone : Memory → Type 0
-    Gone N = (u : ℕ → ℕ) × (t : ℕ → ℕ) × World C φ u t N × Listed (λ k. b (skip d k)) (pred n) (λ k. u (skip d k)) (λ k. t (skip d k))
+    abbrev ListWithout : Memory → Type 0
+    ListWithout N = (u : ℕ → ℕ) × (t : ℕ → ℕ) × AllModulesShow C φ u t N × ListWords (λ k. b (skip d k)) (pred n) (λ k. u (skip d k)) (λ k. t (skip d k))
 
     next-is : x d ≡ nextIn b n d
     next-is = h .nexts d below
@@ -227,19 +225,19 @@ module _ (C : Cast) (sound : Sound C) (nonzero : (k : ℕ) → k < C .number →
     other-is = h .previouses 0 (omega arith) ∙ previous-0 b n
 
     gone
-        : {M : Memory} (t : ℕ → ℕ) → World C φ (put x (pred d) (nextIn b n d)) t M
-        → ((i : ℕ) → i < pred n → t (skip d i) ≡ previousIn (λ k. b (skip d k)) (pred n) i) → Gone M
+        : {M : Memory} (t : ℕ → ℕ) → AllModulesShow C φ (put x (pred d) (nextIn b n d)) t M
+        → ((i : ℕ) → i < pred n → t (skip d i) ≡ previousIn (λ k. b (skip d k)) (pred n) i) → ListWithout M
     gone t w f = (put x (pred d) (nextIn b n d), t, w, record { nexts = next-left b n d above below h; previouses = f })
 
     -- the head leaves
-    head-goes : {M : Memory} → d ≡ 1 → World C φ x y M → Does S (headLeaves (b 0) 0x88 (nextIn b n d) (previousIn b n d)) (λ _ N. Gone N) M
+    head-goes : {M : Memory} → d ≡ 1 → AllModulesShow C φ x y M → Does S (headLeaves (b 0) 0x88 (nextIn b n d) (previousIn b n d)) (λ _ N. ListWithout N) M
     unfolding headLeaves
     head-goes {M} e w = go (decLt (suc d) n)
       where
         z : 0 ≡ pred d
         z = omega arith
 
-        go : Dec (suc d < n) → Does S (headLeaves (b 0) 0x88 (nextIn b n d) (previousIn b n d)) (λ _ N. Gone N) M
+        go : Dec (suc d < n) → Does S (headLeaves (b 0) 0x88 (nextIn b n d) (previousIn b n d)) (λ _ N. ListWithout N) M
         go (yes l) =
             let m = next-more b n d l in
             does-then S (if eqb (nextIn b n d) 0 then ret tt else setField (nextIn b n d) 0x8c (previousIn b n d)) _
@@ -258,21 +256,21 @@ module _ (C : Cast) (sound : Sound C) (nonzero : (k : ℕ) → k < C .number →
 
     -- one of the middle leaves
     middle-goes
-        : {M : Memory} → suc d < n → 1 < d → World C φ x y M → Does S (middleLeaves (nextIn b n d) (previousIn b n d)) (λ _ N. Gone N) M
+        : {M : Memory} → suc d < n → 1 < d → AllModulesShow C φ x y M → Does S (middleLeaves (nextIn b n d) (previousIn b n d)) (λ _ N. ListWithout N) M
     unfolding middleLeaves
     middle-goes l g w =
         let m = next-more b n d l in
         let p = previous-2 b n d g in
-        does-then S (setField (previousIn b n d) 0x88 (nextIn b n d)) _ {R = λ _ N. World C φ (put x (pred d) (nextIn b n d)) y N}
+        does-then S (setField (previousIn b n d) 0x88 (nextIn b n d)) _ {R = λ _ N. AllModulesShow C φ (put x (pred d) (nextIn b n d)) y N}
         (rw p (sets-next C sound (pred d) (nextIn b n d) (inside (pred d) (omega arith)) w))
         (λ _ N u.
         does-mono S (subst (λ a. Does S (setField a 0x8c (previousIn b n d))
-        (λ _ L. World C φ (put x (pred d) (nextIn b n d)) (put y (suc d) (previousIn b n d)) L) N) (sym m)
+        (λ _ L. AllModulesShow C φ (put x (pred d) (nextIn b n d)) (put y (suc d) (previousIn b n d)) L) N) (sym m)
         (sets-previous C sound (suc d) (previousIn b n d) (inside (suc d) l) u))
         (λ _ L t. gone (put y (suc d) (previousIn b n d)) t (previous-middle b n d above below h l)))
 
     -- the last of several leaves
-    tail-goes : {M : Memory} → suc d ≡ n → 1 < d → World C φ x y M → Does S (tailLeaves (b 0) (b d) (previousIn b n d)) (λ _ N. Gone N) M
+    tail-goes : {M : Memory} → suc d ≡ n → 1 < d → AllModulesShow C φ x y M → Does S (tailLeaves (b 0) (b d) (previousIn b n d)) (λ _ N. ListWithout N) M
     unfolding tailLeaves newTail
     tail-goes {M} s g w =
         let m : nextIn b n d ≡ 0 = next-last b n d (omega arith) in
@@ -283,7 +281,7 @@ module _ (C : Cast) (sound : Sound C) (nonzero : (k : ℕ) → k < C .number →
         rw p
         (does-then S (setField (b (pred d)) 0x88 0) _ (sets-next C sound (pred d) 0 (inside (pred d) (omega arith)) w)
         (λ _ N u.
-        does-then S (newTail (b 0) 0x88 (b d) (b (pred d))) _ {R = λ _ L. World C φ (put x (pred d) 0) (put y 1 (b (pred d))) L}
+        does-then S (newTail (b 0) 0x88 (b d) (b (pred d))) _ {R = λ _ L. AllModulesShow C φ (put x (pred d) 0) (put y 1 (b (pred d))) L}
         (does-read S (field (b 0) 0x88) _ (b 1)
         (rw z₀ at (reads-next C sound 0 (inside 0 (omega arith)) (rw z₀ (base-low C sound nonzero 1 (inside 1 (omega arith)))) u))
         (rw (ne-eqb (b 1) 0 (nonzero 1 (inside 1 (omega arith))))
@@ -296,7 +294,7 @@ module _ (C : Cast) (sound : Sound C) (nonzero : (k : ℕ) → k < C .number →
 
     -- whichever it is
     goes
-        : {M : Memory} → World C φ x y M → Does S (leaves (b 0) (b d) (nextIn b n d) (previousIn b n d)) (λ _ N. Gone N) M
+        : {M : Memory} → AllModulesShow C φ x y M → Does S (leaves (b 0) (b d) (nextIn b n d) (previousIn b n d)) (λ _ N. ListWithout N) M
     unfolding leaves otherLeaves
     goes {M} w =
         does-read S (field (b 0) 0x88) _ (b 1)
@@ -309,7 +307,7 @@ module _ (C : Cast) (sound : Sound C) (nonzero : (k : ℕ) → k < C .number →
             (if eqb (b 1) (b d) then headLeaves (b 0) 0x88 (nextIn b n d) (previousIn b n d) else (field (b 0) 0x8c >>= λ second.
             if eqb second (b d) then headLeaves (b 0) 0x8c (nextIn b n d) (previousIn b n d)
             else otherLeaves (b 0) (b d) (nextIn b n d) (previousIn b n d)))
-            (λ _ N. Gone N) M
+            (λ _ N. ListWithout N) M
         go (yes e) f = rw (eq-eqb (b 1) (b d) (ap b (sym e))) (head-goes e w)
         go (no o) f =
             rw (ne-eqb (b 1) (b d) (distinct 1 d (inside 1 (omega arith)) (inside d below) (λ e. o (sym e))))
@@ -319,14 +317,14 @@ module _ (C : Cast) (sound : Sound C) (nonzero : (k : ℕ) → k < C .number →
           where
             at : Dec (suc d < n)
                 → Does S (if eqb (nextIn b n d) 0 then tailLeaves (b 0) (b d) (previousIn b n d) else middleLeaves (nextIn b n d) (previousIn b n d))
-                (λ _ N. Gone N) M
+                (λ _ N. ListWithout N) M
             at (yes l) =
                 let q : nextIn b n d ≢ 0 = λ e. nonzero (suc d) (inside (suc d) l) (sym (next-more b n d l) ∙ e) in
                 rw (ne-eqb (nextIn b n d) 0 q) (middle-goes l (omega arith) w)
             at (no l) = rw (eq-eqb (nextIn b n d) 0 (next-last b n d (omega arith))) (tail-goes (omega arith) (omega arith) w)
 
     -- its own words are 0 then
-    pub unregisters : {M : Memory} → World C φ x y M → Does S (unregister (b 0) (b d)) (λ _ N. Gone N) M
+    pub unregisters : {M : Memory} → AllModulesShow C φ x y M → Does S (unregister (b 0) (b d)) (λ _ N. ListWithout N) M
     unfolding unregister
     unregisters {M} w =
         does-read S (field (b d) 0x88) _ (nextIn b n d)

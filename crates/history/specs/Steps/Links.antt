@@ -9,17 +9,15 @@ use native.Mathlib.Decide.{decLe, ℕ-discrete}
 use lib.Dec.{eqb}
 use borrow.Author.Tests.{eq-eqb, ne-eqb}
 use Rattle.window.specs.Memory.{if_then_else_}
-use Rattle.window.specs.Access.{Prog}
-use Rattle.window.specs.Loop.{loop}
 use Rattle.window.specs.Within.{Low}
 use Rattle.linker_spec.specs.Relocation.{mark, applyRelocationBatch, batchIsResolved}
 use Rattle.history.specs.Image.{externals, count, entry, endMark}
-use Rattle.history.specs.Arrival.{Image, baseOf, handler, Area}
+use Rattle.history.specs.LoadedModule.{Image, baseOf, handler, Area}
 use Rattle.history.specs.Imports.{Import, Batch, BatchOf}
 use Rattle.history.specs.WellLaid.{WellLaid}
-use Rattle.history.specs.Steps.Wp.{Memory, Does, Reads, does-mono, does-loop}
+use Rattle.history.specs.Steps.Wp.{Memory, Does, ReadsValue, does-mono}
 use Rattle.history.specs.Steps.View.{View}
-use Rattle.history.specs.Steps.Shows.{upd, upd-same, upd-other, Shows}
+use Rattle.history.specs.Steps.ModuleBytes.{upd, upd-same, upd-other, ModuleBytes}
 use Rattle.history.specs.Steps.Batch.{shows-same, Set, batch-does, reads-mark}
 
 -- where the batch that holds entry j begins
@@ -66,7 +64,7 @@ module _ (m : Image) where
 
   -- a standing module with these links and list words
   pub record Stands (T : Memory) (φ : Links) (n v : ℕ) (M : Memory) : Type 0 where
-    pub shows : Shows m T (symbols φ) (marks φ) n v M
+    pub shows : ModuleBytes m T (symbols φ) (marks φ) n v M
 
   first-low : (j : ℕ) → firstOf F j ≤ j
   unfolding firstOf
@@ -134,7 +132,7 @@ module _ (m : Image) where
 
   module _ (laid : WellLaid m) (low : Low (Area m)) {T : Memory} (view : View m T) (n v : ℕ) where
     abbrev base : ℕ
-    base = baseOf (m .coming)
+    base = baseOf (m .loadCall)
 
     -- an import's batch gets an address, or its handler's again
     pub links
@@ -156,7 +154,7 @@ module _ (m : Image) where
     -- and its mark says whether it is linked
     pub reads-linked
         : {φ : Links} {M : Memory} (e : ℕ) → e < count F externals → Stands T φ n v M
-        → Reads (Area m) (batchIsResolved (base + entry F externals e)) (isSome (φ e)) M
+        → ReadsValue (Area m) (batchIsResolved (base + entry F externals e)) (isSome (φ e)) M
     unfolding marks markFor isSome
     reads-linked {φ} {M} e l s =
         does-mono (Area m) (reads-mark m laid low view n v e l (s .shows)) (λ b N h. (h .0 ∙ said (φ e), h .1))

@@ -1,21 +1,20 @@
 -- The list that the title walks: each module's next is the one after it, its previous the one before it, the first one's the last.
-use Prim.Native.Nat.{ℕ, zero, suc, pred, _+_, _-_, _^_, _≤_, _<_}
+use Prim.Native.Nat.{ℕ, zero, suc, pred, _-_, _^_, _≤_, _<_}
 use mathlib.Core.Path.{_≡_, refl, sym, ap, _∙_}
 use mathlib.Core.Logic.{_≢_}
-use mathlib.Core.Bool.{Bool, true, false}
+use mathlib.Core.Bool.{true}
 use native.Mathlib.Omega.{arith}
-use native.Mathlib.Decide.{decLt, ℕ-discrete}
-use lib.Dec.{eqb, ltb, lit<}
-use borrow.Author.Tests.{eq-eqb, ne-eqb, lt-ltb, le-ltb}
+use native.Mathlib.Decide.{ℕ-discrete}
+use lib.Dec.{ltb}
+use borrow.Author.Tests.{ne-eqb, lt-ltb, le-ltb}
 use Rattle.window.specs.Memory.{if_then_else_}
-use Rattle.window.specs.Access.{Prog, ret, _>>=_, _>>_}
+use Rattle.window.specs.Access.{_>>_}
 use Rattle.layout.specs.Segments.{field, setField}
 use Rattle.linker_spec.specs.Lists.{becomesHead, becomesTail, register}
-use Rattle.history.specs.Arrival.{Image, baseOf, sizeOf}
-use Rattle.history.specs.Steps.Wp.{Memory, Does, Reads, does-mono, does-ret, does-then, does-read}
+use Rattle.history.specs.Steps.Wp.{Memory, Does, does-mono, does-then, does-read}
 use Rattle.history.specs.Steps.Reading.{plain-sum}
 use Rattle.history.specs.Steps.Links.{Links}
-use Rattle.history.specs.Steps.World.{Cast, Sound, World, All, base, put, put-same, put-other, sets-next, sets-previous, reads-next, reads-previous}
+use Rattle.history.specs.Steps.AllModulesShow.{Modules, Sound, AllModulesShow, All, base, put, put-same, put-other, sets-next, sets-previous, reads-next, reads-previous}
 
 -- of n modules at these bases, number 0 being the CRS: "The CRS's next heads the auto-linked list", "a head's previous is the tail"
 unfoldable pub nextIn : (ℕ → ℕ) → ℕ → ℕ → ℕ
@@ -26,7 +25,7 @@ previousIn b n zero = 0
 previousIn b n (suc zero) = b (pred n)
 previousIn b n (suc (suc k)) = b (suc k)
 
-pub record Listed (b : ℕ → ℕ) (n : ℕ) (next previous : ℕ → ℕ) : Type 0 where
+pub record ListWords (b : ℕ → ℕ) (n : ℕ) (next previous : ℕ → ℕ) : Type 0 where
   pub nexts : (k : ℕ) → k < n → next k ≡ nextIn b n k
   pub previouses : (k : ℕ) → k < n → previous k ≡ previousIn b n k
 
@@ -39,7 +38,7 @@ unfolding nextIn
 next-last b n k l = rw (le-ltb (suc k) n l) refl
 
 -- one module more, number n: the last one's next is it, the first one's previous too
-module _ (b : ℕ → ℕ) (n : ℕ) (some : 0 < n) {x y : ℕ → ℕ} (h : Listed b n x y) where
+module _ (b : ℕ → ℕ) (n : ℕ) (some : 0 < n) {x y : ℕ → ℕ} (h : ListWords b n x y) where
   next-after : (k : ℕ) → k < suc n → put (put x (pred n) (b n)) n 0 k ≡ nextIn b (suc n) k
   next-after k l = go (ℕ-discrete k n) (ℕ-discrete k (pred n))
     where
@@ -76,7 +75,7 @@ module _ (b : ℕ → ℕ) (n : ℕ) (some : 0 < n) {x y : ℕ → ℕ} (h : Lis
       go (yes e) = let z : pred n ≡ suc k = omega arith in rw e (put-same y n (b (pred n)) ∙ ap b z)
       go (no o) = put-other y n (b (pred n)) (suc (suc k)) o ∙ h .previouses (suc (suc k)) (omega arith)
 
-module _ (C : Cast) (sound : Sound C) (nonzero : (k : ℕ) → k < C .number → base C sound k ≢ 0) where
+module _ (C : Modules) (sound : Sound C) (nonzero : (k : ℕ) → k < C .number → base C sound k ≢ 0) where
   abbrev S : ℕ → Type 0
   S = All C sound
 
@@ -89,13 +88,13 @@ module _ (C : Cast) (sound : Sound C) (nonzero : (k : ℕ) → k < C .number →
 
   -- the new module is number n; the others are listed
   module _ (n : ℕ) (few : C .number ≡ suc n) (some : 0 < n) where
-    abbrev Entered : (ℕ → Links) → Memory → Type 0
-    Entered φ N = (x : ℕ → ℕ) × (y : ℕ → ℕ) × World C φ x y N × Listed b (suc n) x y
+    abbrev ListedAtEnd : (ℕ → Links) → Memory → Type 0
+    ListedAtEnd φ N = (x : ℕ → ℕ) × (y : ℕ → ℕ) × AllModulesShow C φ x y N × ListWords b (suc n) x y
 
     -- alone after the CRS
     first-enters
-        : {φ : ℕ → Links} {x y : ℕ → ℕ} {M : Memory} → n ≡ 1 → World C φ x y M → Listed b n x y
-        → Does S (becomesHead (b 0) 0x88 (b n) >> setField (b n) 0x88 0) (λ _ N. Entered φ N) M
+        : {φ : ℕ → Links} {x y : ℕ → ℕ} {M : Memory} → n ≡ 1 → AllModulesShow C φ x y M → ListWords b n x y
+        → Does S (becomesHead (b 0) 0x88 (b n) >> setField (b n) 0x88 0) (λ _ N. ListedAtEnd φ N) M
     unfolding becomesHead
     first-enters {φ} {x} {y} e w h =
         let z : 0 ≡ pred n = omega arith in
@@ -113,8 +112,8 @@ module _ (C : Cast) (sound : Sound C) (nonzero : (k : ℕ) → k < C .number →
 
     -- after the last one
     later-enters
-        : {φ : ℕ → Links} {x y : ℕ → ℕ} {M : Memory} → 1 < n → World C φ x y M → Listed b n x y
-        → Does S (becomesTail (b 1) (b n) >> setField (b n) 0x88 0) (λ _ N. Entered φ N) M
+        : {φ : ℕ → Links} {x y : ℕ → ℕ} {M : Memory} → 1 < n → AllModulesShow C φ x y M → ListWords b n x y
+        → Does S (becomesTail (b 1) (b n) >> setField (b n) 0x88 0) (λ _ N. ListedAtEnd φ N) M
     unfolding becomesTail previousIn
     later-enters {φ} {x} {y} {M} g w h =
         does-then S (becomesTail (b 1) (b n)) _
@@ -134,12 +133,12 @@ module _ (C : Cast) (sound : Sound C) (nonzero : (k : ℕ) → k < C .number →
         )))
 
     -- the new module goes to the end
-    pub enters : {φ : ℕ → Links} {x y : ℕ → ℕ} {M : Memory} → World C φ x y M → Listed b n x y
-        → Does S (register (b 0) (b n) true) (λ _ N. Entered φ N) M
+    pub enters : {φ : ℕ → Links} {x y : ℕ → ℕ} {M : Memory} → AllModulesShow C φ x y M → ListWords b n x y
+        → Does S (register (b 0) (b n) true) (λ _ N. ListedAtEnd φ N) M
     unfolding register
     enters {φ} {x} {y} {M} w h = go (ℕ-discrete n 1)
       where
-        go : Dec (n ≡ 1) → Does S (register (b 0) (b n) true) (λ _ N. Entered φ N) M
+        go : Dec (n ≡ 1) → Does S (register (b 0) (b n) true) (λ _ N. ListedAtEnd φ N) M
         go (yes e) =
             let z : x 0 ≡ 0 = h .nexts 0 some ∙ next-last b n 0 (omega arith) in
             does-read S (field (b 0) 0x88) _ 0 (rw z at (reads-next C sound 0 (omega arith) (omega (arith, z)) w)) (first-enters e w h)

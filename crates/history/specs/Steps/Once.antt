@@ -4,17 +4,17 @@ use mathlib.Core.Path.{_≡_, refl}
 use mathlib.Core.Logic.{_≢_, _⊎_, inl, inr}
 use native.Mathlib.Omega.{arith}
 use native.Mathlib.Decide.{ℕ-discrete}
-use Rattle.history.specs.Image.{indexedImports, anonymousImports, moduleEntries, count, entry, moduleName}
-use Rattle.history.specs.Arrival.{Image, baseOf}
+use Rattle.history.specs.Image.{moduleEntries, count, entry, moduleName}
+use Rattle.history.specs.LoadedModule.{Image, baseOf}
 use Rattle.history.specs.Imports.{Import, named, indexed, anonymous, importTable, importEntry, IsImport, runStart, runCount, InRun, From, Exports}
 use Rattle.history.specs.WellLaid.{WellLaid}
 use Rattle.history.specs.Demand3.{OtherExports}
-use Rattle.history.specs.Steps.World.{Cast}
-use Rattle.history.specs.Steps.Final.{same-name}
+use Rattle.history.specs.Steps.AllModulesShow.{Modules}
+use Rattle.history.specs.Steps.LinksResolved.{same-name}
 
 -- no base is 0, no module's name comes twice, nor an export's in two modules
-pub record Unlike (C : Cast) : Type 0 where
-  pub nonzero : (k : ℕ) → k < C .number → baseOf (C .image k .coming) ≢ 0
+pub record Unlike (C : Modules) : Type 0 where
+  pub nonzero : (k : ℕ) → k < C .number → baseOf (C .image k .loadCall) ≢ 0
   pub names : (j k : ℕ) → j < C .number → k < C .number → moduleName (C .image j .file) ≡ moduleName (C .image k .file) → j ≡ k
   pub exports : (j k : ℕ) → j < C .number → k < C .number → j ≢ k → OtherExports (C .image j) (C .image k)
 

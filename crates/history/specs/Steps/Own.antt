@@ -20,7 +20,7 @@ use Rattle.register.specs.Read.Read as read
 use Rattle.register.specs.Read.Read.{orElse, lookupIn}
 use Rattle.linker_spec.specs.Imports.{moduleByName}
 use Rattle.history.specs.Image.{moduleEntries, count, entry, nameOf, moduleName}
-use Rattle.history.specs.Arrival.{Image, isCrs, exportOf, Area}
+use Rattle.history.specs.LoadedModule.{Image, isCrs, exportOf, Area}
 use Rattle.history.specs.Imports.{Import, named, indexed, anonymous, IsImport, wanted, InRun, From, Exports, Exporter}
 use Rattle.history.specs.WellLaid.{WellLaid}
 use Rattle.history.specs.Steps.Wp.{Memory}
@@ -28,12 +28,12 @@ use Rattle.history.specs.Steps.View.{View}
 use Rattle.history.specs.Steps.Links.{Links}
 use Rattle.history.specs.Steps.Changes.{Change}
 use Rattle.history.specs.Steps.Turns.{linkTo}
-use Rattle.history.specs.Steps.Records.{Recorded, asSymbol, offer, Asks}
+use Rattle.history.specs.Steps.Records.{Recorded, asSymbol, exportFor, ImportsFrom}
 use Rattle.history.specs.Steps.Runs.{Begins, Linking}
 use Rattle.history.specs.Steps.Entries.{no-run}
 use Rattle.history.specs.Steps.Asking.{true-false, asks-entry}
-use Rattle.history.specs.Steps.Importing.{offerFrom, Named, Run, BySource}
-use Rattle.history.specs.Steps.Final.{Final, exports-offers, offers-exports, either}
+use Rattle.history.specs.Steps.Importing.{exportFrom, NamedBegins, Run, BySource}
+use Rattle.history.specs.Steps.LinksResolved.{LinksResolved, exports-offers, offers-exports, either}
 
 -- the records are those of x 0, x 1 and so on
 unfoldable pub RecordedAll : (ℕ → Image) → List Module → Type 0
@@ -81,17 +81,17 @@ lookup-found x (r ∷ rs) name h o (suc k) p l e =
     (λ i j q t g s a b. let z : suc i ≡ suc j = o (suc i) (suc j) q t (omega arith) (omega arith) a b in omega (arith, z)) k p (omega arith) e
 
 -- the first module of that name, if there is one
-abbrev Source : (ℕ → Image) → List Module → List ℕ → Option Module → Type 0
-Source x ms name o = ((k : ℕ) × (r : Module) × (k < length ms) × (moduleName (x k .file) ≡ name) × Recorded (x k) r × (o ≡ some r)) ⊎ (o ≡ none)
+abbrev FirstNamed : (ℕ → Image) → List Module → List ℕ → Option Module → Type 0
+FirstNamed x ms name o = ((k : ℕ) × (r : Module) × (k < length ms) × (moduleName (x k .file) ≡ name) × Recorded (x k) r × (o ≡ some r)) ⊎ (o ≡ none)
 
-source : (x : ℕ → Image) (ms : List Module) (name : List ℕ) → RecordedAll x ms → Source x ms name (moduleByName ms name)
+source : (x : ℕ → Image) (ms : List Module) (name : List ℕ) → RecordedAll x ms → FirstNamed x ms name (moduleByName ms name)
 unfolding RecordedAll moduleByName
 source x [] name h = inr refl
 source x (r ∷ rs) name h = go (same name (r .name)) refl (source (λ k. x (suc k)) rs name (h .1))
   where
     go
-        : (b : Bool) → same name (r .name) ≡ b → Source (λ k. x (suc k)) rs name (moduleByName rs name)
-        → Source x (r ∷ rs) name (if b then some r else moduleByName rs name)
+        : (b : Bool) → same name (r .name) ≡ b → FirstNamed (λ k. x (suc k)) rs name (moduleByName rs name)
+        → FirstNamed x (r ∷ rs) name (if b then some r else moduleByName rs name)
     go true e s = inl (0, r, omega arith, sym (same-true name (r .name) e ∙ h .0 .name), h .0, refl)
     go false e (inl s) = inl (suc (s .0), s .1, omega (arith, s .2), s .3, s .4, s .5)
     go false e (inr s) = inr s
@@ -101,7 +101,7 @@ pub source-none
     → moduleByName ms name ≡ none
 source-none x ms name h o = go (source x ms name h)
   where
-    go : Source x ms name (moduleByName ms name) → moduleByName ms name ≡ none
+    go : FirstNamed x ms name (moduleByName ms name) → moduleByName ms name ≡ none
     go (inl s) = absurd (o (s .0) (s .2) (s .3))
     go (inr s) = s
 
@@ -137,7 +137,7 @@ source-found x (r ∷ rs) name h o (suc k) l e =
 
 -- n modules stand, the new one m among them, which is no CRS. Only one of them exports to an import, and no two have one name.
 module _ (m : Image) (laid : WellLaid m) (low : Low (Area m)) {T : Memory} (view : View m T) (a b : ℕ) (n : ℕ) (x : ℕ → Image) (ms : List Module)
-    (records : RecordedAll x ms) (few : length ms ≡ n) (no-crs : isCrs (m .coming) ≡ false)
+    (records : RecordedAll x ms) (few : length ms ≡ n) (no-crs : isCrs (m .loadCall) ≡ false)
     (once : (i : Import) (j k p q : ℕ) → j < n → k < n → Exports (x j) m i p → Exports (x k) m i q → j ≡ k)
     (names : (j k : ℕ) → j < n → k < n → moduleName (x j .file) ≡ moduleName (x k .file) → j ≡ k) where
   abbrev F : ℕ → ℕ
@@ -158,13 +158,13 @@ module _ (m : Image) (laid : WellLaid m) (low : Low (Area m)) {T : Memory} (view
 
   -- what a record offers to an import in a run is what its module does
   offers : (j : ℕ) → j < count F moduleEntries → (y : Image) (r : Module) → Recorded y r → (i : Import) → InRun F j i
-      → offerFrom F (some r) i ≡ offer y m i
-  unfolding offerFrom offer
+      → exportFrom F (some r) i ≡ exportFor y m i
+  unfolding exportFrom exportFor
   offers j l y r h (named i) d = absurd (no-run m laid low view a b j l i d)
   offers j l y r h (indexed i) d = h .indexes (wanted F (indexed i))
   offers j l y r h (anonymous i) d = h .anonymous (wanted F (anonymous i))
 
-  module _ {φ ψ : Links} (c : Change (Named m laid low view a b ms) (Linking F LookedUp) (λ _. none) φ)
+  module _ {φ ψ : Links} (c : Change (NamedBegins m laid low view a b ms) (Linking F LookedUp) (λ _. none) φ)
       (d : Change (Run m laid low view a b ms) (BySource m laid low view a b ms) φ ψ) where
     -- an import in a run is no named one
     not-named : (i : Import) → IsImport F i → (e : ℕ) → Begins F i e → (j : ℕ) → j < count F moduleEntries → InRun F j i → φ e ≡ none
@@ -185,19 +185,19 @@ module _ (m : Image) (laid : WellLaid m) (low : Low (Area m)) {T : Memory} (view
     -- an import whose module entry names module k
     by-entry
         : (i : Import) → IsImport F i → (e : ℕ) → Begins F i e → (k : ℕ) → k < n → (p : ℕ) → From F i (moduleName (x k .file))
-        → offer (x k) m i ≡ Symbol.At p → ψ e ≡ some p
+        → exportFor (x k) m i ≡ Symbol.At p → ψ e ≡ some p
     unfolding From linkTo
     by-entry i l e s k g p (j, h, r, z) o =
         let t =
         source-found x ms (nameOf F (word F (entry F moduleEntries j))) records (λ j k g s. names j k (rw (← few) g) (rw (← few) s)) k (rw few g) z in
         d .changed e (j, h, (i, l, r, s)) i l s j h r
-        ∙ ap (λ y. linkTo y (offerFrom F (moduleByName ms (nameOf F (word F (entry F moduleEntries j)))) i)) (not-named i l e s j h r)
-        ∙ ap (λ y. linkTo none (offerFrom F y i)) (t .1)
+        ∙ ap (λ y. linkTo y (exportFrom F (moduleByName ms (nameOf F (word F (entry F moduleEntries j)))) i)) (not-named i l e s j h r)
+        ∙ ap (λ y. linkTo none (exportFrom F y i)) (t .1)
         ∙ ap (linkTo none) (offers j h (x k) (t .0) (t .2) i r ∙ o)
 
     found
         : (i : Import) → IsImport F i → (e : ℕ) → Begins F i e → (k : ℕ) → k < n → (p : ℕ) → Exports (x k) m i p → ψ e ≡ some p
-    unfolding Asks linkTo
+    unfolding ImportsFrom linkTo
     found (named i) l e s k g p h =
         not-run i l e s ∙ c .changed e (i, l, s) (named i) l s ∙ ap (linkTo none) (looked-found i k p g h)
     found (indexed i) l e s k g p h = let o = exports-offers (x k) m (indexed i) p h in by-entry (indexed i) l e s k g p (o .0) (o .1)
@@ -208,28 +208,28 @@ module _ (m : Image) (laid : WellLaid m) (low : Low (Area m)) {T : Memory} (view
       none-named : φ e ≡ none
       unfolding linkTo
       none-named =
-          either (Named m laid low view a b ms e) (φ e) none
+          either (NamedBegins m laid low view a b ms e) (φ e) none
           (λ t.
           let z : i ≡ named (t .0) = laid .alone .own-batch i (named (t .0)) l (t .1) (s ∙ sym (t .2)) in
           c .changed e t (named (t .0)) (t .1) (t .2) ∙ ap (linkTo none) (looked-none (t .0) (rw z at o)))
           (λ t. c .same e t)
 
       no-offer : (j : ℕ) → j < count F moduleEntries → InRun F j i
-          → offerFrom F (moduleByName ms (nameOf F (word F (entry F moduleEntries j)))) i ≡ Symbol.Nothing
-      unfolding offerFrom
+          → exportFrom F (moduleByName ms (nameOf F (word F (entry F moduleEntries j)))) i ≡ Symbol.Nothing
+      unfolding exportFrom
       no-offer j g r = go (source x ms (nameOf F (word F (entry F moduleEntries j))) records)
         where
-          hides : (k : ℕ) → k < n → Asks (x k) m i → (y : Symbol) → offer (x k) m i ≡ y → y ≡ Symbol.Nothing
+          hides : (k : ℕ) → k < n → ImportsFrom (x k) m i → (y : Symbol) → exportFor (x k) m i ≡ y → y ≡ Symbol.Nothing
           hides k t q (Symbol.At p) z = absurd (o k t p (offers-exports (x k) m i p q z))
           hides k t q Symbol.Nothing z = refl
 
-          go : Source x ms (nameOf F (word F (entry F moduleEntries j))) (moduleByName ms (nameOf F (word F (entry F moduleEntries j))))
-              → offerFrom F (moduleByName ms (nameOf F (word F (entry F moduleEntries j)))) i ≡ Symbol.Nothing
+          go : FirstNamed x ms (nameOf F (word F (entry F moduleEntries j))) (moduleByName ms (nameOf F (word F (entry F moduleEntries j))))
+              → exportFrom F (moduleByName ms (nameOf F (word F (entry F moduleEntries j)))) i ≡ Symbol.Nothing
           go (inl (k, y, t, z, h, q)) =
-              ap (λ u. offerFrom F u i) q
+              ap (λ u. exportFrom F u i) q
               ∙ offers j g (x k) y h i r
-              ∙ hides k (rw (← few) t) (asks-entry m laid low view a b (x k) j i g (sym z) r) (offer (x k) m i) refl
-          go (inr q) = ap (λ u. offerFrom F u i) q
+              ∙ hides k (rw (← few) t) (asks-entry m laid low view a b (x k) j i g (sym z) r) (exportFor (x k) m i) refl
+          go (inr q) = ap (λ u. exportFrom F u i) q
 
       missing : ψ e ≡ none
       unfolding linkTo
@@ -238,14 +238,14 @@ module _ (m : Image) (laid : WellLaid m) (low : Low (Area m)) {T : Memory} (view
           (λ t.
           let r : InRun F (t .0) i = rw (laid .alone .own-batch (t .2 .0) i (t .2 .1) l (t .2 .3 ∙ sym s)) at (t .2 .2) in
           d .changed e t i l s (t .0) (t .1) r
-          ∙ ap (λ y. linkTo y (offerFrom F (moduleByName ms (nameOf F (word F (entry F moduleEntries (t .0))))) i)) none-named
+          ∙ ap (λ y. linkTo y (exportFrom F (moduleByName ms (nameOf F (word F (entry F moduleEntries (t .0))))) i)) none-named
           ∙ ap (linkTo none) (no-offer (t .0) (t .1) r))
           (λ t. d .same e t ∙ none-named)
 
     -- the new module's links are at rest
-    pub own-final : Final n x m ψ
+    pub own-resolved : LinksResolved n x m ψ
     unfolding Exporter
-    own-final =
+    own-resolved =
         record {
           found = λ i l e s k g p h. found i l e s k g p (h .0);
           missing = λ i l e s o. missing i l e s (λ k g p h. o k g p (h, (λ t u. true-false (sym t ∙ no-crs))));

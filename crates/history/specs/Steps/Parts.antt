@@ -11,7 +11,7 @@ use Rattle.window.specs.Memory.{if_then_else_}
 use Rattle.window.specs.Within.{In}
 use Rattle.history.specs.Below.{AllBelow, below}
 use Rattle.history.specs.Image.{Table, tables, exportTree, externals, staticAnonymous, staticRelocations, start, count, entry}
-use Rattle.history.specs.Arrival.{Image, baseOf, sizeOf, Area}
+use Rattle.history.specs.LoadedModule.{Image, baseOf, sizeOf, Area}
 use Rattle.history.specs.Imports.{Import, named, indexed, anonymous, importTable, importEntry}
 use Rattle.history.specs.WellLaid.{Part, header, table, string, tableNumber, Pointer, InString, InPart, Asked, Touched, Relocated, WordAt, WellLaid}
 use Rattle.history.specs.Steps.View.{Pointing, name-field, table-field, export-name, import-name, import-batch, entry-name, entry-indexed, entry-anonymous, Plain, handler-tag, table-count, export-tag, indexed-tag, import-index, import-tag, indexed-count, anonymous-count, relocation-tag, relocation-addend, relocation-kind, relocation-end, string-byte, Seen, pointing, plain, byte, segment}
@@ -110,60 +110,60 @@ module _ (F : ℕ → ℕ) where
       )
 
   -- a part that the linker reads, but not the list words and, of the external table, not the marks
-  pub data Spot : ℕ → Type 0 where
-    in-header : (o : ℕ) → 0xac ≤ o → o < 0x118 → Spot o
+  pub data ReadOffset : ℕ → Type 0 where
+    in-header : (o : ℕ) → 0xac ≤ o → o < 0x118 → ReadOffset o
     in-table
         : (n i k : ℕ) → n < 9 → n ≢ 5 → i < count F (tableNumber n) → k < tableNumber n .width
-        → Touched F (table n) (entry F (tableNumber n) i + k) → Spot (entry F (tableNumber n) i + k)
-    in-external : (i k : ℕ) → i < count F externals → k < 12 → k ≢ 6 → Spot (entry F externals i + k)
-    in-string : (p o : ℕ) → Pointer F p → p ≢ 0 → InString F p o → o < p + 512 → Spot o
+        → Touched F (table n) (entry F (tableNumber n) i + k) → ReadOffset (entry F (tableNumber n) i + k)
+    in-external : (i k : ℕ) → i < count F externals → k < 12 → k ≢ 6 → ReadOffset (entry F externals i + k)
+    in-string : (p o : ℕ) → Pointer F p → p ≢ 0 → InString F p o → o < p + 512 → ReadOffset o
 
-  at-sum : {o q : ℕ} → Spot o → o ≡ q → Spot q
+  at-sum : {o q : ℕ} → ReadOffset o → o ≡ q → ReadOffset q
   at-sum s e = rw (← e) s
 
-  spot-pointing : (o k : ℕ) → k < 4 → Pointing F o → Spot (o + k)
+  read-offset-pointing : (o k : ℕ) → k < 4 → Pointing F o → ReadOffset (o + k)
   unfolding tables importEntry Asked
-  spot-pointing o k l name-field = in-header (0xc0 + k) (omega arith) (omega arith)
-  spot-pointing o k l (table-field n h) = let b = field-bounds n h in in-header (tableNumber n .field + k) (omega (arith, b)) (omega (arith, b))
-  spot-pointing o k l (export-name i h) = in-table 1 i k (lit< tt) (omega arith) h (omega arith) (touched-other 1 _ refl)
-  spot-pointing o k l (import-name i h) = in-table 6 i k (lit< tt) (omega arith) h (omega arith) (touched-import 6 (named i) refl k (omega arith) (λ a. tt))
-  spot-pointing o k l (import-batch (named i) h) =
+  read-offset-pointing o k l name-field = in-header (0xc0 + k) (omega arith) (omega arith)
+  read-offset-pointing o k l (table-field n h) = let b = field-bounds n h in in-header (tableNumber n .field + k) (omega (arith, b)) (omega (arith, b))
+  read-offset-pointing o k l (export-name i h) = in-table 1 i k (lit< tt) (omega arith) h (omega arith) (touched-other 1 _ refl)
+  read-offset-pointing o k l (import-name i h) = in-table 6 i k (lit< tt) (omega arith) h (omega arith) (touched-import 6 (named i) refl k (omega arith) (λ a. tt))
+  read-offset-pointing o k l (import-batch (named i) h) =
       at-sum (in-table 6 i (4 + k) (lit< tt) (omega arith) h (omega arith) (touched-import 6 (named i) refl (4 + k) (omega arith) (λ a. tt))) (omega arith)
-  spot-pointing o k l (import-batch (indexed i) h) =
+  read-offset-pointing o k l (import-batch (indexed i) h) =
       at-sum (in-table 7 i (4 + k) (lit< tt) (omega arith) h (omega arith) (touched-import 7 (indexed i) refl (4 + k) (omega arith) (λ a. absurd (omega arith)))) (omega arith)
-  spot-pointing o k l (import-batch (anonymous i) h) =
+  read-offset-pointing o k l (import-batch (anonymous i) h) =
       at-sum (in-table 8 i (4 + k) (lit< tt) (omega arith) h (omega arith) (touched-import 8 (anonymous i) refl (4 + k) (omega arith) (λ a. absurd (omega arith)))) (omega arith)
-  spot-pointing o k l (entry-name j h) = in-table 4 j k (lit< tt) (omega arith) h (omega arith) (touched-other 4 _ refl)
-  spot-pointing o k l (entry-indexed j h) =
+  read-offset-pointing o k l (entry-name j h) = in-table 4 j k (lit< tt) (omega arith) h (omega arith) (touched-other 4 _ refl)
+  read-offset-pointing o k l (entry-indexed j h) =
       at-sum (in-table 4 j (4 + k) (lit< tt) (omega arith) h (omega arith) (touched-other 4 _ refl)) (omega arith)
-  spot-pointing o k l (entry-anonymous j h) =
+  read-offset-pointing o k l (entry-anonymous j h) =
       at-sum (in-table 4 j (12 + k) (lit< tt) (omega arith) h (omega arith) (touched-other 4 _ refl)) (omega arith)
 
-  spot-plain : (o k : ℕ) → k < 4 → Plain F o → Spot (o + k)
+  read-offset-plain : (o k : ℕ) → k < 4 → Plain F o → ReadOffset (o + k)
   unfolding tables importEntry
-  spot-plain o k l handler-tag = in-header (0xac + k) (omega arith) (omega arith)
-  spot-plain o k l (table-count n h) =
+  read-offset-plain o k l handler-tag = in-header (0xac + k) (omega arith) (omega arith)
+  read-offset-plain o k l (table-count n h) =
       let b = field-bounds n h in in-header (tableNumber n .field + 4 + k) (omega (arith, b)) (omega (arith, b))
-  spot-plain o k l (export-tag i h) =
+  read-offset-plain o k l (export-tag i h) =
       at-sum (in-table 1 i (4 + k) (lit< tt) (omega arith) h (omega arith) (touched-other 1 _ refl)) (omega arith)
-  spot-plain o k l (indexed-tag i h) = in-table 2 i k (lit< tt) (omega arith) h (omega arith) (touched-other 2 _ refl)
-  spot-plain o k l (import-index i h a) = in-table 7 i k (lit< tt) (omega arith) h (omega arith) (touched-import 7 (indexed i) refl k (omega arith) (λ _. a))
-  spot-plain o k l (import-tag i h a) = in-table 8 i k (lit< tt) (omega arith) h (omega arith) (touched-import 8 (anonymous i) refl k (omega arith) (λ _. a))
-  spot-plain o k l (indexed-count j h) =
+  read-offset-plain o k l (indexed-tag i h) = in-table 2 i k (lit< tt) (omega arith) h (omega arith) (touched-other 2 _ refl)
+  read-offset-plain o k l (import-index i h a) = in-table 7 i k (lit< tt) (omega arith) h (omega arith) (touched-import 7 (indexed i) refl k (omega arith) (λ _. a))
+  read-offset-plain o k l (import-tag i h a) = in-table 8 i k (lit< tt) (omega arith) h (omega arith) (touched-import 8 (anonymous i) refl k (omega arith) (λ _. a))
+  read-offset-plain o k l (indexed-count j h) =
       at-sum (in-table 4 j (8 + k) (lit< tt) (omega arith) h (omega arith) (touched-other 4 _ refl)) (omega arith)
-  spot-plain o k l (anonymous-count j h) =
+  read-offset-plain o k l (anonymous-count j h) =
       at-sum (in-table 4 j (16 + k) (lit< tt) (omega arith) h (omega arith) (touched-other 4 _ refl)) (omega arith)
-  spot-plain o k l (relocation-tag j h) = in-external j k h (omega arith) (omega arith)
-  spot-plain o k l (relocation-addend j h) = at-sum (in-external j (8 + k) h (omega arith) (omega arith)) (omega arith)
+  read-offset-plain o k l (relocation-tag j h) = in-external j k h (omega arith) (omega arith)
+  read-offset-plain o k l (relocation-addend j h) = at-sum (in-external j (8 + k) h (omega arith) (omega arith)) (omega arith)
 
-  pub spot : (o : ℕ) → Seen F o → Spot o
+  pub read-offset : (o : ℕ) → Seen F o → ReadOffset o
   unfolding tables
-  spot o (pointing p k l h) = spot-pointing p k l h
-  spot o (plain p k l h) = spot-plain p k l h
-  spot o (byte p (relocation-kind j h)) = in-external j 4 h (lit< tt) (omega arith)
-  spot o (byte p (relocation-end j h)) = in-external j 5 h (lit< tt) (omega arith)
-  spot o (byte p (string-byte q r h z i l)) = in-string q r h z i l
-  spot o (segment i k l h) = in-table 0 i k (lit< tt) (omega arith) h l (touched-other 0 _ refl)
+  read-offset o (pointing p k l h) = read-offset-pointing p k l h
+  read-offset o (plain p k l h) = read-offset-plain p k l h
+  read-offset o (byte p (relocation-kind j h)) = in-external j 4 h (lit< tt) (omega arith)
+  read-offset o (byte p (relocation-end j h)) = in-external j 5 h (lit< tt) (omega arith)
+  read-offset o (byte p (string-byte q r h z i l)) = in-string q r h z i l
+  read-offset o (segment i k l h) = in-table 0 i k (lit< tt) (omega arith) h l (touched-other 0 _ refl)
 
   -- an entry's bytes lie in its table
   pub entry-in-table
@@ -172,23 +172,23 @@ module _ (F : ℕ → ℕ) where
   entry-in-table n i k l h g =
       let r = row i (count F (tableNumber n)) (tableNumber n .width) k h g in (l, (omega arith, omega (arith, r)))
 
-  -- a spot lies in a part that the linker reads
-  pub spot-part : (o : ℕ) → Spot o → (r : Part) × InPart F r o × Touched F r o
+  -- an offset that is read lies in a part that the linker reads
+  pub read-offset-part : (o : ℕ) → ReadOffset o → (r : Part) × InPart F r o × Touched F r o
   unfolding InPart Touched tables
-  spot-part o (in-header p g l) = (header, omega arith, tt)
-  spot-part o (in-table n i k l b h g a) = (table n, entry-in-table n i k (omega arith) h g, a)
-  spot-part o (in-external i k h g e) = (table 5, entry-in-table 5 i k (lit< tt) h g, touched-other 5 _ refl)
-  spot-part o (in-string p q h z i l) = (string p, (h, z, i), l)
+  read-offset-part o (in-header p g l) = (header, omega arith, tt)
+  read-offset-part o (in-table n i k l b h g a) = (table n, entry-in-table n i k (omega arith) h g, a)
+  read-offset-part o (in-external i k h g e) = (table 5, entry-in-table 5 i k (lit< tt) h g, touched-other 5 _ refl)
+  read-offset-part o (in-string p q h z i l) = (string p, (h, z, i), l)
 
 module _ (m : Image) (laid : WellLaid m) where
   abbrev F₀ : ℕ → ℕ
   F₀ = m .file
 
   abbrev base : ℕ
-  base = baseOf (m .coming)
+  base = baseOf (m .loadCall)
 
   abbrev whole : ℕ
-  whole = sizeOf (m .coming)
+  whole = sizeOf (m .loadCall)
 
   -- a part lies in the image
   pub part-inside : (r : Part) (o : ℕ) → InPart F₀ r o → o < whole
@@ -212,8 +212,8 @@ module _ (m : Image) (laid : WellLaid m) where
   unfolding Area
   image-area o l = inl (omega arith, omega arith)
 
-  pub spot-inside : (o : ℕ) → Spot F₀ o → o < whole
-  spot-inside o s = let t = spot-part F₀ o s in part-inside (t .0) o (t .1)
+  pub read-offset-inside : (o : ℕ) → ReadOffset F₀ o → o < whole
+  read-offset-inside o s = let t = read-offset-part F₀ o s in part-inside (t .0) o (t .1)
 
   -- two parts have no offset in common
   pub apart : (r s : Part) (o : ℕ) → r ≢ s → InPart F₀ r o → InPart F₀ s o → ⊥
@@ -227,26 +227,26 @@ module _ (m : Image) (laid : WellLaid m) where
   unfolding InPart
   past-header o r n h = elim (decLt o 0x90) [ yes l ↦ absurd (apart header r o n (omega arith) h) | no l ↦ omega arith ]
 
-  -- a spot is no mark
-  pub spot-no-mark : (o : ℕ) → Spot F₀ o → (j : ℕ) → j < count F₀ externals → o ≢ entry F₀ externals j + 6
+  -- an offset that is read is no mark
+  pub read-offset-no-mark : (o : ℕ) → ReadOffset F₀ o → (j : ℕ) → j < count F₀ externals → o ≢ entry F₀ externals j + 6
   unfolding InPart tables entry
-  spot-no-mark o (in-header p g l) j h e =
+  read-offset-no-mark o (in-header p g l) j h e =
       apart header (table 5) o (λ z. absurd (omega (arith, ap sort z))) (omega arith) (rw e (external-part j 6 h (lit< tt)))
-  spot-no-mark o (in-table n i k l b f g a) j h e =
+  read-offset-no-mark o (in-table n i k l b f g a) j h e =
       apart (table n) (table 5) o (λ z. b (ap number z)) (entry-in-table F₀ n i k (omega arith) f g) (rw e (external-part j 6 h (lit< tt)))
-  spot-no-mark o (in-external i k f g n) j h e = n (omega arith)
-  spot-no-mark o (in-string p q f z i l) j h e =
+  read-offset-no-mark o (in-external i k f g n) j h e = n (omega arith)
+  read-offset-no-mark o (in-string p q f z i l) j h e =
       apart (string p) (table 5) o (λ z. absurd (omega (arith, ap sort z))) (f, z, i) (rw e (external-part j 6 h (lit< tt)))
 
   -- nor in the list words
-  pub spot-no-list : (o : ℕ) → Spot F₀ o → 0x90 ≤ o
+  pub read-offset-no-list : (o : ℕ) → ReadOffset F₀ o → 0x90 ≤ o
   unfolding InPart
-  spot-no-list o (in-header p g l) = omega arith
-  spot-no-list o (in-table n i k l b f g a) =
+  read-offset-no-list o (in-header p g l) = omega arith
+  read-offset-no-list o (in-table n i k l b f g a) =
       past-header o (table n) (λ z. absurd (omega (arith, ap sort z))) (entry-in-table F₀ n i k (omega arith) f g)
-  spot-no-list o (in-external i k f g n) = past-header o (table 5) (λ z. absurd (omega (arith, ap sort z))) (external-part i k f g)
-  spot-no-list o (in-string p q f z i l) = past-header o (string p) (λ z. absurd (omega (arith, ap sort z))) (f, z, i)
+  read-offset-no-list o (in-external i k f g n) = past-header o (table 5) (λ z. absurd (omega (arith, ap sort z))) (external-part i k f g)
+  read-offset-no-list o (in-string p q f z i l) = past-header o (string p) (λ z. absurd (omega (arith, ap sort z))) (f, z, i)
 
   -- nor in a relocated word
-  pub spot-no-word : (o : ℕ) → Spot F₀ o → (r : Relocated) (p : ℕ) → WordAt m r p → In p 4 (base + o) → ⊥
-  spot-no-word o s r p h i = let t = spot-part F₀ o s in laid .in-place .words-off r p h (t .0) o (t .1) (t .2) i
+  pub read-offset-no-word : (o : ℕ) → ReadOffset F₀ o → (r : Relocated) (p : ℕ) → WordAt m r p → In p 4 (base + o) → ⊥
+  read-offset-no-word o s r p h i = let t = read-offset-part F₀ o s in laid .in-place .words-off r p h (t .0) o (t .1) (t .2) i

@@ -12,32 +12,32 @@ use Rattle.window.specs.Access.{Prog, ret, _>>=_}
 use Rattle.register.specs.Module.{Module}
 use Rattle.linker_spec.specs.Imports.{serve, applyExportsToLoaded}
 use Rattle.linker_spec.specs.Resets.{resetImports, resetImporters}
-use Rattle.history.specs.Arrival.{Image, Area}
+use Rattle.history.specs.LoadedModule.{Image, Area}
 use Rattle.history.specs.Steps.Wp.{Memory, Does, does-mono, does-ret, does-then}
 use Rattle.history.specs.Steps.Links.{Links, Stands}
 use Rattle.history.specs.Steps.Changes.{Change}
-use Rattle.history.specs.Steps.Records.{Recorded, offer}
+use Rattle.history.specs.Steps.Records.{Recorded, exportFor}
 use Rattle.history.specs.Steps.Runs.{Linking}
 use Rattle.history.specs.Steps.Serving.{Served, serves}
 use Rattle.history.specs.Steps.Resetting.{Dropped, resets-all}
-use Rattle.history.specs.Steps.World.{Cast, Sound, World, All, focus, again, put, put-same, put-other, world-same}
+use Rattle.history.specs.Steps.AllModulesShow.{Modules, Sound, AllModulesShow, All, focus, again, put, put-same, put-other, modules-show-same}
 use Rattle.history.specs.Steps.Leaving.{skip, skip-low, skip-not, skip-below, skip-back, skip-other}
 use Rattle.history.specs.Steps.Own.{RecordedAll}
 
-module _ (C : Cast) (sound : Sound C) where
+module _ (C : Modules) (sound : Sound C) where
   abbrev S : ℕ → Type 0
   S = All C sound
 
   -- links of module k that change, whatever they become
   changes-one
-      : {φ : ℕ → Links} {n v : ℕ → ℕ} {M : Memory} (k : ℕ) → k < C .number → (m : Prog (Unit {0})) {P : Links → Type 0} → World C φ n v M
+      : {φ : ℕ → Links} {n v : ℕ → ℕ} {M : Memory} (k : ℕ) → k < C .number → (m : Prog (Unit {0})) {P : Links → Type 0} → AllModulesShow C φ n v M
       → Does (Area (C .image k)) m (λ _ N. (ψ : Links) × Stands (C .image k) (C .rest k) ψ (n k) (v k) N × P ψ) M
-      → Does S m (λ _ N. (ψ : Links) × World C (put φ k ψ) n v N × P ψ) M
+      → Does S m (λ _ N. (ψ : Links) × AllModulesShow C (put φ k ψ) n v N × P ψ) M
   changes-one {φ} {n} {v} {M} k l m {P} w h =
       let ψ = h .gives .0 in
       does-mono S
       (focus C sound k l m {Q = λ _ _. P ψ} (λ _ _. ψ) (n k) (v k) w (record { lies = h .lies; gives = (h .gives .2, h .gives .1) }))
-      (λ _ N g. (ψ, world-same C sound (λ j. refl) (again C sound n k) (again C sound v k) (g .1), g .0))
+      (λ _ N g. (ψ, modules-show-same C sound (λ j. refl) (again C sound n k) (again C sound v k) (g .1), g .0))
 
   -- a program that does the same to each of a list of modules, P saying what it does to the links of number k
   module _ (program : List Module → Prog (Unit {0})) (body : Module → Prog (Unit {0})) (P : ℕ → Links → Links → Type 0)
@@ -49,10 +49,10 @@ module _ (C : Cast) (sound : Sound C) where
     pub in-turn
         : (s : ℕ → ℕ) (rs : List Module) → ((k : ℕ) → k < length rs → s k < C .number)
         → ((j k : ℕ) → j < length rs → k < length rs → s j ≡ s k → j ≡ k) → RecordedAll (λ k. C .image (s k)) rs
-        → {φ : ℕ → Links} {n v : ℕ → ℕ} {M : Memory} → World C φ n v M
+        → {φ : ℕ → Links} {n v : ℕ → ℕ} {M : Memory} → AllModulesShow C φ n v M
         → Does S (program rs)
         (λ _ N.
-        (ψ : ℕ → Links) × World C ψ n v N × ((k : ℕ) → k < length rs → P (s k) (φ (s k)) (ψ (s k)))
+        (ψ : ℕ → Links) × AllModulesShow C ψ n v N × ((k : ℕ) → k < length rs → P (s k) (φ (s k)) (ψ (s k)))
         × ((j : ℕ) → ((k : ℕ) → k < length rs → s k ≢ j) → ψ j ≡ φ j))
         M
     unfolding RecordedAll
@@ -88,20 +88,20 @@ module _ (C : Cast) (sound : Sound C) where
         kept χ ψ g j o = g j (λ k l. o (suc k) (omega arith)) ∙ put-other φ (s 0) χ j (λ e. o 0 (omega arith) (sym e))
 
   -- the exports of x reach the first k modules
-  pub serves-world
+  pub serves-modules-show
       : (x : Image) (r : Module) → Recorded x r → (k : ℕ) (rs : List Module) → length rs ≡ k → k ≤ C .number → RecordedAll (C .image) rs
-      → {φ : ℕ → Links} {n v : ℕ → ℕ} {M : Memory} → World C φ n v M
+      → {φ : ℕ → Links} {n v : ℕ → ℕ} {M : Memory} → AllModulesShow C φ n v M
       → Does S (applyExportsToLoaded r rs)
       (λ _ N.
-      (ψ : ℕ → Links) × World C ψ n v N
-      × ((j : ℕ) → j < k → Change (Served x (C .image j)) (Linking (C .image j .file) (offer x (C .image j))) (φ j) (ψ j))
+      (ψ : ℕ → Links) × AllModulesShow C ψ n v N
+      × ((j : ℕ) → j < k → Change (Served x (C .image j)) (Linking (C .image j .file) (exportFor x (C .image j))) (φ j) (ψ j))
       × ((j : ℕ) → k ≤ j → ψ j ≡ φ j))
       M
   unfolding applyExportsToLoaded
-  serves-world x r rec k rs few all h w =
+  serves-modules-show x r rec k rs few all h w =
       does-mono S
       (in-turn (applyExportsToLoaded r) (λ t. serve r (t .base))
-      (λ j. Change (Served x (C .image j)) (Linking (C .image j .file) (offer x (C .image j)))) nil cons each (λ j. j) rs (λ j l. omega arith)
+      (λ j. Change (Served x (C .image j)) (Linking (C .image j .file) (exportFor x (C .image j)))) nil cons each (λ j. j) rs (λ j l. omega arith)
       (λ i j l g e. e) h w)
       (λ _ N t. (t .0, t .1, (λ j l. t .2 j (omega arith)), (λ j l. t .3 j (λ i g e. omega arith))))
     where
@@ -116,21 +116,21 @@ module _ (C : Cast) (sound : Sound C) where
           → Does (Area (C .image k)) (serve r (t .base))
           (λ _ N.
           (ψ : Links) × Stands (C .image k) (C .rest k) ψ n v N
-          × Change (Served x (C .image k)) (Linking (C .image k .file) (offer x (C .image k))) φ ψ)
+          × Change (Served x (C .image k)) (Linking (C .image k .file) (exportFor x (C .image k))) φ ψ)
           M
       each k l t h φ n v M s = rw (h .base) (serves (C .image k) (sound .laid k l) (sound .low k l) (sound .view k l) n v x r rec s)
 
   -- x, number d, leaves: the others' links to it go
-  pub resets-world
+  pub resets-modules-show
       : (x : Image) (r : Module) → Recorded x r → (d : ℕ) (rs : List Module) → d < C .number → length rs ≡ pred (C .number)
-      → RecordedAll (λ k. C .image (skip d k)) rs → {φ : ℕ → Links} {n v : ℕ → ℕ} {M : Memory} → World C φ n v M
+      → RecordedAll (λ k. C .image (skip d k)) rs → {φ : ℕ → Links} {n v : ℕ → ℕ} {M : Memory} → AllModulesShow C φ n v M
       → Does S (resetImporters r rs)
       (λ _ N.
-      (ψ : ℕ → Links) × World C ψ n v N
+      (ψ : ℕ → Links) × AllModulesShow C ψ n v N
       × ((j : ℕ) → j < C .number → j ≢ d → Change (Dropped x (C .image j)) (λ e y z. z ≡ none) (φ j) (ψ j)) × (ψ d ≡ φ d))
       M
   unfolding resetImporters
-  resets-world x r rec d rs below few h {φ} w =
+  resets-modules-show x r rec d rs below few h {φ} w =
       does-mono S
       (in-turn (resetImporters r) (λ t. if t .auto then resetImports r (t .base) else ret tt)
       (λ j. Change (Dropped x (C .image j)) (λ e y z. z ≡ none)) nil cons each (skip d) rs

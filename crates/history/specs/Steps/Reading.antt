@@ -1,32 +1,28 @@
 -- Reading a module that shows its view: fields, segments, tags, the handler and names are what the image says.
-use Prim.Native.Nat.{ℕ, zero, suc, _+_, _*_, _%_, _^_, _≤_, _<_}
-use mathlib.Core.Path.{_≡_, refl, sym, ap, _∙_}
+use Prim.Native.Nat.{ℕ, zero, suc, _+_, _^_, _≤_, _<_}
+use mathlib.Core.Path.{_≡_, refl, ap}
 use mathlib.Core.Logic.{_≢_, _⊎_, inl, inr}
 use mathlib.Core.List.{List, [], _∷_}
-use mathlib.Core.Bool.{Bool, true, false}
 use native.Mathlib.Omega.{arith}
-use native.Mathlib.Nat.{zero-mul}
 use native.Mathlib.Decide.{decLt, ℕ-discrete}
 use lib.ListN.{length}
 use lib.Dec.{eqb, ltb, lit<, lit≤}
 use borrow.Author.Tests.{eq-eqb, ne-eqb, lt-ltb, le-ltb}
 use Rattle.window.specs.Memory.{if_then_else_, _⊕_}
-use Rattle.window.specs.Access.{Prog, ret, _>>=_, get8, get32}
+use Rattle.window.specs.Access.{ret, _>>=_, get8, get32}
 use Rattle.window.specs.Name.{nameAt, nameFrom}
-use Rattle.window.specs.Within.{In, Four, Low}
+use Rattle.window.specs.Within.{Four, Low}
 use Rattle.window.specs.Mirror.{word, runM}
 use Rattle.layout.specs.Header.{segmentNum, segmentTableOffset, segmentEntrySize, onUnresolvedSegmentTag}
-use Rattle.layout.specs.Format.{segmentType, tagSegment, tagOffset}
-use Rattle.layout.specs.Segments.{field, entryAt, segmentEntry, segment, addressIn, tagToAddress}
-use Rattle.layout.specs.declared.format.Segment.{Segment}
+use Rattle.layout.specs.Format.{tagSegment}
+use Rattle.layout.specs.Segments.{field, entryAt, segmentEntry, segment, tagToAddress}
 use Rattle.layout.specs.declared.segments.FoundSegment.{FoundSegment}
 use Rattle.layout.specs.declared.segments.FoundSegment.the-variants.{Found, Missing}
-use Rattle.layout.specs.declared.segments.Address.{Address}
-use Rattle.linker_spec.specs.Relocation.{addressOr0, unresolvedSymbol}
-use Rattle.history.specs.Image.{Table, tables, segments, start, count, entry, nameOf, fileSegment}
-use Rattle.history.specs.Arrival.{Image, baseOf, sizeOf, movedOffset, segmentPlace, placedSegment, address, handler, Area}
+use Rattle.linker_spec.specs.Relocation.{unresolvedSymbol}
+use Rattle.history.specs.Image.{tables, segments, start, count, entry, nameOf, fileSegment}
+use Rattle.history.specs.LoadedModule.{Image, baseOf, sizeOf, movedOffset, segmentPlace, placedSegment, address, handler, Area}
 use Rattle.history.specs.WellLaid.{table, string, tableNumber, Pointer, InString, InPart, WellLaid}
-use Rattle.history.specs.Steps.Wp.{Memory, runM-bind, Does, Reads, does-read, reads-then, reads-ret, reads-get8, reads-get32}
+use Rattle.history.specs.Steps.Wp.{Memory, runM-bind, ReadsValue, reads-then, reads-ret, reads-get8, reads-get32}
 use Rattle.history.specs.Steps.View.{View, table-field, table-count, handler-tag, string-byte}
 use Rattle.history.specs.Steps.Parts.{field-bounds, image-area, part-inside, entry-in-table}
 
@@ -47,10 +43,10 @@ module _ (m : Image) (laid : WellLaid m) (low : Low (Area m)) where
   F = m .file
 
   abbrev base : ℕ
-  base = baseOf (m .coming)
+  base = baseOf (m .loadCall)
 
   abbrev whole : ℕ
-  whole = sizeOf (m .coming)
+  whole = sizeOf (m .loadCall)
 
   abbrev S : ℕ → Type 0
   S = Area m
@@ -92,7 +88,7 @@ module _ (m : Image) (laid : WellLaid m) (low : Low (Area m)) where
 
   module _ {M : Memory} (v : View m M) where
     -- a word of the header
-    pub reads-field : (x : ℕ) {u : ℕ} → x + 4 ≤ 0x138 → word M (base + x) ≡ u → Reads S (field base x) u M
+    pub reads-field : (x : ℕ) {u : ℕ} → x + 4 ≤ 0x138 → word M (base + x) ≡ u → ReadsValue S (field base x) u M
     unfolding field
     reads-field x h e =
         let i = laid .alone .header-inside in
@@ -108,10 +104,10 @@ module _ (m : Image) (laid : WellLaid m) (low : Low (Area m)) where
     start-is n l = v .moved (tableNumber n .field) (table-field n l)
 
     -- a table's count and its start
-    pub reads-count : (n : ℕ) → n < 9 → Reads S (field base (tableNumber n .field + 4)) (count F (tableNumber n)) M
+    pub reads-count : (n : ℕ) → n < 9 → ReadsValue S (field base (tableNumber n .field + 4)) (count F (tableNumber n)) M
     reads-count n l = let b = field-bounds n l in reads-field (tableNumber n .field + 4) (omega (arith, b)) (count-is n l)
 
-    pub reads-start : (n : ℕ) → n < 9 → Reads S (field base (tableNumber n .field)) (movedOffset base (start F (tableNumber n))) M
+    pub reads-start : (n : ℕ) → n < 9 → ReadsValue S (field base (tableNumber n .field)) (movedOffset base (start F (tableNumber n))) M
     reads-start n l = let b = field-bounds n l in reads-field (tableNumber n .field) (omega (arith, b)) (start-is n l)
 
     -- a segment's entry
@@ -120,12 +116,12 @@ module _ (m : Image) (laid : WellLaid m) (low : Low (Area m)) where
     segment-inside i l =
         let e = part-inside m laid (table 0) (entry F segments i + 11) (entry-in-table F 0 i 11 (lit< tt) l (lit< tt)) in omega (arith, e)
 
-    reads-word : (o : ℕ) {u : ℕ} → o + 4 ≤ whole → word M (base + o) ≡ u → Reads S (get32 (base + o)) u M
+    reads-word : (o : ℕ) {u : ℕ} → o + 4 ≤ whole → word M (base + o) ≡ u → ReadsValue S (get32 (base + o)) u M
     reads-word o l e = reads-get32 S (base + o) (four-at o l) e
 
     reads-entry
         : (i : ℕ) → i < count F segments
-        → Reads S (segmentEntry (base + entry F segments i))
+        → ReadsValue S (segmentEntry (base + entry F segments i))
         (record { offset = segmentPlace m i; size = fileSegment F i .size; kind = fileSegment F i .kind }) M
     unfolding segmentEntry
     reads-entry i l =
@@ -140,13 +136,13 @@ module _ (m : Image) (laid : WellLaid m) (low : Low (Area m)) where
         (reads-then S (get32 (base + (entry F segments i + 8))) _ (word M (base + (entry F segments i + 8)))
         (reads-word (entry F segments i + 8) (omega (arith, b)) refl) (rw (v .kind i l) (reads-ret S _)))))
 
-    pub reads-segment : (i : ℕ) → Reads S (segment base i) (placedSegment m i) M
+    pub reads-segment : (i : ℕ) → ReadsValue S (segment base i) (placedSegment m i) M
     unfolding segment placedSegment tables
     reads-segment i = reads-then S (field base segmentNum) _ (count F segments) (reads-count 0 (lit< tt)) (go (decLt i (count F segments)))
       where
         go
             : Dec (i < count F segments)
-            → Reads S
+            → ReadsValue S
             (if ltb i (count F segments) then (field base segmentTableOffset >>= λ t. segmentEntry (entryAt t i segmentEntrySize) >>= λ s. ret
             (Found s))
             else ret Missing) (placedSegment m i) M
@@ -157,12 +153,12 @@ module _ (m : Image) (laid : WellLaid m) (low : Low (Area m)) where
             (reads-then S (segmentEntry (base + entry F segments i)) _ _ (reads-entry i l) (reads-ret S _))))
         go (no l) = rw (le-ltb i (count F segments) (omega arith)) (reads-ret S Missing)
 
-    pub reads-address : (t : ℕ) → Reads S (tagToAddress base t) (address m t) M
+    pub reads-address : (t : ℕ) → ReadsValue S (tagToAddress base t) (address m t) M
     unfolding tagToAddress address
     reads-address t =
         reads-then S (segment base (tagSegment t)) _ (placedSegment m (tagSegment t)) (reads-segment (tagSegment t)) (reads-ret S _)
 
-    pub reads-handler : Reads S (unresolvedSymbol base) (handler m) M
+    pub reads-handler : ReadsValue S (unresolvedSymbol base) (handler m) M
     unfolding unresolvedSymbol handler
     reads-handler =
         reads-then S (field base onUnresolvedSegmentTag) _ (word F onUnresolvedSegmentTag)
@@ -172,7 +168,7 @@ module _ (m : Image) (laid : WellLaid m) (low : Low (Area m)) where
 
     -- a name, from offset o of the string at p on
     reads-from
-        : (n p o : ℕ) → Pointer F p → p ≢ 0 → InString F p o → o + n ≡ p + 512 → Reads S (nameFrom n (base + o)) (runM (nameFrom n o) F .0) M
+        : (n p o : ℕ) → Pointer F p → p ≢ 0 → InString F p o → o + n ≡ p + 512 → ReadsValue S (nameFrom n (base + o)) (runM (nameFrom n o) F .0) M
     unfolding nameFrom runM
     reads-from zero p o h z i e = reads-ret S []
     reads-from (suc n) p o h z i e = go (ℕ-discrete (F o) 0) (reads-from n p (o + 1) h z)
@@ -180,12 +176,12 @@ module _ (m : Image) (laid : WellLaid m) (low : Low (Area m)) where
         inside : o < whole
         inside = string-inside p o h z i
 
-        b : Reads S (get8 (base + o)) (F o) M
+        b : ReadsValue S (get8 (base + o)) (F o) M
         b = reads-get8 S (base + o) (image-area m laid o inside) (v .kept-byte o (string-byte p o h z i (omega arith)))
 
         go
-            : Dec (F o ≡ 0) → (InString F p (o + 1) → o + 1 + n ≡ p + 512 → Reads S (nameFrom n (base + (o + 1))) (runM (nameFrom n (o + 1)) F .0) M)
-            → Reads S (get8 (base + o) >>= λ c. if eqb c 0 then ret [] else (nameFrom n (base + o ⊕ 1) >>= λ rest. ret (c ∷ rest)))
+            : Dec (F o ≡ 0) → (InString F p (o + 1) → o + 1 + n ≡ p + 512 → ReadsValue S (nameFrom n (base + (o + 1))) (runM (nameFrom n (o + 1)) F .0) M)
+            → ReadsValue S (get8 (base + o) >>= λ c. if eqb c 0 then ret [] else (nameFrom n (base + o ⊕ 1) >>= λ rest. ret (c ∷ rest)))
             (runM (nameFrom (suc n) o) F .0) M
         go (yes c) r =
             rw (name-zero F n o c) (reads-then S (get8 (base + o)) _ (F o) b (rw (eq-eqb (F o) 0 c) (reads-ret S [])))
@@ -198,11 +194,11 @@ module _ (m : Image) (laid : WellLaid m) (low : Low (Area m)) where
             (reads-then S (get8 (base + o)) _ (F o) b
             (rw (ne-eqb (F o) 0 c, e₁) (reads-then S (nameFrom n (base + (o + 1))) _ _ (r i₁ (omega arith)) (reads-ret S _))))
 
-    pub reads-name : (p : ℕ) → Pointer F p → Reads S (nameAt (movedOffset base p)) (nameOf F p) M
+    pub reads-name : (p : ℕ) → Pointer F p → ReadsValue S (nameAt (movedOffset base p)) (nameOf F p) M
     unfolding nameOf nameAt movedOffset runM
     reads-name p h = go (ℕ-discrete p 0)
       where
-        go : Dec (p ≡ 0) → Reads S (nameAt (movedOffset base p)) (runM (nameAt p) F .0) M
+        go : Dec (p ≡ 0) → ReadsValue S (nameAt (movedOffset base p)) (runM (nameAt p) F .0) M
         go (yes e) = rw e (reads-ret S [])
         go (no n) =
             let i : InString F p p = (omega arith, λ x g l. absurd (omega arith)) in

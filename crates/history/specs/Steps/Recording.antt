@@ -29,9 +29,9 @@ use Rattle.linker_spec.specs.Exports as exports
 use Rattle.linker_spec.specs.Exports.{putUsable, offsetOr0, readModule}
 use Rattle.linker_spec.specs.Relocation.{addressOr0}
 use Rattle.history.specs.Image.{tables, segments, namedExports, indexedExports, start, count, entry, moduleName}
-use Rattle.history.specs.Arrival.{Image, baseOf, sizeOf, movedOffset, segmentPlace, placedSegment, address, Area, exportName, exportAddress, laterExport, exportAmong, exportOf, indexedOf, anonymousOf}
+use Rattle.history.specs.LoadedModule.{Image, baseOf, sizeOf, movedOffset, segmentPlace, placedSegment, address, Area, exportName, exportAddress, laterExport, exportAmong, exportOf, indexedOf, anonymousOf}
 use Rattle.history.specs.WellLaid.{table, of-module, of-export, WellLaid}
-use Rattle.history.specs.Steps.Wp.{Memory, Does, Reads, does-mono, does-loop, reads-then, reads-ret, reads-get32}
+use Rattle.history.specs.Steps.Wp.{Memory, Does, ReadsValue, does-mono, does-loop, reads-then, reads-ret, reads-get32}
 use Rattle.history.specs.Steps.View.{View, name-field, export-name, export-tag, indexed-tag}
 use Rattle.history.specs.Steps.Parts.{part-inside, entry-in-table}
 use Rattle.history.specs.Steps.Reading.{plain-sum, four-at, entry-at, reads-field, reads-count, reads-start, reads-segment, reads-address, reads-name}
@@ -57,7 +57,7 @@ module _ (m : Image) where
   unfoldable pub recordFor : ℕ → Bool → Module
   recordFor size auto =
       record {
-        base = baseOf (m .coming);
+        base = baseOf (m .loadCall);
         size = size;
         auto = auto;
         name = moduleName F;
@@ -127,31 +127,31 @@ module _ (m : Image) where
 
   module _ (laid : WellLaid m) (low : Low (Area m)) {M : Memory} (view : View m M) where
     abbrev base : ℕ
-    base = baseOf (m .coming)
+    base = baseOf (m .loadCall)
 
     abbrev S : ℕ → Type 0
     S = Area m
 
     -- a loop that only reads
     reads-loop
-        : {A : Type 0} (body : ℕ → A → Prog A) (f : ℕ → A) (n : ℕ) → ((j : ℕ) → j < n → Reads S (body j (f j)) (f (suc j)) M)
-        → Reads S (loop body 0 n (f 0)) (f n) M
+        : {A : Type 0} (body : ℕ → A → Prog A) (f : ℕ → A) (n : ℕ) → ((j : ℕ) → j < n → ReadsValue S (body j (f j)) (f (suc j)) M)
+        → ReadsValue S (loop body 0 n (f 0)) (f n) M
     reads-loop body f n step =
         let z : 0 + n ≡ n = omega arith in
         rw z at
         (does-loop S body (λ j a N. (a ≡ f j) × (N ≡ M)) 0 n (f 0) M (λ j b N l g e. rw (e .0, e .1) (step j (omega arith))) (refl, refl))
 
-    named-inside : (i : ℕ) → i < count F namedExports → entry F namedExports i + 8 ≤ sizeOf (m .coming)
+    named-inside : (i : ℕ) → i < count F namedExports → entry F namedExports i + 8 ≤ sizeOf (m .loadCall)
     unfolding tables
     named-inside i l = let e = part-inside m laid (table 1) _ (entry-in-table F 1 i 7 (lit< tt) l (lit< tt)) in omega (arith, e)
 
-    indexed-inside : (i : ℕ) → i < count F indexedExports → entry F indexedExports i + 4 ≤ sizeOf (m .coming)
+    indexed-inside : (i : ℕ) → i < count F indexedExports → entry F indexedExports i + 4 ≤ sizeOf (m .loadCall)
     unfolding tables
     indexed-inside i l = let e = part-inside m laid (table 2) _ (entry-in-table F 2 i 3 (lit< tt) l (lit< tt)) in omega (arith, e)
 
     reads-named
         : (i : ℕ) → i < count F namedExports
-        → Reads S (exports.namedExport base (base + entry F namedExports i) (namedAmong i)) (namedAmong (suc i)) M
+        → ReadsValue S (exports.namedExport base (base + entry F namedExports i) (namedAmong i)) (namedAmong (suc i)) M
     unfolding exports.namedExport namedAmong exportName exportAddress
     reads-named i l =
         let b = named-inside i l in
@@ -168,7 +168,7 @@ module _ (m : Image) where
         (reads-then S (tagToAddress base (word F (entry F namedExports i + 4))) _ (exportAddress m i)
         (reads-address m laid low view (word F (entry F namedExports i + 4))) (reads-ret S _)))))
 
-    reads-nameds : Reads S (exports.namedExports base) (namedAmong (count F namedExports)) M
+    reads-nameds : ReadsValue S (exports.namedExports base) (namedAmong (count F namedExports)) M
     unfolding exports.namedExports tables namedAmong
     reads-nameds =
         reads-then S (field base 0xd0) _ (movedOffset base (start F namedExports)) (reads-start m laid low view 1 (lit< tt))
@@ -178,7 +178,7 @@ module _ (m : Image) where
 
     reads-indexed
         : (i : ℕ) → i < count F indexedExports
-        → Reads S (exports.indexedExport base (base + entry F indexedExports i) (gathered indexedAddress i)) (gathered indexedAddress (suc i)) M
+        → ReadsValue S (exports.indexedExport base (base + entry F indexedExports i) (gathered indexedAddress i)) (gathered indexedAddress (suc i)) M
     unfolding exports.indexedExport gathered indexedAddress
     reads-indexed i l =
         let b = indexed-inside i l in
@@ -187,7 +187,7 @@ module _ (m : Image) where
         (reads-then S (tagToAddress base (word F (entry F indexedExports i))) _ (address m (word F (entry F indexedExports i)))
         (reads-address m laid low view (word F (entry F indexedExports i))) (reads-ret S _))
 
-    reads-indexeds : Reads S (exports.indexedExports base) (gathered indexedAddress (count F indexedExports)) M
+    reads-indexeds : ReadsValue S (exports.indexedExports base) (gathered indexedAddress (count F indexedExports)) M
     unfolding exports.indexedExports tables gathered
     reads-indexeds =
         reads-then S (field base 0xd8) _ (movedOffset base (start F indexedExports)) (reads-start m laid low view 2 (lit< tt))
@@ -196,7 +196,7 @@ module _ (m : Image) where
         (count F indexedExports)
         (λ i l. rw (entry-at m laid low 2 i (lit< tt) l (let b = indexed-inside i l in omega (arith, b))) (reads-indexed i l))))
 
-    reads-segments : Reads S (exports.readSegments base) (take 16 (gathered segmentOffset (count F segments))) M
+    reads-segments : ReadsValue S (exports.readSegments base) (take 16 (gathered segmentOffset (count F segments))) M
     unfolding exports.readSegments tables gathered segmentOffset
     reads-segments =
         reads-then S (field base 0xcc) _ (count F segments) (reads-count m laid low view 0 (lit< tt))
@@ -207,7 +207,7 @@ module _ (m : Image) where
         (reads-ret S _))
 
     -- the module's record is that one
-    pub reads-module : (size : ℕ) (auto : Bool) → Reads S (readModule base size auto) (recordFor size auto) M
+    pub reads-module : (size : ℕ) (auto : Bool) → ReadsValue S (readModule base size auto) (recordFor size auto) M
     unfolding readModule recordFor moduleName
     reads-module size auto =
         reads-then S (exports.namedExports base) _ _ reads-nameds
@@ -221,7 +221,7 @@ module _ (m : Image) where
 -- what the record says is what the image says
 pub records
     : (m : Image) (laid : WellLaid m) (low : Low (Area m)) {M : Memory} → View m M → (size : ℕ)
-    → Does (Area m) (readModule (baseOf (m .coming)) size true) (λ r N. Recorded m r × (r .size ≡ size) × (N ≡ M)) M
+    → Does (Area m) (readModule (baseOf (m .loadCall)) size true) (λ r N. Recorded m r × (r .size ≡ size) × (N ≡ M)) M
 unfolding recordFor
 records m laid low view size =
     does-mono (Area m) (reads-module m laid low view size true) (λ r N e. (rw (e .0) (recorded m size), rw (e .0) refl, e .1))

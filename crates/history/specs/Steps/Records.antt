@@ -1,6 +1,6 @@
 -- What a register's record says of the module that it was read from, whatever the order of its named exports.
 use Prim.Native.Nat.{ℕ}
-use mathlib.Core.Path.{_≡_, refl, sym, ap, _∙_}
+use mathlib.Core.Path.{_≡_, sym, _∙_}
 use mathlib.Core.List.{List}
 use mathlib.Core.Bool.{true}
 use Rattle.layout.specs.declared.segments.Address.{Address}
@@ -10,7 +10,7 @@ use Rattle.register.specs.Read.Read as read
 use Rattle.register.specs.declared.read.Symbol.{Symbol}
 use Rattle.linker_spec.specs.Imports as imports
 use Rattle.history.specs.Image.{nameOf, moduleName}
-use Rattle.history.specs.Arrival.{Image, baseOf, exportOf, indexedOf, anonymousOf}
+use Rattle.history.specs.LoadedModule.{Image, baseOf, exportOf, indexedOf, anonymousOf}
 use Rattle.history.specs.Imports.{Import, named, indexed, anonymous, wanted, From}
 use Rattle.history.specs.Outcomes.{SameModule}
 
@@ -20,7 +20,7 @@ asSymbol (At a) = Symbol.At a
 asSymbol Nowhere = Symbol.Nothing
 
 pub record Recorded (x : Image) (r : Module) : Type 0 where
-  pub base : r .base ≡ baseOf (x .coming)
+  pub base : r .base ≡ baseOf (x .loadCall)
   pub name : r .name ≡ moduleName (x .file)
   pub auto : r .auto ≡ true
   pub exports : (name : List ℕ) → read.exportOf r name ≡ asSymbol (exportOf x name)
@@ -41,13 +41,13 @@ recorded-same {x} {r} {s} e h =
     }
 
 -- what x has for import i of m
-unfoldable pub offer : Image → Image → Import → Symbol
-offer x m (named i) = asSymbol (exportOf x (nameOf (m .file) (wanted (m .file) (named i))))
-offer x m (indexed i) = asSymbol (indexedOf x (wanted (m .file) (indexed i)))
-offer x m (anonymous i) = asSymbol (anonymousOf x (wanted (m .file) (anonymous i)))
+unfoldable pub exportFor : Image → Image → Import → Symbol
+exportFor x m (named i) = asSymbol (exportOf x (nameOf (m .file) (wanted (m .file) (named i))))
+exportFor x m (indexed i) = asSymbol (indexedOf x (wanted (m .file) (indexed i)))
+exportFor x m (anonymous i) = asSymbol (anonymousOf x (wanted (m .file) (anonymous i)))
 
 -- import i of m asks x: any by name may, one by index or tag does where its module entry names x
-unfoldable pub Asks : Image → Image → Import → Type 0
-Asks x m (named i) = Unit {0}
-Asks x m (indexed i) = From (m .file) (indexed i) (moduleName (x .file))
-Asks x m (anonymous i) = From (m .file) (anonymous i) (moduleName (x .file))
+unfoldable pub ImportsFrom : Image → Image → Import → Type 0
+ImportsFrom x m (named i) = Unit {0}
+ImportsFrom x m (indexed i) = From (m .file) (indexed i) (moduleName (x .file))
+ImportsFrom x m (anonymous i) = From (m .file) (anonymous i) (moduleName (x .file))

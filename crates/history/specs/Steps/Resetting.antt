@@ -2,7 +2,7 @@
 use Prim.Native.Nat.{ℕ, _+_, _<_}
 use mathlib.Core.Path.{_≡_, refl, sym, _∙_}
 use mathlib.Core.Logic.{_⊎_, inl, inr}
-use mathlib.Core.Option.{Option, some, none}
+use mathlib.Core.Option.{none}
 use mathlib.Core.Bool.{Bool, true, false}
 use lib.Dec.{lit<}
 use Rattle.window.specs.Memory.{if_then_else_, _⊕_}
@@ -19,28 +19,27 @@ use Rattle.register.specs.Read.Read as read
 use Rattle.linker_spec.specs.Imports as imports
 use Rattle.linker_spec.specs.Resets.{exists, resetAt, resetNamed, resetModule, resetImports}
 use Rattle.linker_spec.specs.Relocation.{unresolvedSymbol}
-use Rattle.linker_spec.specs.Imports.{isUnresolved, importsOf, serveNamed, serveModule, serve}
-use Rattle.history.specs.Image.{tables, namedImports, moduleEntries, externals, start, count, entry, nameOf, moduleName}
-use Rattle.history.specs.Arrival.{Image, baseOf, movedOffset, handler, Area}
+use Rattle.history.specs.Image.{tables, namedImports, moduleEntries, start, count, entry, nameOf, moduleName}
+use Rattle.history.specs.LoadedModule.{Image, baseOf, movedOffset, handler, Area}
 use Rattle.history.specs.Imports.{Import, named, indexed, anonymous, importEntry, IsImport, wanted, InRun, From}
 use Rattle.history.specs.WellLaid.{of-entry, WellLaid}
-use Rattle.history.specs.Steps.Wp.{Memory, Does, does-mono, does-ret, does-then, does-read, if-reads}
+use Rattle.history.specs.Steps.Wp.{Memory, Does, does-mono, does-ret, does-then, does-read}
 use Rattle.history.specs.Steps.View.{View}
-use Rattle.history.specs.Steps.Shows.{shows-view}
+use Rattle.history.specs.Steps.ModuleBytes.{shows-view}
 use Rattle.history.specs.Steps.Reading.{reads-start, reads-count, reads-handler, reads-name}
-use Rattle.history.specs.Steps.Links.{Links, isSome, relink, Stands}
+use Rattle.history.specs.Steps.Links.{Links, relink, Stands}
 use Rattle.history.specs.Steps.Changes.{change-none, change-then, change-iff, Changed, changes-loop}
 use Rattle.history.specs.Steps.Turns.{resets-at}
-use Rattle.history.specs.Steps.Records.{Recorded, offer, Asks}
-use Rattle.history.specs.Steps.Runs.{Begins, EntryBegins, unlinked}
-use Rattle.history.specs.Steps.Asking.{true-false, reads-import-name, import-pointer, named-apart, named-at, entry-start, EntryAsks, entries-apart, ByName, ByEntry, kinds-apart, asks-entry}
+use Rattle.history.specs.Steps.Records.{Recorded, exportFor, ImportsFrom}
+use Rattle.history.specs.Steps.Runs.{Begins, unlinked}
+use Rattle.history.specs.Steps.Asking.{true-false, reads-import-name, import-pointer, named-apart, named-at, entry-start, EntryAsks, entries-apart, ByEntry, kinds-apart, asks-entry}
 use Rattle.history.specs.Steps.Entries.{reads-entry-pointer, no-run, unlinks-entry}
 
 -- entry e begins the batch of an import of m that x may have served: by name if x has the export, by a module entry in any case
 unfoldable pub Drops : Image → Image → Import → Type 0
-Drops x m (named i) = exists (offer x m (named i)) ≡ true
-Drops x m (indexed i) = Asks x m (indexed i)
-Drops x m (anonymous i) = Asks x m (anonymous i)
+Drops x m (named i) = exists (exportFor x m (named i)) ≡ true
+Drops x m (indexed i) = ImportsFrom x m (indexed i)
+Drops x m (anonymous i) = ImportsFrom x m (anonymous i)
 
 abbrev pub Dropped : Image → Image → ℕ → Type 0
 Dropped x m e = (i : Import) × IsImport (m .file) i × Drops x m i × Begins (m .file) i e
@@ -50,26 +49,26 @@ module _ (m : Image) (laid : WellLaid m) (low : Low (Area m)) {T : Memory} (view
   F = m .file
 
   abbrev base : ℕ
-  base = baseOf (m .coming)
+  base = baseOf (m .loadCall)
 
   abbrev S : ℕ → Type 0
   S = Area m
 
-  abbrev Reset : (ℕ → Type 0) → Links → Memory → Type 0
-  Reset P φ N = Changed m T n v S (λ e x y. y ≡ none) P φ N
+  abbrev LinksReset : (ℕ → Type 0) → Links → Memory → Type 0
+  LinksReset P φ N = Changed m T n v S (λ e x y. y ≡ none) P φ N
 
   module _ (x : Image) (r : Module) (rec : Recorded x r) where
     abbrev NamedDrops : ℕ → ℕ → Type 0
-    NamedDrops i e = (exists (offer x m (named i)) ≡ true) × Begins F (named i) e
+    NamedDrops i e = (exists (exportFor x m (named i)) ≡ true) × Begins F (named i) e
 
-    offers-named : (i : ℕ) → read.exportOf r (nameOf F (wanted F (named i))) ≡ offer x m (named i)
-    unfolding offer
+    offers-named : (i : ℕ) → read.exportOf r (nameOf F (wanted F (named i))) ≡ exportFor x m (named i)
+    unfolding exportFor
     offers-named i = rec .exports (nameOf F (wanted F (named i)))
 
     -- one named import
     resets-one
         : {φ : Links} {M : Memory} (i : ℕ) → i < count F namedImports → Stands m T φ n v M
-        → Does S (resetNamed r base (handler m) (base + importEntry F (named i))) (λ _ N. Reset (NamedDrops i) φ N) M
+        → Does S (resetNamed r base (handler m) (base + importEntry F (named i))) (λ _ N. LinksReset (NamedDrops i) φ N) M
     unfolding resetNamed
     resets-one {φ} {M} i l s =
         let w = shows-view m laid view (s .shows) in
@@ -77,11 +76,11 @@ module _ (m : Image) (laid : WellLaid m) (low : Low (Area m)) {T : Memory} (view
         does-read S (get32 (base + importEntry F (named i))) _ (movedOffset base (wanted F (named i))) (reads-import-name m laid low view n v w i l)
         (does-read S (nameAt (movedOffset base (wanted F (named i)))) _ name
         (reads-name m laid low w (wanted F (named i)) (import-pointer m laid low view n v i l))
-        (rw (offers-named i) (go (exists (offer x m (named i))) refl)))
+        (rw (offers-named i) (go (exists (exportFor x m (named i))) refl)))
       where
         go
-            : (b : Bool) → exists (offer x m (named i)) ≡ b
-            → Does S (if b then resetAt base (handler m) (base + importEntry F (named i)) else ret tt) (λ _ N. Reset (NamedDrops i) φ N) M
+            : (b : Bool) → exists (exportFor x m (named i)) ≡ b
+            → Does S (if b then resetAt base (handler m) (base + importEntry F (named i)) else ret tt) (λ _ N. LinksReset (NamedDrops i) φ N) M
         go true h =
             let b = laid .alone .batches (named i) l in
             does-mono S (resets-at m laid low view n v (named i) l (b .0) (b .1) (b .2) s)
@@ -92,7 +91,7 @@ module _ (m : Image) (laid : WellLaid m) (low : Low (Area m)) {T : Memory} (view
     -- one module entry
     resets-entry
         : {φ : Links} {M : Memory} (j : ℕ) → j < count F moduleEntries → Stands m T φ n v M
-        → Does S (resetModule r base (handler m) (base + entry F moduleEntries j)) (λ _ N. Reset (EntryAsks m laid low view n v x j) φ N) M
+        → Does S (resetModule r base (handler m) (base + entry F moduleEntries j)) (λ _ N. LinksReset (EntryAsks m laid low view n v x j) φ N) M
     unfolding resetModule
     resets-entry {φ} {M} j l s =
         let w = shows-view m laid view (s .shows) in
@@ -112,7 +111,7 @@ module _ (m : Image) (laid : WellLaid m) (low : Low (Area m)) {T : Memory} (view
 
         go
             : (b : Bool) → same (nameOf F (word F (entry F moduleEntries j))) (r .name) ≡ b
-            → Does S (if b then runs else ret tt) (λ _ N. Reset (EntryAsks m laid low view n v x j) φ N) M
+            → Does S (if b then runs else ret tt) (λ _ N. LinksReset (EntryAsks m laid low view n v x j) φ N) M
         go true h =
             let e : nameOf F (word F (entry F moduleEntries j)) ≡ moduleName (x .file) = same-true _ _ h ∙ rec .name in
             does-mono S (unlinks-entry m laid low view n v j l s) (λ _ N c. (c .0, c .1, change-iff (λ d g. (e, g)) (λ d g. g .1) (c .2)))
@@ -134,14 +133,14 @@ module _ (m : Image) (laid : WellLaid m) (low : Low (Area m)) {T : Memory} (view
         asks-drops j (anonymous i) l e h = asks-entry m laid low view n v x j (anonymous i) l e h
 
     drops-only : (e : ℕ) → Dropped x m e → NamedDropped e ⊎ ByEntry m laid low view n v x e
-    unfolding Drops Asks From
+    unfolding Drops ImportsFrom From
     drops-only e (named i, l, a, b) = inl (i, l, (a, b))
     drops-only e (indexed i, l, (j, g, h, z), b) = inr (j, g, (sym z, (indexed i, l, h, b)))
     drops-only e (anonymous i, l, (j, g, h, z), b) = inr (j, g, (sym z, (anonymous i, l, h, b)))
 
     -- all imports of the module
     pub resets-all
-        : {φ : Links} {M : Memory} → Stands m T φ n v M → Does S (resetImports r base) (λ _ N. Reset (Dropped x m) φ N) M
+        : {φ : Links} {M : Memory} → Stands m T φ n v M → Does S (resetImports r base) (λ _ N. LinksReset (Dropped x m) φ N) M
     unfolding resetImports tables
     resets-all {φ} {M} s =
         let w = shows-view m laid view (s .shows) in

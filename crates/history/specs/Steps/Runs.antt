@@ -17,12 +17,12 @@ use Rattle.register.specs.declared.read.Symbol.{Symbol}
 use Rattle.linker_spec.specs.Imports.{isUnresolved, importFrom}
 use Rattle.linker_spec.specs.Resets.{resetAt}
 use Rattle.history.specs.Image.{tables, moduleEntries, indexedImports, anonymousImports, externals, start, count, entry}
-use Rattle.history.specs.Arrival.{Image, baseOf, movedOffset, handler, Area}
+use Rattle.history.specs.LoadedModule.{Image, baseOf, movedOffset, handler, Area}
 use Rattle.history.specs.Imports.{Import, indexed, anonymous, importTable, importNumber, importEntry, IsImport, wanted, batch, runStart, runCount, InRun, BatchOf}
 use Rattle.history.specs.WellLaid.{Asked, tableNumber, WellLaid}
 use Rattle.history.specs.Steps.Wp.{Memory, Does, does-mono, does-read, reads-get32}
 use Rattle.history.specs.Steps.View.{View, import-index, import-tag}
-use Rattle.history.specs.Steps.Shows.{shows-view}
+use Rattle.history.specs.Steps.ModuleBytes.{shows-view}
 use Rattle.history.specs.Steps.Reading.{plain-sum, four-at, moved-sum}
 use Rattle.history.specs.Steps.Links.{Links, relink, relink-same, relink-other, isSome, Stands}
 use Rattle.history.specs.Steps.Changes.{Change, change-iff, Changed, changes-loop}
@@ -48,7 +48,7 @@ module _ (m : Image) (laid : WellLaid m) (low : Low (Area m)) {T : Memory} (view
   F = m .file
 
   abbrev base : ℕ
-  base = baseOf (m .coming)
+  base = baseOf (m .loadCall)
 
   abbrev S : ℕ → Type 0
   S = Area m

@@ -1,33 +1,32 @@
 -- One import of a standing module: its batch, whether it is linked, and linking or unlinking it.
-use Prim.Native.Nat.{ℕ, zero, suc, _+_, _≤_, _<_}
+use Prim.Native.Nat.{ℕ, _+_, _≤_, _<_}
 use mathlib.Core.Path.{_≡_, refl, sym, ap, _∙_}
-use mathlib.Core.Logic.{_≢_, _⊎_, inl, inr}
+use mathlib.Core.Logic.{_≢_}
 use mathlib.Core.Option.{Option, some, none}
 use mathlib.Core.Bool.{Bool, true, false}
 use native.Mathlib.Omega.{arith}
 use native.Mathlib.Decide.{ℕ-discrete}
-use lib.Dec.{eqb, lit<}
-use borrow.Author.Tests.{eq-eqb, ne-eqb}
+use lib.Dec.{lit<}
+use borrow.Author.Tests.{ne-eqb}
 use Rattle.window.specs.Memory.{if_then_else_, _⊕_}
-use Rattle.window.specs.Access.{Prog, ret, _>>=_, _>>_, get32}
+use Rattle.window.specs.Access.{ret, _>>_, get32}
 use Rattle.window.specs.Within.{Low}
 use Rattle.register.specs.declared.read.Symbol.{Symbol}
 use Rattle.register.specs.declared.read.Symbol.the-variants.{At, Nothing}
 use Rattle.linker_spec.specs.Relocation.{applyRelocationBatch, batchIsResolved}
 use Rattle.linker_spec.specs.Imports.{isUnresolved, resolve}
 use Rattle.linker_spec.specs.Resets.{reset, resetAt}
-use Rattle.history.specs.Image.{tables, externals, namedImports, indexedImports, anonymousImports, start, count, entry}
-use Rattle.history.specs.Arrival.{Image, baseOf, sizeOf, movedOffset, handler, Area}
-use Rattle.history.specs.Imports.{Import, named, indexed, anonymous, importTable, importNumber, importEntry, IsImport, batch, Batch, BatchOf}
+use Rattle.history.specs.Image.{tables, externals, count, entry}
+use Rattle.history.specs.LoadedModule.{Image, baseOf, sizeOf, movedOffset, handler, Area}
+use Rattle.history.specs.Imports.{Import, named, indexed, anonymous, importEntry, IsImport, batch, Batch, BatchOf}
 use Rattle.history.specs.WellLaid.{table, WellLaid}
-use Rattle.history.specs.Steps.Wp.{Memory, Does, Reads, does-mono, does-ret, does-then, does-read, reads-then, reads-ret, reads-get32}
+use Rattle.history.specs.Steps.Wp.{Memory, Does, ReadsValue, does-ret, does-then, does-read, reads-then, reads-ret, reads-get32}
 use Rattle.history.specs.Steps.View.{View, import-batch}
 use Rattle.history.specs.Steps.Parts.{part-inside, entry-in-table, external-part}
-use Rattle.history.specs.Steps.Shows.{shows-view}
+use Rattle.history.specs.Steps.ModuleBytes.{shows-view}
 use Rattle.history.specs.Steps.Batch.{shows-same}
 use Rattle.history.specs.Steps.Reading.{plain-sum, four-at, moved-sum}
 use Rattle.history.specs.Steps.Links.{Links, relink, relink-same, relink-other, isSome, firstOf, symbolFor, markFor, symbols, marks, Stands, links, unlinks, reads-linked}
-use Rattle.history.specs.Steps.Changes.{Change, Changed}
 
 -- what a link becomes where the symbol is offered: one that stands stays
 unfoldable pub linkTo : Option ℕ → Symbol → Option ℕ
@@ -45,20 +44,20 @@ module _ (m : Image) (laid : WellLaid m) (low : Low (Area m)) where
   F = m .file
 
   abbrev base : ℕ
-  base = baseOf (m .coming)
+  base = baseOf (m .loadCall)
 
   abbrev S : ℕ → Type 0
   S = Area m
 
   -- an import's entry lies in the image
-  pub import-inside : (i : Import) → IsImport F i → importEntry F i + 8 ≤ sizeOf (m .coming)
+  pub import-inside : (i : Import) → IsImport F i → importEntry F i + 8 ≤ sizeOf (m .loadCall)
   unfolding importEntry tables
   import-inside (named i) l = let e = part-inside m laid (table 6) _ (entry-in-table F 6 i 7 (lit< tt) l (lit< tt)) in omega (arith, e)
   import-inside (indexed i) l = let e = part-inside m laid (table 7) _ (entry-in-table F 7 i 7 (lit< tt) l (lit< tt)) in omega (arith, e)
   import-inside (anonymous i) l = let e = part-inside m laid (table 8) _ (entry-in-table F 8 i 7 (lit< tt) l (lit< tt)) in omega (arith, e)
 
   -- its batch, as an address
-  first-inside : (i : Import) (e f : ℕ) → BatchOf F i e f → entry F externals e < sizeOf (m .coming)
+  first-inside : (i : Import) (e f : ℕ) → BatchOf F i e f → entry F externals e < sizeOf (m .loadCall)
   first-inside i e f b =
       let x = part-inside m laid (table 5) _ (external-part m laid e 0 (omega (arith, b .run .ordered, b .run .inside)) (lit< tt)) in omega (arith, x)
 
@@ -73,7 +72,7 @@ module _ (m : Image) (laid : WellLaid m) (low : Low (Area m)) where
   module _ {T : Memory} (view : View m T) (n v : ℕ) where
     pub reads-batch
         : {M : Memory} → View m M → (i : Import) → IsImport F i → (e f : ℕ) → BatchOf F i e f
-        → Reads S (get32 (base + importEntry F i ⊕ 4)) (base + entry F externals e) M
+        → ReadsValue S (get32 (base + importEntry F i ⊕ 4)) (base + entry F externals e) M
     unfolding batch
     reads-batch w i l e f b =
         rw (import-plus i 4 l (lit< tt))
@@ -88,7 +87,7 @@ module _ (m : Image) (laid : WellLaid m) (low : Low (Area m)) where
 
     pub reads-unresolved
         : {φ : Links} {M : Memory} (i : Import) (e f : ℕ) → BatchOf F i e f → Stands m T φ n v M
-        → Reads S (isUnresolved (base + entry F externals e)) (if isSome (φ e) then false else true) M
+        → ReadsValue S (isUnresolved (base + entry F externals e)) (if isSome (φ e) then false else true) M
     unfolding isUnresolved
     reads-unresolved {φ} i e f b s =
         rw (ne-eqb (base + entry F externals e) 0 (batch-not-0 i e f b))

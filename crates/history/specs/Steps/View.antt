@@ -7,7 +7,7 @@ use Rattle.window.specs.Mirror.{word, word-same}
 use Rattle.layout.specs.Header.{moduleNameOffset, onUnresolvedSegmentTag}
 use Rattle.layout.specs.Format.{segmentType}
 use Rattle.history.specs.Image.{segments, namedExports, indexedExports, moduleEntries, externals, namedImports, indexedImports, anonymousImports, count, entry, fileSegment}
-use Rattle.history.specs.Arrival.{Image, baseOf, movedOffset, segmentPlace}
+use Rattle.history.specs.LoadedModule.{Image, baseOf, movedOffset, segmentPlace}
 use Rattle.history.specs.Imports.{Import, indexed, anonymous, importEntry, IsImport}
 use Rattle.history.specs.WellLaid.{tableNumber, Pointer, InString, Asked}
 use Rattle.history.specs.Steps.Wp.{Memory}
@@ -54,7 +54,7 @@ module _ (m : Image) where
   F = m .file
 
   abbrev base : ℕ
-  base = baseOf (m .coming)
+  base = baseOf (m .loadCall)
 
   -- the module as rebasing leaves it, for those who read it
   pub record View (M : Memory) : Type 0 where

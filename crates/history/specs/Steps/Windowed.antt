@@ -1,19 +1,19 @@
 -- From plain bytes to a window, and from one memory to another that agrees on S.
-use Prim.Native.Nat.{ℕ, _+_, _-_, _<_}
+use Prim.Native.Nat.{ℕ, _+_, _-_}
 use mathlib.Core.Path.{_≡_, refl, sym, _∙_, subst}
 use mathlib.Core.List.{List}
-use native.Mathlib.Omega.{arith}
 use native.Mathlib.Decide.{ℕ-discrete}
 use lib.ListN.{length}
 use Rattle.window.specs.Memory.{byteAt, wordAt, putByte, putWord, putPrivileged}
 use Rattle.window.specs.Bytes.{length-putByte, length-putWord, length-putPrivileged}
 use Rattle.window.specs.Access.{Prog, ret, read8, read32, write8, write32, writePrivileged, put8, put32, put32Privileged, run}
-use Rattle.window.specs.Within.{In, dec-in, in-range, Four, Within, Lies, Agree, Untouched, untouched}
+use Rattle.window.specs.Within.{In, dec-in, in-range, Within, Lies, Agree, Untouched, untouched}
 use Rattle.window.specs.Mirror.{word, put1, put4, runM, word-same, wordAt-word, put1-on, put1-off, put4-on, put4-off, mirror}
-use Rattle.history.specs.Steps.Wp.{Memory, WithinM, Does, Kept}
+use Rattle.history.specs.Steps.Wp.{Memory, WithinM, Does}
 
 module _ (S : ℕ → Type 0) (at n : ℕ) (fit : Lies S at n) where
-  within-window
+  -- accesses that lie in S on plain bytes lie there in a window that agrees with them
+  pub within-window
       : {A : Type 0} (m : Prog A) (w : List ℕ) (M : Memory) → length w ≡ n → WithinM S m M → Agree S (byteAt at w) M → Within S at m w
   unfolding WithinM Within run runM
   within-window (ret a) w M l h g = tt
@@ -64,16 +64,16 @@ module _ (S : ℕ → Type 0) where
       go (yes i) = in-range (λ x. put4 M p v x ≡ put4 N p v x) p 4 q i (λ k l. put4-on M p v k l ∙ sym (put4-on N p v k l))
       go (no o) = put4-off M p v q o ∙ g q s ∙ sym (put4-off N p v q o)
 
-  abbrev Alike : {A : Type 0} → Prog A → Memory → Prog A → Memory → Type 0
-  Alike m M k N = (runM m M .0 ≡ runM k N .0) × Agree S (runM m M .1) (runM k N .1)
+  abbrev SameResult : {A : Type 0} → Prog A → Memory → Prog A → Memory → Type 0
+  SameResult m M k N = (runM m M .0 ≡ runM k N .0) × Agree S (runM m M .1) (runM k N .1)
 
   -- only the bytes in S matter
-  pub same-on : {A : Type 0} (m : Prog A) (M N : Memory) → WithinM S m M → Agree S M N → Alike m M m N
+  pub same-on : {A : Type 0} (m : Prog A) (M N : Memory) → WithinM S m M → Agree S M N → SameResult m M m N
   unfolding WithinM runM
   same-on (ret a) M N h g = (refl, g)
-  same-on (read8 p k) M N h g = subst (λ v. Alike (k (M p)) M (k v) N) (g p (h .0)) (same-on (k (M p)) M N (h .1) g)
+  same-on (read8 p k) M N h g = subst (λ v. SameResult (k (M p)) M (k v) N) (g p (h .0)) (same-on (k (M p)) M N (h .1) g)
   same-on (read32 p k) M N h g =
-      subst (λ v. Alike (k (word M p)) M (k v) N) (word-same M N p (λ j x. g (p + j) (h .0 j x))) (same-on (k (word M p)) M N (h .1) g)
+      subst (λ v. SameResult (k (word M p)) M (k v) N) (word-same M N p (λ j x. g (p + j) (h .0 j x))) (same-on (k (word M p)) M N (h .1) g)
   same-on (write8 p v k) M N h g = same-on k (put1 M p v) (put1 N p v) (h .1) (put1-agree M N p v g)
   same-on (write32 p v k) M N h g = same-on k (put4 M p v) (put4 N p v) (h .1) (put4-agree M N p v g)
   same-on (writePrivileged p v k) M N h g = same-on k (put4 M p v) (put4 N p v) (h .1) (put4-agree M N p v g)

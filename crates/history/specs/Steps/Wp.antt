@@ -1,15 +1,13 @@
 -- A program on plain bytes: `Does S m Q M` says that its accesses lie in S and that Q holds of what it gives and of the bytes it leaves.
 use Prim.Native.Nat.{ℕ, zero, suc, _+_, _≤_, _<_}
-use mathlib.Core.Path.{_≡_, refl, sym, ap, _∙_, subst}
-use mathlib.Core.List.{List}
+use mathlib.Core.Path.{_≡_, refl, _∙_}
 use mathlib.Core.Bool.{Bool, true, false}
 use native.Mathlib.Omega.{arith}
-use lib.ListN.{length}
-use Rattle.window.specs.Memory.{if_then_else_, byteAt, wordAt}
+use Rattle.window.specs.Memory.{if_then_else_}
 use Rattle.window.specs.Access.{Prog, ret, read8, read32, write8, write32, writePrivileged, _>>=_, _>>_, get8, get32, put8, put32, put32Privileged, run}
 use Rattle.window.specs.Loop.{loop}
-use Rattle.window.specs.Within.{In, Four, Within, Lies, Agree, in-range}
-use Rattle.window.specs.Mirror.{word, put1, put4, runM, word-same, wordAt-word, put1-on, put1-off, put4-on, put4-off, mirror}
+use Rattle.window.specs.Within.{Four, in-range}
+use Rattle.window.specs.Mirror.{word, put1, put4, runM, put1-off, put4-off}
 
 abbrev pub Memory : Type 0
 Memory = ℕ → ℕ
@@ -28,8 +26,8 @@ pub record Does {A : Type 0} (S : ℕ → Type 0) (m : Prog A) (Q : A → Memory
   pub gives : Q (runM m M .0) (runM m M .1)
 
 -- N is M but for bytes in X
-abbrev pub Kept : (ℕ → Type 0) → Memory → Memory → Type 0
-Kept X M N = (q : ℕ) → (X q → ⊥) → N q ≡ M q
+abbrev pub SameOutside : (ℕ → Type 0) → Memory → Memory → Type 0
+SameOutside X M N = (q : ℕ) → (X q → ⊥) → N q ≡ M q
 
 pub runM-bind
     : {A B : Type 0} (m : Prog A) (f : A → Prog B) (M : Memory) → runM (m >>= f) M ≡ runM (f (runM m M .0)) (runM m M .1)
@@ -64,7 +62,7 @@ module _ (S : ℕ → Type 0) where
   within-widerM T i (writePrivileged p v k) M h = ((λ j l. i (p + j) (h .0 j l)), within-widerM T i k (put4 M p v) (h .1))
 
   -- off S nothing changes
-  untouchedM : {A : Type 0} (m : Prog A) (M : Memory) → WithinM S m M → Kept S M (runM m M .1)
+  untouchedM : {A : Type 0} (m : Prog A) (M : Memory) → WithinM S m M → SameOutside S M (runM m M .1)
   unfolding WithinM runM
   untouchedM (ret a) M h q o = refl
   untouchedM (read8 p k) M h q o = untouchedM (k (M p)) M (h .1) q o
@@ -147,37 +145,37 @@ module _ (S : ℕ → Type 0) where
   -- in a wider set; what lies outside S is kept
   pub does-wider
       : {A : Type 0} (T : ℕ → Type 0) → ((q : ℕ) → S q → T q) → {m : Prog A} {Q : A → Memory → Type 0} {M : Memory} → Does S m Q M
-      → Does T m (λ a N. Q a N × Kept S M N) M
+      → Does T m (λ a N. Q a N × SameOutside S M N) M
   does-wider T i {m} {Q} {M} h =
       record { lies = within-widerM T i m M (h .lies); gives = (h .gives, untouchedM m M (h .lies)) }
 
   -- a program that only reads, and gives v
-  abbrev pub Reads : {A : Type 0} → Prog A → A → Memory → Type 0
-  Reads m v M = Does S m (λ a N. (a ≡ v) × (N ≡ M)) M
+  abbrev pub ReadsValue : {A : Type 0} → Prog A → A → Memory → Type 0
+  ReadsValue m v M = Does S m (λ a N. (a ≡ v) × (N ≡ M)) M
 
   pub does-read
-      : {A B : Type 0} (m : Prog A) (f : A → Prog B) (v : A) {Q : B → Memory → Type 0} {M : Memory} → Reads m v M → Does S (f v) Q M
+      : {A B : Type 0} (m : Prog A) (f : A → Prog B) (v : A) {Q : B → Memory → Type 0} {M : Memory} → ReadsValue m v M → Does S (f v) Q M
       → Does S (m >>= f) Q M
   does-read m f v {Q} {M} h k = does-then m f h (λ a N e. rw (e .0, e .1) k)
 
   pub reads-then
-      : {A B : Type 0} (m : Prog A) (f : A → Prog B) (v : A) {u : B} {M : Memory} → Reads m v M → Reads (f v) u M → Reads (m >>= f) u M
+      : {A B : Type 0} (m : Prog A) (f : A → Prog B) (v : A) {u : B} {M : Memory} → ReadsValue m v M → ReadsValue (f v) u M → ReadsValue (m >>= f) u M
   reads-then m f v h k = does-read m f v h k
 
-  pub reads-ret : {A : Type 0} (v : A) {M : Memory} → Reads (ret v) v M
+  pub reads-ret : {A : Type 0} (v : A) {M : Memory} → ReadsValue (ret v) v M
   reads-ret v = does-ret (refl, refl)
 
-  pub reads-get8 : (p : ℕ) {v : ℕ} {M : Memory} → S p → M p ≡ v → Reads (get8 p) v M
+  pub reads-get8 : (p : ℕ) {v : ℕ} {M : Memory} → S p → M p ≡ v → ReadsValue (get8 p) v M
   unfolding WithinM runM
   reads-get8 p s e = record { lies = (s, tt); gives = (e, refl) }
 
-  pub reads-get32 : (p : ℕ) {v : ℕ} {M : Memory} → Four S p → word M p ≡ v → Reads (get32 p) v M
+  pub reads-get32 : (p : ℕ) {v : ℕ} {M : Memory} → Four S p → word M p ≡ v → ReadsValue (get32 p) v M
   unfolding WithinM runM
   reads-get32 p s e = record { lies = (s, tt); gives = (e, refl) }
 
   -- a read before what is done under a test
   pub if-reads
-      : {A B : Type 0} (c : Bool) (m : Prog A) (f : A → Prog B) (v : A) (u : Prog B) {Q : B → Memory → Type 0} {M : Memory} → Reads m v M
+      : {A B : Type 0} (c : Bool) (m : Prog A) (f : A → Prog B) (v : A) (u : Prog B) {Q : B → Memory → Type 0} {M : Memory} → ReadsValue m v M
       → Does S (if c then f v else u) Q M → Does S (if c then (m >>= f) else u) Q M
   if-reads true m f v u h k = does-read m f v h k
   if-reads false m f v u h k = k

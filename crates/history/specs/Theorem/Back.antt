@@ -19,18 +19,18 @@ use Rattle.register.specs.Change.{appended, removed, withCrs}
 use Rattle.register.specs.Buffers.{Below, padded, names-are, encodeRecords, encodeNames, encodeMissing}
 use Rattle.register.specs.Append.Draft.{room-inside}
 use Rattle.register.specs.Append.Stands.{appended-proper}
-use Rattle.register.specs.Change.Remove.{Stands, remaining}
+use Rattle.register.specs.Change.Remove.{RecordOfRegister, remaining}
 use Rattle.register.specs.Change.Left.{remove-kept}
-use Rattle.linker_spec.specs.declared.rebase.Lent.{Lent}
+use Rattle.linker_spec.specs.declared.rebase.LoadArguments.{LoadArguments}
 use Rattle.linker_spec.specs.declared.rebase.Rebased.{Rebased}
 use Rattle.linker_spec.specs.Relocation.{resetExternalRelocations}
 use Rattle.linker_spec.specs.Exports.{readModule}
 use Rattle.linker_spec.specs.Imports.{applyImportNamedSymbols, applyModuleImports, applyExportsToLoaded}
 use Rattle.linker_spec.specs.Fix.{fix}
-use Rattle.linker_spec.specs.Calls.{Answer, NotACro, BadSegment, BadWindow, NoRegister, NoRoom, Kept, Done, rebase, rebaseStatic, fits, enter, initialized, initialize, listed, missingNow, linked, load}
-use Rattle.linker_spec.specs.Gives.{Yields, yields-ret, yields-bind, yields-then, yields-if}
+use Rattle.linker_spec.specs.Calls.{Answer, NotACro, BadSegment, BadWindow, NoRegister, NoRoom, NotLoaded, Done, rebase, rebaseStatic, fits, addRecord, initialized, initialize, listed, missingNow, linked, load}
+use Rattle.linker_spec.specs.AnyResult.{Yields, yields-ret, yields-bind, yields-then, yields-if}
 use Rattle.linker_spec.specs.Room.{Fits, fits-means, with, with-small}
-use Rattle.linker_spec.specs.Valid.{Names, imports-yield}
+use Rattle.linker_spec.specs.Valid.{MissingNames, imports-yield}
 use Rattle.linker_spec.specs.Reads.{Readable, readModule-yields}
 use Rattle.history.specs.Sessions.Answers.{encoded-back}
 
@@ -43,7 +43,7 @@ Backs records names BadSegment = Unit {0}
 Backs records names BadWindow = Unit {0}
 Backs records names NoRegister = Unit {0}
 Backs records names NoRoom = Unit {0}
-Backs records names Kept = Unit {0}
+Backs records names NotLoaded = Unit {0}
 Backs records names (Done v s) = Back records names s
 
 module _ (at records names : ℕ) (r : Register) (p : proper r ≡ true) (s : Below (2 ^ 32) (encodeWords r)) where
@@ -52,7 +52,7 @@ module _ (at records names : ℕ) (r : Register) (p : proper r ≡ true) (s : Be
 
   -- a module more
   with-back
-      : (m : Module) → Readable at m → (f : Fits records names r m) (c : Crs) (missing : List (List ℕ)) → crsBase c < 2 ^ 32 → Names missing
+      : (m : Module) → Readable at m → (f : Fits records names r m) (c : Crs) (missing : List (List ℕ)) → crsBase c < 2 ^ 32 → MissingNames missing
       → Back records names (record { modules = appended r m .modules; crs = c; missing = missing })
   unfolding encodeWords appended
   with-back m k f c missing hc h =
@@ -65,8 +65,8 @@ module _ (at records names : ℕ) (r : Register) (p : proper r ≡ true) (s : Be
   enter-back
       : (base size : ℕ) (auto : Bool) (next : Module → Prog Answer) → base < 2 ^ 32 → size < 2 ^ 32
       → ((m : Module) → Readable at m → Fits records names r m → Yields at L (next m)) → (x : Rebased)
-      → Yields at L (enter records names r base size auto next x)
-  unfolding enter
+      → Yields at L (addRecord records names r base size auto next x)
+  unfolding addRecord
   enter-back base size auto next hb hs h Rebased.NotACro = yields-ret at L NotACro tt
   enter-back base size auto next hb hs h Rebased.BadSegment = yields-ret at L BadSegment tt
   enter-back base size auto next hb hs h Rebased.Done =
@@ -88,14 +88,14 @@ module _ (at records names : ℕ) (r : Register) (p : proper r ≡ true) (s : Be
   unfolding encodeWords
   crs-small = s 2
 
-  pub load-back : (l : Lent) (auto : Bool) (level : ℕ) → l .base < 2 ^ 32 → l .size < 2 ^ 32 → Yields at L (load l auto level records names r)
+  pub load-back : (l : LoadArguments) (auto : Bool) (level : ℕ) → l .base < 2 ^ 32 → l .size < 2 ^ 32 → Yields at L (load l auto level records names r)
   unfolding load linked missingNow appended
   load-back l auto level hb hs =
       let a = proper-parts r p in
       yields-then at L (rebase l) _
       (enter-back (l .base) (l .size) auto _ hb hs
       (λ m k f. yields-then at L (listed (r .crs) (l .base) auto) _
-      (λ _. yields-bind at Names L (applyImportNamedSymbols (appended r m .modules) (l .base) (r .missing)) _
+      (λ _. yields-bind at MissingNames L (applyImportNamedSymbols (appended r m .modules) (l .base) (r .missing)) _
       (imports-yield at (appended r m .modules) (l .base) (r .missing) (a .few, a .kept))
       (λ ns g. yields-then at L (applyModuleImports (appended r m .modules) (l .base)) _
       (λ _. yields-then at L (applyExportsToLoaded m (r .modules)) _
@@ -111,7 +111,7 @@ unload-back records names missing v t k h =
     let r = registerOf records names missing in
     let m = names-are records names missing r (register-parts records names missing v .1) in
     let a : missing ≡ padded 32896 (slots (r .missing)) = m .1 ∙ ap (λ n. padded n (slots (r .missing))) (m .2) in
-    let leaving : Stands records names (32 + 4 * length (recordWords 0 (take k (r .modules)))) =
+    let leaving : RecordOfRegister records names (32 + 4 * length (recordWords 0 (take k (r .modules)))) =
     record { missing = missing; number = k; holds = v; below = h; there = refl } in
     subst
     (λ x. registerOf (encodeRecords (length records) (removed r k)) (encodeNames (length names) (removed r k)) x ≡ removed r k) a

@@ -6,68 +6,69 @@ use mathlib.Core.List.{List, [], _∷_}
 use native.Mathlib.Omega.{arith}
 use lib.ListN.{length, getD}
 use Rattle.window.specs.Within.{Agree}
-use Rattle.history.specs.Arrival.{Arrival, imageOf, Area}
+use Rattle.history.specs.LoadedModule.{LoadedModule, imageOf, Area}
 use Rattle.linker_spec.specs.declared.call.Call.{Call}
 use Rattle.linker_spec.specs.declared.call.Call.the-variants.{Initialize, Load, Unload}
-use Rattle.linker_spec.specs.Outcome.{Bytes, Outcome}
-use Rattle.history.specs.Sessions.{given, Turn, after, own, arrived, standing, Trace}
+use Rattle.linker_spec.specs.Outcome.{Buffers, Outcome}
+use Rattle.history.specs.Sessions.{given, CallRecord, after, own, loadedModules, standing, Trace}
 use Rattle.history.specs.Outcomes.{Linker, Gave, Made, Promised, Follows}
+use Rattle.linker_spec.specs.Refusals.{lentRegister}
 use Rattle.history.specs.Below.{Each}
 use Rattle.history.specs.Demand3.{Demand3, Premises, SameStanding, NoByteDiffers, Linked, bytesLeft, bytesAfter}
 use Rattle.history.specs.Steps.Wp.{Memory}
 use Rattle.register.specs.Module.{Register}
 use Rattle.history.specs.Sessions.Lists.{standing-among}
-use Rattle.history.specs.Sessions.Unique.{noArrival, imageAt, laid-at}
-use Rattle.history.specs.Sessions.Conclude.{same-count, same-arrivals, same-images, no-byte-differs}
-use Rattle.history.specs.Theorem.Invariant.{restFor, restOfArrival, castOf, Resting}
+use Rattle.history.specs.Sessions.Unique.{noModule, imageAt, laid-at}
+use Rattle.history.specs.Sessions.Conclude.{same-count, same-loaded, same-images, no-byte-differs}
+use Rattle.history.specs.Theorem.Invariant.{restFor, restOfModule, standingModules, Resting}
 use Rattle.history.specs.Theorem.Turns.{RestingIn}
 use Rattle.history.specs.Theorem.Step.{none-came, some-came, among-none}
-use Rattle.history.specs.Theorem.Theorem.{OwnCalls, own-all, Kept, concluded, session}
+use Rattle.history.specs.Theorem.Theorem.{OwnCalls, own-all, HoldsAfter, session}
 use Rattle.history.specs.Theorem.Own.{trace-own, premises-own, stands-own, linked-own}
 
 -- modules that came alike have the same bytes at rest
 rests-alike
-    : (S T : List Arrival) → SameStanding S T → {r : Register} {M : Memory} → Resting S r M → (k : ℕ) → k < length S
-    → Agree (Area (imageAt S k)) (restOfArrival (getD S k noArrival)) (restOfArrival (getD T k noArrival))
+    : (S T : List LoadedModule) → SameStanding S T → {r : Register} {M : Memory} → Resting S r M → (k : ℕ) → k < length S
+    → Agree (Area (imageAt S k)) (restOfModule (getD S k noModule)) (restOfModule (getD T k noModule))
 rests-alike S T same h k l =
-    let a = getD S k noArrival in
-    let b = getD T k noArrival in
-    let s = same-arrivals S T same k l in
-    subst (λ c. Agree (Area (imageOf a)) (restOfArrival a) (restFor c (imageOf b) (b .bytes))) (s .0)
-    (subst (λ m. Agree (Area (imageOf a)) (restOfArrival a) (restFor (a .coming) m (b .bytes))) (same-images S T same k)
+    let a = getD S k noModule in
+    let b = getD T k noModule in
+    let s = same-loaded S T same k l in
+    subst (λ c. Agree (Area (imageOf a)) (restOfModule a) (restFor c (imageOf b) (b .bytes))) (s .0)
+    (subst (λ m. Agree (Area (imageOf a)) (restOfModule a) (restFor (a .loadCall) m (b .bytes))) (same-images S T same k)
     (h .alike k l (b .bytes) (s .1)))
 
 -- none stands
-nothing-differs : (ts us : List Turn) → standing ts ≡ [] → NoByteDiffers ts us
+nothing-differs : (ts us : List CallRecord) → standing ts ≡ [] → NoByteDiffers ts us
 unfolding NoByteDiffers Each
 nothing-differs ts us e = rw e tt
 
-none-stand : (ts : List Turn) → arrived ts ≡ [] → standing ts ≡ []
-none-stand ts e = among-none (standing ts) (arrived ts) (standing-among ts) e
+none-stand : (ts : List CallRecord) → loadedModules ts ≡ [] → standing ts ≡ []
+none-stand ts e = among-none (standing ts) (loadedModules ts) (standing-among ts) e
 
-no-elements : (S : List Arrival) → length S ≡ 0 → S ≡ []
+no-elements : (S : List LoadedModule) → length S ≡ 0 → S ≡ []
 no-elements [] e = refl
 no-elements (a ∷ S) e = absurd (omega arith)
 
-nothing-same : (ts us : List Turn) → standing us ≡ [] → SameStanding (standing ts) (standing us) → NoByteDiffers ts us
+nothing-same : (ts us : List CallRecord) → standing us ≡ [] → SameStanding (standing ts) (standing us) → NoByteDiffers ts us
 nothing-same ts us e same =
     nothing-differs ts us (no-elements (standing ts) (same-count (standing ts) (standing us) same ∙ ap length e))
 
 both-stand
-    : (t u : Turn) (ts us : List Turn) → own (t ∷ ts) ≡ t ∷ ts → own (u ∷ us) ≡ u ∷ us → Premises (t ∷ ts)
+    : (t u : CallRecord) (ts us : List CallRecord) → own (t ∷ ts) ≡ t ∷ ts → own (u ∷ us) ≡ u ∷ us → Premises (t ∷ ts)
     → RestingIn (t .at) (standing (t ∷ ts)) (after t) → RestingIn (u .at) (standing (u ∷ us)) (after u)
     → SameStanding (standing (t ∷ ts)) (standing (u ∷ us)) → NoByteDiffers (t ∷ ts) (u ∷ us)
 unfolding bytesLeft
 both-stand t u ts us mine other h g i same =
     let S = standing (t ∷ ts) in
     let T = standing (u ∷ us) in
-    no-byte-differs (t ∷ ts) (u ∷ us) (castOf S .rest) (castOf T .rest) (laid-at (t ∷ ts) h S (standing-among (t ∷ ts)))
-    (rests-alike S T same g) (rw mine (concluded (t .at) (after t) S g)) (rw other (concluded (u .at) (after u) T i)) same
+    no-byte-differs (t ∷ ts) (u ∷ us) (standingModules S .rest) (standingModules T .rest) (lentRegister (after t)) (lentRegister (after u)) (laid-at (t ∷ ts) h S (standing-among (t ∷ ts)))
+    (rests-alike S T same g) (rw mine (g .rest)) (rw other (i .rest)) same
 
 no-byte
-    : (ts us : List Turn) → own ts ≡ ts → own us ≡ us → Premises ts → Kept ts → Kept us → SameStanding (standing ts) (standing us)
+    : (ts us : List CallRecord) → own ts ≡ ts → own us ≡ us → Premises ts → HoldsAfter ts → HoldsAfter us → SameStanding (standing ts) (standing us)
     → NoByteDiffers ts us
-unfolding Kept standing
+unfolding HoldsAfter standing
 no-byte [] us m o h k l same = nothing-differs [] us refl
 no-byte (t ∷ ts) [] m o h k l same = nothing-same (t ∷ ts) [] refl same
 no-byte (t ∷ ts) (u ∷ us) m o h (none-came n f) l same = nothing-differs (t ∷ ts) (u ∷ us) (none-stand (t ∷ ts) n)
@@ -75,11 +76,11 @@ no-byte (t ∷ ts) (u ∷ us) m o h (some-came e c g) (none-came n f) same = not
 no-byte (t ∷ ts) (u ∷ us) m o h (some-came e c g) (some-came a d i) same = both-stand t u ts us m o h g i same
 
 -- what one session keeps
-module _ (at : ℕ) (ts : List Turn) (trace : Trace at ts) (made : Made Follows ts) (h : Premises ts) where
+module _ (at : ℕ) (ts : List CallRecord) (trace : Trace at ts) (made : Made Follows ts) (h : Premises ts) where
   calls : OwnCalls at (own ts)
   calls = trace-own at ts trace made
 
-  kept : Kept (own ts) × Linked (own ts)
+  kept : HoldsAfter (own ts) × Linked (own ts)
   kept = session at (own ts) calls (premises-own ts h)
 
   pub linked : Linked ts
@@ -87,7 +88,7 @@ module _ (at : ℕ) (ts : List Turn) (trace : Trace at ts) (made : Made Follows 
 
 -- where two end alike
 no-byte-own
-    : (at bt : ℕ) (ts us : List Turn) → OwnCalls at (own ts) → OwnCalls bt (own us) → Premises (own ts) → Kept (own ts) → Kept (own us)
+    : (at bt : ℕ) (ts us : List CallRecord) → OwnCalls at (own ts) → OwnCalls bt (own us) → Premises (own ts) → HoldsAfter (own ts) → HoldsAfter (own us)
     → SameStanding (standing ts) (standing us) → NoByteDiffers ts us
 unfolding NoByteDiffers
 no-byte-own at bt ts us c d h k l same =
@@ -100,12 +101,12 @@ no-byte-own at bt ts us c d h k l same =
     (subst (λ S. SameStanding S (standing (own us))) (sym (a .0)) (subst (SameStanding (standing ts)) (sym (b .0)) same)))))
 
 -- a linker that gives document 01's outcomes
-follow : (L : Linker) → ((t : Turn) → Gave L t → Gave Follows t) → (ts : List Turn) → Made L ts → Made Follows ts
+follow : (L : Linker) → ((t : CallRecord) → Gave L t → Gave Follows t) → (ts : List CallRecord) → Made L ts → Made Follows ts
 unfolding Each
 follow L f [] h = tt
 follow L f (t ∷ ts) h = (f t (h .0), follow L f ts (h .1))
 
-pub demand3-of : (L : Linker) → ((t : Turn) → Gave L t → Gave Follows t) → Demand3 L
+pub demand3-of : (L : Linker) → ((t : CallRecord) → Gave L t → Gave Follows t) → Demand3 L
 unfolding Demand3
 demand3-of L f at bt ts us s r m n p q =
     let g = follow L f ts m in
@@ -116,20 +117,20 @@ demand3-of L f at bt ts us s r m n p q =
     )
 
 -- the exported contracts give them
-pub promised-given : (c : Call) (at : ℕ) (b : Bytes) (o : Outcome) → Promised c at b o → o ≡ given c at b
+pub promised-given : (c : Call) (at : ℕ) (b : Buffers) (o : Outcome) → Promised c at b o → o ≡ given c at b
 unfolding Promised given
 promised-given (Initialize base size) at b o e = e
 promised-given (Load l auto level) at b o e = e
 promised-given (Unload base) at b o e = e
 
 -- and leave no call without an outcome
-pub promised-answers : (c : Call) (at : ℕ) (b : Bytes) → (o : Outcome) × Promised c at b o
+pub promised-answers : (c : Call) (at : ℕ) (b : Buffers) → (o : Outcome) × Promised c at b o
 unfolding Promised given
 promised-answers (Initialize base size) at b = (given (Initialize base size) at b, refl)
 promised-answers (Load l auto level) at b = (given (Load l auto level) at b, refl)
 promised-answers (Unload base) at b = (given (Unload base) at b, refl)
 
-pub promised-follows : (t : Turn) → Gave Promised t → Gave Follows t
+pub promised-follows : (t : CallRecord) → Gave Promised t → Gave Follows t
 promised-follows t h =
     let e = promised-given (t .call) (t .at) (t .before) (t .gave) h in
     let records = ap (λ o. o .left .records) e in

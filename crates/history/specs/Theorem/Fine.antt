@@ -3,15 +3,15 @@ use Prim.Native.Nat.{_+_, _^_, _≤_}
 use mathlib.Core.Path.{_≡_, subst}
 use mathlib.Core.List.{List, _∷_}
 use lib.ListN.{length}
-use Rattle.history.specs.Arrival.{Arrival}
-use Rattle.history.specs.Sessions.{Turn, own, arrived}
+use Rattle.history.specs.LoadedModule.{LoadedModule}
+use Rattle.history.specs.Sessions.{CallRecord, own, loadedModules}
 use Rattle.history.specs.Demand3.{InWindow, Premises}
-use Rattle.history.specs.Sessions.Lists.{Among}
+use Rattle.history.specs.Sessions.Lists.{Sublist}
 use Rattle.history.specs.Sessions.Unique.{imageAt, laid-at, base-at, inside-at, apart-at, names-at, exports-at}
 use Rattle.history.specs.Theorem.Calls.{Fine}
 
 pub fine
-    : (t : Turn) (ts : List Turn) → own (t ∷ ts) ≡ t ∷ ts → Premises (t ∷ ts) → (S : List Arrival) → Among S (arrived (t ∷ ts))
+    : (t : CallRecord) (ts : List CallRecord) → own (t ∷ ts) ≡ t ∷ ts → Premises (t ∷ ts) → (S : List LoadedModule) → Sublist S (loadedModules (t ∷ ts))
     → t .at + length (t .before .window) ≤ 2 ^ 32 → Fine (t .at) (length (t .before .window)) S
 unfolding InWindow
 fine t ts o h S m top =

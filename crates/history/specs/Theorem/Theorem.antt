@@ -6,9 +6,8 @@ use mathlib.Core.Bool.{false}
 use lib.ListN.{length}
 use Rattle.window.specs.Memory.{byteAt}
 use Rattle.window.specs.Within.{In}
-use Rattle.linker_spec.specs.Outcome.{Bytes}
-use Rattle.history.specs.Arrival.{Image, Arrival, imageOf}
-use Rattle.history.specs.Sessions.{Turn, after, Fresh, Typed, unfit, own, brought, arrived, standing, Between}
+use Rattle.history.specs.LoadedModule.{Image, LoadedModule, imageOf}
+use Rattle.history.specs.Sessions.{CallRecord, after, Fresh, Typed, unfit, own, brought, loadedModules, standing, Between}
 use Rattle.history.specs.Outcomes.{Gave, Follows}
 use Rattle.history.specs.Windows.{given-length}
 use Rattle.history.specs.Below.{Each, Pairs}
@@ -16,36 +15,35 @@ use Rattle.history.specs.Demand3.{CrsFirst, InWindow, images, Premises, 
 use Rattle.history.specs.Sessions.Lists.{each-mono, each-left, pairs-left, standing-among}
 use Rattle.history.specs.Sessions.Unique.{imageAt, laid-at, once-at}
 use Rattle.history.specs.Sessions.Conclude as conclude
-use Rattle.history.specs.Theorem.Invariant.{Resting, castOf}
-use Rattle.history.specs.Theorem.Turns.{RestingIn}
+use Rattle.history.specs.Theorem.Invariant.{standingModules}
 use Rattle.history.specs.Theorem.Step.{Holding, none-came, some-came, among-none, between-holds, step}
 
 -- calls on the session's own window and register, each with document 01's outcome
-pub data OwnCalls (at : ℕ) : List Turn → Type 0 where
+pub data OwnCalls (at : ℕ) : List CallRecord → Type 0 where
   none : OwnCalls at []
   first
-      : (t : Turn) → unfit t ≡ false → t .at ≡ at → Typed t → Fresh (t .before) → Gave Follows t → OwnCalls at (t ∷ [])
+      : (t : CallRecord) → unfit t ≡ false → t .at ≡ at → Typed t → Fresh (t .before) → Gave Follows t → OwnCalls at (t ∷ [])
   next
-      : (t u : Turn) (ts : List Turn) → OwnCalls at (u ∷ ts) → unfit t ≡ false → t .at ≡ at → Typed t
+      : (t u : CallRecord) (ts : List CallRecord) → OwnCalls at (u ∷ ts) → unfit t ≡ false → t .at ≡ at → Typed t
       → Between at (u ∷ ts) (after u) (t .before) → Gave Follows t → OwnCalls at (t ∷ u ∷ ts)
 
 -- all of them are its own
-pub own-all : (at : ℕ) (ts : List Turn) → OwnCalls at ts → own ts ≡ ts
+pub own-all : (at : ℕ) (ts : List CallRecord) → OwnCalls at ts → own ts ≡ ts
 unfolding own
 own-all at ts none = refl
 own-all at ts (first t f e typed b g) = rw f refl
 own-all at ts (next t u us h f e typed b g) = rw f (ap (λ vs. t ∷ vs) (own-all at (u ∷ us) h))
 
-map-append : (xs ys : List Arrival) → map imageOf (xs ++ ys) ≡ map imageOf xs ++ map imageOf ys
+map-append : (xs ys : List LoadedModule) → map imageOf (xs ++ ys) ≡ map imageOf xs ++ map imageOf ys
 map-append [] ys = refl
 map-append (x ∷ xs) ys = ap (λ zs. imageOf x ∷ zs) (map-append xs ys)
 
 -- the premises of a session are those of its first calls
-module _ (t u : Turn) (ts : List Turn) (same : (t .at ≡ u .at) × (length (t .before .window) ≡ length (u .before .window)))
+module _ (t u : CallRecord) (ts : List CallRecord) (same : (t .at ≡ u .at) × (length (t .before .window) ≡ length (u .before .window)))
     (whole : own (t ∷ u ∷ ts) ≡ t ∷ u ∷ ts) (less : own (u ∷ ts) ≡ u ∷ ts) (h : Premises (t ∷ u ∷ ts)) where
   split : images (t ∷ u ∷ ts) ≡ images (u ∷ ts) ++ map imageOf (brought t)
-  unfolding arrived
-  split = map-append (arrived (u ∷ ts)) (brought t)
+  unfolding loadedModules
+  split = map-append (loadedModules (u ∷ ts)) (brought t)
 
   each-less : (P : Image → Type 0) → Each P (images (t ∷ u ∷ ts)) → Each P (images (u ∷ ts))
   each-less P g = each-left P (images (u ∷ ts)) (map imageOf (brought t)) (subst (Each P) split g)
@@ -74,47 +72,34 @@ module _ (t u : Turn) (ts : List Turn) (same : (t .at ≡ u .at) × (length (t .
         well-laid = each-less _ (h .well-laid);
       }
 
--- as the conclusions take it
-pub concluded
-    : (at : ℕ) (b : Bytes) (S : List Arrival) → RestingIn at S b → conclude.Resting (length S) (imageAt S) (castOf S .rest) (byteAt at (b .window))
-concluded at b S h =
-    record {
-      links = h .rest .links;
-      next = h .rest .next;
-      previous = h .rest .previous;
-      stands = h .rest .scene .world .stands;
-      final = h .rest .scene .links;
-      listed = h .rest .scene .listed;
-    }
-
 all-hold
-    : (t : Turn) (ts : List Turn) → own (t ∷ ts) ≡ t ∷ ts → Premises (t ∷ ts) → Holding (t .at) (t ∷ ts) (after t)
+    : (t : CallRecord) (ts : List CallRecord) → own (t ∷ ts) ≡ t ∷ ts → Premises (t ∷ ts) → Holding (t .at) (t ∷ ts) (after t)
     → AllHold (map imageOf (standing (t ∷ ts))) (bytesAfter (t ∷ ts))
 unfolding bytesLeft AllHold Each
 all-hold t ts mine h (none-came n f) =
-    rw (among-none (standing (t ∷ ts)) (arrived (t ∷ ts)) (standing-among (t ∷ ts)) n) tt
+    rw (among-none (standing (t ∷ ts)) (loadedModules (t ∷ ts)) (standing-among (t ∷ ts)) n) tt
 all-hold t ts mine h (some-came o c g) =
     let S = standing (t ∷ ts) in
     let m = standing-among (t ∷ ts) in
     rw mine
-    (conclude.all-hold S (castOf S .rest) (byteAt (t .at) (after t .window)) (concluded (t .at) (after t) S g)
+    (conclude.all-hold S (standingModules S .rest) (byteAt (t .at) (after t .window)) (g .rest)
     (λ k l i j n p q. once-at (t ∷ ts) h S m (imageAt S k) (laid-at (t ∷ ts) h S m k l) i j n p q))
 
 -- after the last call, and after every call
-unfoldable pub Kept : List Turn → Type 0
-Kept [] = Unit {0}
-Kept (t ∷ ts) = Holding (t .at) (t ∷ ts) (after t)
+unfoldable pub HoldsAfter : List CallRecord → Type 0
+HoldsAfter [] = Unit {0}
+HoldsAfter (t ∷ ts) = Holding (t .at) (t ∷ ts) (after t)
 
-last-place : (at : ℕ) (u : Turn) (us : List Turn) → OwnCalls at (u ∷ us) → u .at ≡ at
+last-place : (at : ℕ) (u : CallRecord) (us : List CallRecord) → OwnCalls at (u ∷ us) → u .at ≡ at
 last-place at u us (first v f e typed b g) = e
 last-place at u us (next v w vs a f e typed b g) = e
 
-last-follows : (at : ℕ) (u : Turn) (us : List Turn) → OwnCalls at (u ∷ us) → Gave Follows u
+last-follows : (at : ℕ) (u : CallRecord) (us : List CallRecord) → OwnCalls at (u ∷ us) → Gave Follows u
 last-follows at u us (first v f e typed b g) = g
 last-follows at u us (next v w vs a f e typed b g) = g
 
-pub session : (at : ℕ) (ts : List Turn) → OwnCalls at ts → Premises ts → Kept ts × Linked ts
-unfolding Kept Linked arrived
+pub session : (at : ℕ) (ts : List CallRecord) → OwnCalls at ts → Premises ts → HoldsAfter ts × Linked ts
+unfolding HoldsAfter Linked loadedModules
 session at ts none h = (tt, tt)
 session at ts (first t f e typed fresh g) h =
     let k = step t [] g typed (own-all at (t ∷ []) (first t f e typed fresh g)) h (none-came refl fresh) in

@@ -15,37 +15,37 @@ use Rattle.register.specs.CheckIs.{register-parts}
 use Rattle.register.specs.Change.{removed}
 use Rattle.register.specs.Buffers.{Below}
 use Rattle.register.specs.Append.Stands.{encoded-small}
-use Rattle.linker_spec.specs.declared.rebase.Lent.{Lent}
+use Rattle.linker_spec.specs.declared.rebase.LoadArguments.{LoadArguments}
 use Rattle.linker_spec.specs.Calls as calls
 use Rattle.linker_spec.specs.Calls.{Done, stands, firstWithBase}
-use Rattle.linker_spec.specs.Outcome.{Bytes}
+use Rattle.linker_spec.specs.Outcome.{Buffers}
 use Rattle.linker_spec.specs.Refusals.{lentRegister}
 use Rattle.linker_spec.specs.Valid.{Valid, AreBytes}
 use Rattle.register.specs.Module.{Module}
-use Rattle.history.specs.Arrival.{initialized, loaded, Arrival, baseOf, Area}
+use Rattle.history.specs.LoadedModule.{initialized, loaded, LoadedModule, baseOf, Area}
 use Rattle.linker_spec.specs.declared.call.Call.{Call}
 use Rattle.linker_spec.specs.declared.call.Call.the-variants.{Initialize, Load, Unload}
-use Rattle.history.specs.Sessions.{given, Turn, after, expected, SameBytes, Areas, arrived, Between}
+use Rattle.history.specs.Sessions.{given, CallRecord, after, expected, SameBytes, Areas, loadedModules, Between}
 use Rattle.history.specs.Outcomes.{Gave, Follows, SameEncoded}
 use Rattle.history.specs.Windows.{program}
-use Rattle.history.specs.Sessions.Lists.{lacking, Among, nothing, keeps, drops}
+use Rattle.history.specs.Sessions.Lists.{lacking, Sublist, nothing, keeps, drops}
 use Rattle.history.specs.Sessions.Unique.{imageAt}
-use Rattle.history.specs.Sessions.Answers.{programOf, Performed, Left, brings-initialize, brings-load, unload-known}
+use Rattle.history.specs.Sessions.Answers.{programOf, Performed, CallDone, brings-initialize, brings-load, unload-known}
 use Rattle.history.specs.Theorem.Invariant.{Resting, resting-agree, resting-same}
 use Rattle.history.specs.Theorem.Calls.{Fine, unload-rests, load-rests, initialize-rests}
 use Rattle.history.specs.Theorem.Back.{Back, Backs, initialize-back, load-back, unload-back}
 
 -- at rest in these bytes: the window's and the register that is read from them
-abbrev pub RestingIn : ℕ → List Arrival → Bytes → Type 0
+abbrev pub RestingIn : ℕ → List LoadedModule → Buffers → Type 0
 RestingIn at S b = Resting S (lentRegister b) (byteAt at (b .window))
 
 -- the same register bytes say the same
-pub same-lent : (b c : Bytes) → SameBytes b c → lentRegister b ≡ lentRegister c
+pub same-lent : (b c : Buffers) → SameBytes b c → lentRegister b ≡ lentRegister c
 same-lent b c e = rw (e .0, e .1, e .2) refl
 
 -- what the definition leaves, what the call gave
 pub follows-rests
-    : (t : Turn) (S : List Arrival) → Gave Follows t → RestingIn (t .at) S (expected t .left) → RestingIn (t .at) S (after t)
+    : (t : CallRecord) (S : List LoadedModule) → Gave Follows t → RestingIn (t .at) S (expected t .left) → RestingIn (t .at) S (after t)
 follows-rests t S f h = go (f .register)
   where
     at : ℕ
@@ -59,7 +59,7 @@ follows-rests t S f h = go (f .register)
     go (inr e) = resting-same S (e .registers) moved
 
 -- those that stand are among those that came
-among-areas : (S A : List Arrival) → Among S A → (k q : ℕ) → k < length S → Area (imageAt S k) q → Areas A q
+among-areas : (S A : List LoadedModule) → Sublist S A → (k q : ℕ) → k < length S → Area (imageAt S k) q → Areas A q
 unfolding Areas
 among-areas S A nothing k q l a = absurd (omega arith)
 among-areas S A (keeps x us vs h) zero q l a = inl a
@@ -68,21 +68,21 @@ among-areas S A (drops x us vs h) k q l a = inr (among-areas us vs h k q l a)
 
 -- what the next call gets
 pub between-rests
-    : (at : ℕ) (ts : List Turn) (left got : Bytes) (S : List Arrival) → Among S (arrived ts) → Between at ts left got → RestingIn at S left
+    : (at : ℕ) (ts : List CallRecord) (left got : Buffers) (S : List LoadedModule) → Sublist S (loadedModules ts) → Between at ts left got → RestingIn at S left
     → RestingIn at S got
 between-rests at ts left got S m e h =
     subst (λ r. Resting S r (byteAt at (got .window))) (same-lent left got (e .register))
-    (resting-agree S (λ k l q a. e .areas-kept q (among-areas S (arrived ts) m k q l a)) h)
+    (resting-agree S (λ k l q a. e .areas-kept q (among-areas S (loadedModules ts) m k q l a)) h)
 
 -- the answer's register, read from the bytes left
 left-rests
-    : (c : Call) (at : ℕ) (b : Bytes) (v : ℕ) (s : Register) (S : List Arrival) → Left c at b v s → Back (length (b .records)) (length (b .names)) s
+    : (c : Call) (at : ℕ) (b : Buffers) (v : ℕ) (s : Register) (S : List LoadedModule) → CallDone c at b v s → Back (length (b .records)) (length (b .names)) s
     → Resting S s (byteAt at (run at (programOf c b) (b .window) .1)) → RestingIn at S (given c at b .left)
 left-rests c at b v s S l e h =
     rw (l .records, l .names, l .missing, l .window)
     (subst (λ r. Resting S r (byteAt at (run at (programOf c b) (b .window) .1))) (sym e) h)
 
-module _ (at : ℕ) (b : Bytes) (bytes : AreBytes b) where
+module _ (at : ℕ) (b : Buffers) (bytes : AreBytes b) where
   abbrev parts : Valid b → (proper (lentRegister b) ≡ true) × Below (2 ^ 32) (encodeWords (lentRegister b))
   parts v =
       let p = register-parts (b .records) (b .names) (b .missing) v in
@@ -91,8 +91,8 @@ module _ (at : ℕ) (b : Bytes) (bytes : AreBytes b) where
   -- `initialize` was done
   pub initialize-turn
       : (base size : ℕ) → base < 2 ^ 32 → size < 2 ^ 32 → Performed (Initialize base size) at b → lentRegister b .modules ≡ []
-      → Fine at (length (b .window)) (record { coming = initialized base size; bytes = byteAt at (b .window) } ∷ [])
-      → RestingIn at (record { coming = initialized base size; bytes = byteAt at (b .window) } ∷ []) (given (Initialize base size) at b .left)
+      → Fine at (length (b .window)) (record { loadCall = initialized base size; bytes = byteAt at (b .window) } ∷ [])
+      → RestingIn at (record { loadCall = initialized base size; bytes = byteAt at (b .window) } ∷ []) (given (Initialize base size) at b .left)
   unfolding program
   initialize-turn base size hb hs p none-yet f =
       let g = brings-initialize base size at b p in
@@ -105,10 +105,10 @@ module _ (at : ℕ) (b : Bytes) (bytes : AreBytes b) where
 
   -- `load` was done
   pub load-turn
-      : (S : List Arrival) (l : Lent) (auto level : ℕ) → l .base < 2 ^ 32 → l .size < 2 ^ 32 → l .«data_at» < 2 ^ 32 → l .«bss_at» < 2 ^ 32
+      : (S : List LoadedModule) (l : LoadArguments) (auto level : ℕ) → l .base < 2 ^ 32 → l .size < 2 ^ 32 → l .«data_segment» < 2 ^ 32 → l .«bss_segment» < 2 ^ 32
       → not (eqb auto 0) ≡ true → level ≢ 2 → level ≢ 3 → Performed (Load l auto level) at b → RestingIn at S b
-      → Fine at (length (b .window)) (S ++ (record { coming = loaded l (not (eqb auto 0)) level; bytes = byteAt at (b .window) } ∷ []))
-      → RestingIn at (S ++ (record { coming = loaded l (not (eqb auto 0)) level; bytes = byteAt at (b .window) } ∷ [])) (given (Load l auto level) at b .left)
+      → Fine at (length (b .window)) (S ++ (record { loadCall = loaded l (not (eqb auto 0)) level; bytes = byteAt at (b .window) } ∷ []))
+      → RestingIn at (S ++ (record { loadCall = loaded l (not (eqb auto 0)) level; bytes = byteAt at (b .window) } ∷ [])) (given (Load l auto level) at b .left)
   unfolding program
   load-turn S l auto level hb hs hd hx e c d p h f =
       let g = brings-load l auto level at b p in
@@ -122,19 +122,19 @@ module _ (at : ℕ) (b : Bytes) (bytes : AreBytes b) where
       (subst
       (λ y.
       run at (calls.load l y level n m (lentRegister b)) (b .window) .0 ≡ Done (g .0) (g .1)
-      → Resting (S ++ (record { coming = loaded l (not (eqb auto 0)) level; bytes = byteAt at (b .window) } ∷ [])) (g .1)
+      → Resting (S ++ (record { loadCall = loaded l (not (eqb auto 0)) level; bytes = byteAt at (b .window) } ∷ [])) (g .1)
       (byteAt at (run at (calls.load l y level n m (lentRegister b)) (b .window) .1)))
       (sym e) q (g .2 .answered))
 
   -- `unload` of number d was done
   pub unload-turn
-      : (S : List Arrival) (base d : ℕ) → 0 < d → d < length S → baseOf (imageAt S d .coming) ≡ base → Performed (Unload base) at b
+      : (S : List LoadedModule) (base d : ℕ) → 0 < d → d < length S → baseOf (imageAt S d .loadCall) ≡ base → Performed (Unload base) at b
       → RestingIn at S b → Fine at (length (b .window)) S → (r : Module) → firstWithBase base (lentRegister b .modules) 0 ≡ stands r d
       → RestingIn at (lacking S d) (given (Unload base) at b .left)
   unfolding program
   unload-turn S base d above below e p h f r z =
       let g = unload-known base at b p r d z in
       left-rests (Unload base) at b 1 (removed (lentRegister b) d) (lacking S d) g
-      (unload-back (b .records) (b .names) (b .missing) (p .valid) (bytes .1) d (rw (h .rest .book .many) below))
+      (unload-back (b .records) (b .names) (b .missing) (p .valid) (bytes .1) d (rw (h .rest .registerMatches .many) below))
       (subst (λ y. Resting (lacking S d) (removed (lentRegister b) d) (byteAt at (run at (calls.unload y (lentRegister b)) (b .window) .1))) e
       (unload-rests at (b .window) S (lentRegister b) h f d above below))

@@ -6,55 +6,31 @@ use mathlib.Core.List.{List, [], _∷_, _++_}
 use mathlib.Core.Bool.{Bool, true}
 use native.Mathlib.Omega.{arith}
 use lib.ListN.{length, List·getD-append}
-use Rattle.window.specs.Memory.{byteAt, wordAt, putByte, putWord, putPrivileged}
-use Rattle.window.specs.Bytes.{length-putByte, length-putWord, length-putPrivileged}
-use Rattle.window.specs.Access.{Prog, ret, read8, read32, write8, write32, writePrivileged, put8, put32, put32Privileged, run}
+use Rattle.window.specs.Memory.{byteAt}
+use Rattle.window.specs.Access.{Prog}
 use Rattle.window.specs.Small.{Bytes, byteAt-small}
-use Rattle.window.specs.Within.{Within, Lies, Low, Agree}
-use Rattle.window.specs.Mirror.{word, put1, put4, runM, word-same, wordAt-word, mirror}
-use Rattle.window.specs.Trace.{S, touchOf}
+use Rattle.window.specs.Within.{Lies, Low}
+use Rattle.window.specs.Trace.{State, touchOf}
 use Rattle.window.specs.TraceRuns.{given}
 use Rattle.window.specs.Silent.{within}
 use Rattle.register.specs.Module.{Register}
-use Rattle.linker_spec.specs.declared.rebase.Lent.{Lent}
+use Rattle.linker_spec.specs.declared.rebase.LoadArguments.{LoadArguments}
 use Rattle.linker_spec.specs.Calls as calls
-use Rattle.linker_spec.specs.Calls.{Answer, Kept, unknown, firstWithBase, leave}
+use Rattle.linker_spec.specs.Calls.{Answer, NotLoaded, unknown, firstWithBase, leave}
 use Rattle.linker_spec.specs.Touches.{noTouch, no-log, none-said, touchIn}
-use Rattle.history.specs.Arrival.{Coming, initialized, loaded, Image, Arrival, imageOf, baseOf, sizeOf, Area}
+use Rattle.history.specs.Below.{length-more}
+use Rattle.history.specs.LoadedModule.{LoadCall, initialized, loaded, Image, LoadedModule, imageOf, baseOf, sizeOf, Area}
 use Rattle.history.specs.WellLaid.{WellLaid}
-use Rattle.history.specs.Steps.Wp.{Memory, WithinM, Does}
-use Rattle.history.specs.Steps.World.{All, put}
-use Rattle.history.specs.Calls.Loads.{Reach, Once, Names, loads}
+use Rattle.history.specs.Steps.Wp.{Memory, Does}
+use Rattle.history.specs.Steps.Windowed.{within-window}
+use Rattle.history.specs.Steps.AllModulesShow.{All, put}
+use Rattle.history.specs.Calls.Loads.{Reach, Once, DistinctNames, loads}
 use Rattle.history.specs.Calls.Starts.{starts}
 use Rattle.history.specs.Calls.Unloads.{unload-does}
-use Rattle.history.specs.Sessions.Unique.{noArrival, imageAt}
+use Rattle.history.specs.Sessions.Unique.{noModule, imageAt}
 use Rattle.history.specs.Sessions.Registers.{last-at}
-use Rattle.history.specs.Theorem.Invariant.{castOf, Resting, more-length, more-at}
+use Rattle.history.specs.Theorem.Invariant.{standingModules, Resting, more-at}
 use Rattle.history.specs.Theorem.Calls.{Fine, in-lies, fine-unlike, fine-once, cut-fresh}
-
--- accesses that lie in X on plain bytes lie there in a window that agrees with them
-module _ (X : ℕ → Type 0) (at n : ℕ) (fit : Lies X at n) where
-  within-window
-      : {A : Type 0} (m : Prog A) (w : List ℕ) (M : Memory) → length w ≡ n → WithinM X m M → Agree X (byteAt at w) M → Within X at m w
-  unfolding WithinM Within run runM
-  within-window (ret a) w M l h g = tt
-  within-window (read8 p k) w M l h g = (h .0, within-window (k (byteAt at w p)) w M l (rw (g p (h .0)) (h .1)) g)
-  within-window (read32 p k) w M l h g =
-      let e : wordAt at w p ≡ word M p = wordAt-word at w p ∙ word-same (byteAt at w) M p (λ j x. g (p + j) (h .0 j x)) in
-      (h .0, within-window (k (wordAt at w p)) w M l (rw e (h .1)) g)
-  within-window (write8 p v k) w M l h g = (
-    h .0,
-    within-window k (putByte at w p v) (put1 M p v) (length-putByte at w p v ∙ l) (h .1) (mirror X at n fit (put8 p v) w M l (h .0, tt) g .1),
-  )
-  within-window (write32 p v k) w M l h g = (
-    h .0,
-    within-window k (putWord at w p v) (put4 M p v) (length-putWord at w p v ∙ l) (h .1) (mirror X at n fit (put32 p v) w M l (h .0, tt) g .1),
-  )
-  within-window (writePrivileged p v k) w M l h g = (
-    h .0,
-    within-window k (putPrivileged at w p v) (put4 M p v) (length-putPrivileged at w p v ∙ l) (h .1)
-        (mirror X at n fit (put32Privileged p v) w M l (h .0, tt) g .1),
-  )
 
 module _ (at : ℕ) (w : List ℕ) where
   -- a run that touches nothing
@@ -71,11 +47,11 @@ module _ (at : ℕ) (w : List ℕ) where
       ∙ none-said
 
   -- a module that comes beside those of S
-  module _ (S : List Arrival) (c : Coming) where
-    abbrev new : Arrival
-    new = record { coming = c; bytes = byteAt at w }
+  module _ (S : List LoadedModule) (c : LoadCall) where
+    abbrev new : LoadedModule
+    new = record { loadCall = c; bytes = byteAt at w }
 
-    abbrev more : List Arrival
+    abbrev more : List LoadedModule
     more = S ++ (new ∷ [])
 
     abbrev m : Image
@@ -83,10 +59,10 @@ module _ (at : ℕ) (w : List ℕ) where
 
     module _ (f : Fine at (length w) more) (small : Bytes w) where
       top : length S < length more
-      top = let n = more-length S new in omega (arith, n)
+      top = let n = length-more S new in omega (arith, n)
 
       last : imageAt more (length S) ≡ m
-      last = ap imageOf (last-at S new noArrival)
+      last = ap imageOf (last-at S new noModule)
 
       laid : WellLaid m
       laid = subst WellLaid last (f .laid (length S) top)
@@ -98,7 +74,7 @@ module _ (at : ℕ) (w : List ℕ) where
       low q a = lies q a .0
 
       nonzero : baseOf c ≢ 0
-      nonzero = subst (λ x. baseOf (x .coming) ≢ 0) last (f .nonzero (length S) top)
+      nonzero = subst (λ x. baseOf (x .loadCall) ≢ 0) last (f .nonzero (length S) top)
 
       bytes : (o : ℕ) → o < sizeOf c → m .file o < 256
       bytes o i = rw (← cut-fresh new o i) (byteAt-small at w (baseOf c + o) small)
@@ -106,11 +82,11 @@ module _ (at : ℕ) (w : List ℕ) where
       off : (k q : ℕ) → k < length S → Area (imageAt S k) q → Area m q → ⊥
       off k q i a b =
           f .apart k (length S) q (omega (arith, top)) top (λ z. absurd (omega (arith, z)))
-          (subst (λ x. Area x q) (sym (ap imageOf (List·getD-append S (new ∷ []) noArrival k i))) a) (subst (λ x. Area x q) (sym last) b)
+          (subst (λ x. Area x q) (sym (ap imageOf (List·getD-append S (new ∷ []) noModule k i))) a) (subst (λ x. Area x q) (sym last) b)
 
   -- the CRS, no module being registered
   pub initialize-inside
-      : (S : List Arrival) (base size : ℕ) → Fine at (length w) (more S (initialized base size)) → Bytes w → (r : Register) → r .modules ≡ []
+      : (S : List LoadedModule) (base size : ℕ) → Fine at (length w) (more S (initialized base size)) → Bytes w → (r : Register) → r .modules ≡ []
       → (records names : ℕ) → Inside (calls.initialize base size records names r)
   initialize-inside S base size f small r none-yet records names =
       let c = initialized base size in
@@ -118,16 +94,16 @@ module _ (at : ℕ) (w : List ℕ) where
       (starts base size (m S c .file) (laid S c f small) (low S c f small) (bytes S c f small) (nonzero S c f small) (cut-fresh (new S c)) r none-yet
       records names)
 
-  module _ (S : List Arrival) (r : Register) (h : Resting S r (byteAt at w)) where
+  module _ (S : List LoadedModule) (r : Register) (h : Resting S r (byteAt at w)) where
     pub load-inside
-        : (l : Lent) (auto : Bool) (level : ℕ) → Fine at (length w) (more S (loaded l auto level)) → Bytes w → l .«data_at» < 2 ^ 32
-        → l .«bss_at» < 2 ^ 32 → level ≢ 2 → level ≢ 3 → (records names : ℕ) → Inside (calls.load l true level records names r)
+        : (l : LoadArguments) (auto : Bool) (level : ℕ) → Fine at (length w) (more S (loaded l auto level)) → Bytes w → l .«data_segment» < 2 ^ 32
+        → l .«bss_segment» < 2 ^ 32 → level ≢ 2 → level ≢ 3 → (records names : ℕ) → Inside (calls.load l true level records names r)
     load-inside l auto level f small data-low bss-low n₂ n₃ records names =
-        does-inside (Reach (castOf S) (m S c)) fit (calls.load l true level records names r)
-        (loads (castOf S) l auto level (m S c .file) (laid S c f small) (low S c f small) (bytes S c f small) data-low bss-low (off S c f small)
-        (nonzero S c f small) n₂ n₃ once other (h .rest .scene) r (h .rest .book) (cut-fresh (new S c)) records names)
+        does-inside (Reach (standingModules S) (m S c)) fit (calls.load l true level records names r)
+        (loads (standingModules S) l auto level (m S c .file) (laid S c f small) (low S c f small) (bytes S c f small) data-low bss-low (off S c f small)
+        (nonzero S c f small) n₂ n₃ once other (h .rest .linkedState) r (h .rest .registerMatches) (cut-fresh (new S c)) records names)
       where
-        c : Coming
+        c : LoadCall
         c = loaded l auto level
 
         images : ℕ → Image
@@ -137,28 +113,28 @@ module _ (at : ℕ) (w : List ℕ) where
         all = fun-ext (more-at imageOf S (new S c))
 
         count : suc (length S) ≡ length (more S c)
-        count = more-length S (new S c)
+        count = sym (length-more S (new S c))
 
-        fit : Lies (Reach (castOf S) (m S c)) at (length w)
+        fit : Lies (Reach (standingModules S) (m S c)) at (length w)
         fit q s =
             in-lies at (length w) q (f .top) (f .inside (s .0) q (omega (arith, count, s .1)) (subst (λ x. Area (x (s .0)) q) all (s .2)))
 
         once : Once (suc (length S)) images
         once = rw (count, all) (fine-once at (length w) (more S c) f)
 
-        other : Names (suc (length S)) images
+        other : DistinctNames (suc (length S)) images
         other = rw (count, all) (f .names)
 
     -- number d leaves
-    pub unload-inside : Fine at (length w) S → (d : ℕ) → 0 < d → d < length S → Inside (calls.unload (baseOf (imageAt S d .coming)) r)
+    pub unload-inside : Fine at (length w) S → (d : ℕ) → 0 < d → d < length S → Inside (calls.unload (baseOf (imageAt S d .loadCall)) r)
     unload-inside f d above below =
-        let C = castOf S in
-        let sound = h .rest .scene .sound in
+        let C = standingModules S in
+        let sound = h .rest .linkedState .sound in
         does-inside (All C sound) (λ q s. in-lies at (length w) q (f .top) (f .inside (s .0) q (s .1) (s .2)))
-        (calls.unload (baseOf (imageAt S d .coming)) r)
+        (calls.unload (baseOf (imageAt S d .loadCall)) r)
         (unload-does C sound (fine-unlike at (length w) S f) d above below r (h .rest))
 
   -- a base that no module has: no access at all
   pub unknown-inside : (base : ℕ) (r : Register) → firstWithBase base (r .modules) 0 ≡ unknown → Inside (calls.unload base r)
   unfolding touchIn calls.unload leave
-  unknown-inside base r e = rw e (ap (λ (x : Answer × S). touchOf (x .1 .1)) (sym (given at Kept (w, noTouch))) ∙ none-said)
+  unknown-inside base r e = rw e (ap (λ (x : Answer × State). touchOf (x .1 .1)) (sym (given at NotLoaded (w, noTouch))) ∙ none-said)

@@ -11,28 +11,27 @@ use Rattle.window.specs.Memory.{if_then_else_, byteAt}
 use Rattle.window.specs.Edges.{good-end}
 use Rattle.linker_spec.specs.declared.call.Call.{Call}
 use Rattle.linker_spec.specs.declared.call.Call.the-variants.{Initialize, Load, Unload}
-use Rattle.linker_spec.specs.declared.rebase.Lent.{Lent}
+use Rattle.linker_spec.specs.declared.rebase.LoadArguments.{LoadArguments}
 use Rattle.linker_spec.specs.Calls as calls
 use Rattle.linker_spec.specs.Calls.{firstWithBase}
-use Rattle.linker_spec.specs.Outcome.{Bytes}
+use Rattle.linker_spec.specs.Outcome.{Buffers}
 use Rattle.linker_spec.specs.Refusals.{lentRegister}
 use Rattle.linker_spec.specs.Touches.{touchesOf}
-use Rattle.history.specs.Arrival.{loaded, Arrival, baseOf, isCrs}
-use Rattle.history.specs.Below.{Each, Pairs}
-use Rattle.history.specs.Sessions.{Turn, after, done, unfit, own, comes, brought, arrived, standing, Fresh, Words, Typed, Between, Trace}
+use Rattle.history.specs.LoadedModule.{loaded, LoadedModule, baseOf, isCrs}
+use Rattle.history.specs.Below.{Each, Pairs, length-more}
+use Rattle.history.specs.Sessions.{CallRecord, after, done, unfit, own, comes, brought, loadedModules, standing, Fresh, WordArguments, Typed, Between, Trace}
 use Rattle.history.specs.Outcomes.{Gave, Made, Promised, Follows}
 use Rattle.history.specs.Windows.{program, given-length}
 use Rattle.history.specs.Demand3.{InOrder, AutoLinked, ImportsKept, CrsFirst, Premises}
 use Rattle.history.specs.Steps.Asking.{true-false}
-use Rattle.history.specs.Sessions.Lists.{each-mono, OtherBase, Among, among-left, among-append, among-trans, among-each, standing-among, leaver}
-use Rattle.history.specs.Sessions.Unique.{noArrival, imageAt, auto-at, kept-at, other-bases}
-use Rattle.history.specs.Sessions.Registers.{Found, goes, none, found, last-at}
+use Rattle.history.specs.Sessions.Lists.{each-mono, OtherBase, Sublist, among-left, among-append, among-trans, among-each, standing-among, leaver}
+use Rattle.history.specs.Sessions.Unique.{noModule, imageAt, auto-at, kept-at, other-bases}
+use Rattle.history.specs.Sessions.Registers.{UnloadFinds, goes, none, found, last-at}
 use Rattle.history.specs.Sessions.Answers.{programOf, Performed, performed, done-zero}
-use Rattle.history.specs.Theorem.Invariant.{more-length}
 use Rattle.history.specs.Theorem.Calls.{Fine}
 use Rattle.history.specs.Theorem.Fine.{fine}
 use Rattle.history.specs.Theorem.Step.{Holding, none-came, some-came, between-holds}
-use Rattle.history.specs.Theorem.Theorem.{OwnCalls, none, first, next, own-all, fewer-premises, Kept, session}
+use Rattle.history.specs.Theorem.Theorem.{OwnCalls, none, first, next, own-all, fewer-premises, HoldsAfter, session}
 use Rattle.history.specs.Theorem.Own.{trace-own, premises-own}
 use Rattle.history.specs.Theorem.Demand3.{promised-follows}
 use Rattle.history.specs.Touches.Programs.{whole-counts}
@@ -41,45 +40,45 @@ use Rattle.history.specs.Touches.Inside.{Inside, initialize-inside, load
 
 -- a call that gives 0, 3 or 4 by document 01 touches nothing; not so the refusals that a session may have beside: a load of an address outside
 -- the window gives 1, leaves all unchanged and has touched its magic
-unfoldable pub StaysInside : Turn → Type 0
+unfoldable pub StaysInside : CallRecord → Type 0
 StaysInside t = (done t || unfit t) ≡ true → touchesOf (t .call) (t .at) (t .before) ≡ (0, 0)
 
 -- a call that was done on what the calls before it left
-module _ (t : Turn) (ts : List Turn) (typed : Typed t) (mine : own (t ∷ ts) ≡ t ∷ ts) (h : Premises (t ∷ ts)) (d : done t ≡ true) where
+module _ (t : CallRecord) (ts : List CallRecord) (typed : Typed t) (mine : own (t ∷ ts) ≡ t ∷ ts) (h : Premises (t ∷ ts)) (d : done t ≡ true) where
   abbrev at : ℕ
   at = t .at
 
-  abbrev b : Bytes
+  abbrev b : Buffers
   b = t .before
 
   did : Performed (t .call) at b
   did = performed (t .call) at b (done-zero t d)
 
-  order : (c : Call) → t .call ≡ c → InOrder c (arrived ts)
+  order : (c : Call) → t .call ≡ c → InOrder c (loadedModules ts)
   unfolding CrsFirst
-  order c e = subst (λ x. InOrder x (arrived ts)) e (h .crs-first .0 d)
+  order c e = subst (λ x. InOrder x (loadedModules ts)) e (h .crs-first .0 d)
 
-  words : (c : Call) → t .call ≡ c → Words c
-  words c e = subst Words e (typed .0)
+  words : (c : Call) → t .call ≡ c → WordArguments c
+  words c e = subst WordArguments e (typed .0)
 
   module _ (c : Call) (e : t .call ≡ c) where
-    abbrev new : List Arrival
+    abbrev new : List LoadedModule
     new = comes c (byteAt at (b .window))
 
-    came : arrived ts ++ new ≡ arrived (t ∷ ts)
-    unfolding arrived brought
+    came : loadedModules ts ++ new ≡ loadedModules (t ∷ ts)
+    unfolding loadedModules brought
     came = rw (d, e) refl
 
-    fine-all : (S : List Arrival) → Among S (arrived (t ∷ ts)) → Fine at (length (b .window)) S
+    fine-all : (S : List LoadedModule) → Sublist S (loadedModules (t ∷ ts)) → Fine at (length (b .window)) S
     fine-all S m = fine t ts mine h S m (good-end at (b .window) (did .good))
 
-    more-among : Among (standing ts ++ new) (arrived (t ∷ ts))
-    more-among = subst (Among (standing ts ++ new)) came (among-append (standing ts) (arrived ts) new (standing-among ts))
+    more-among : Sublist (standing ts ++ new) (loadedModules (t ∷ ts))
+    more-among = subst (Sublist (standing ts ++ new)) came (among-append (standing ts) (loadedModules ts) new (standing-among ts))
 
-    old-among : Among (standing ts) (arrived (t ∷ ts))
+    old-among : Sublist (standing ts) (loadedModules (t ∷ ts))
     old-among =
-        subst (Among (standing ts)) came
-        (among-trans (standing ts) (arrived ts) (arrived ts ++ new) (standing-among ts) (among-left (arrived ts) new))
+        subst (Sublist (standing ts)) came
+        (among-trans (standing ts) (loadedModules ts) (loadedModules ts ++ new) (standing-among ts) (among-left (loadedModules ts) new))
 
   initialize-done
       : (base size : ℕ) → t .call ≡ Initialize base size → Holding at ts b → Inside at (b .window) (programOf (Initialize base size) b)
@@ -91,18 +90,18 @@ module _ (t : Turn) (ts : List Turn) (typed : Typed t) (mine : own (t ∷ ts) �
       (lentRegister b) (g .0) (length (b .records)) (length (b .names))
 
   load-done
-      : (l : Lent) (auto level : ℕ) → t .call ≡ Load l auto level → Holding at ts b → Inside at (b .window) (programOf (Load l auto level) b)
-  unfolding InOrder Words comes AutoLinked ImportsKept program
+      : (l : LoadArguments) (auto level : ℕ) → t .call ≡ Load l auto level → Holding at ts b → Inside at (b .window) (programOf (Load l auto level) b)
+  unfolding InOrder WordArguments comes AutoLinked ImportsKept program
   load-done l auto level e (none-came n g) = absurd (order (Load l auto level) e n)
   load-done l auto level e (some-came o s g) =
       let c = Load l auto level in
       let S = standing ts in
-      let a : Arrival = record { coming = loaded l (not (eqb auto 0)) level; bytes = byteAt at (b .window) } in
-      let top : length S < length (S ++ (a ∷ [])) = let n = more-length S a in omega (arith, n) in
+      let a : LoadedModule = record { loadCall = loaded l (not (eqb auto 0)) level; bytes = byteAt at (b .window) } in
+      let top : length S < length (S ++ (a ∷ [])) = let n = length-more S a in omega (arith, n) in
       let auto-linked : AutoLinked (loaded l (not (eqb auto 0)) level) =
-      subst (λ y. AutoLinked (y .coming)) (last-at S a noArrival) (auto-at (t ∷ ts) h (S ++ (a ∷ [])) (more-among c e) (length S) top) in
+      subst (λ y. AutoLinked (y .loadCall)) (last-at S a noModule) (auto-at (t ∷ ts) h (S ++ (a ∷ [])) (more-among c e) (length S) top) in
       let kept : ImportsKept (loaded l (not (eqb auto 0)) level) =
-      subst (λ y. ImportsKept (y .coming)) (last-at S a noArrival) (kept-at (t ∷ ts) h (S ++ (a ∷ [])) (more-among c e) (length S) top) in
+      subst (λ y. ImportsKept (y .loadCall)) (last-at S a noModule) (kept-at (t ∷ ts) h (S ++ (a ∷ [])) (more-among c e) (length S) top) in
       let w = words c e in
       subst (λ y. Inside at (b .window) (calls.load l y level (length (b .records)) (length (b .names)) (lentRegister b))) (sym auto-linked)
       (load-inside at (b .window) S (lentRegister b) g l (not (eqb auto 0)) level (fine-all c e (S ++ (a ∷ [])) (more-among c e)) (typed .1 .0)
@@ -113,24 +112,24 @@ module _ (t : Turn) (ts : List Turn) (typed : Typed t) (mine : own (t ∷ ts) �
   unload-done base e (none-came n g) = unknown-inside at (b .window) base (lentRegister b) (rw (g .0) refl)
   unload-done base e (some-came o s g) =
       go
-      (found base S (lentRegister b) bases (record { recorded = g .rest .book .recorded; number = g .rest .book .many }) (leaver base S bases crs))
+      (found base S (lentRegister b) bases (record { recorded = g .rest .registerMatches .recorded; number = g .rest .registerMatches .many }) (leaver base S bases crs))
     where
-      S : List Arrival
+      S : List LoadedModule
       S = standing ts
 
       bases : Pairs OtherBase S
       bases = other-bases (t ∷ ts) h S (old-among (Unload base) e)
 
-      crs : Each (λ a. isCrs (a .coming) ≡ true → baseOf (a .coming) ≢ base) S
+      crs : Each (λ a. isCrs (a .loadCall) ≡ true → baseOf (a .loadCall) ≢ base) S
       crs =
-          among-each (λ a. isCrs (a .coming) ≡ true → baseOf (a .coming) ≢ base) S (arrived ts) (standing-among ts)
+          among-each (λ a. isCrs (a .loadCall) ≡ true → baseOf (a .loadCall) ≢ base) S (loadedModules ts) (standing-among ts)
           (order (Unload base) e)
 
-      above : (k : ℕ) → isCrs (imageAt S k .coming) ≡ false → 0 < k
+      above : (k : ℕ) → isCrs (imageAt S k .loadCall) ≡ false → 0 < k
       above zero i = absurd (true-false (sym s ∙ i))
       above (suc k) i = omega arith
 
-      go : Found base S (lentRegister b .modules) → Inside at (b .window) (calls.unload base (lentRegister b))
+      go : UnloadFinds base S (lentRegister b .modules) → Inside at (b .window) (calls.unload base (lentRegister b))
       go (none q z) = unknown-inside at (b .window) base (lentRegister b) z
       go (goes k r l y i q z rec) =
           subst (λ x. Inside at (b .window) (calls.unload x (lentRegister b))) y
@@ -144,7 +143,7 @@ module _ (t : Turn) (ts : List Turn) (typed : Typed t) (mine : own (t ∷ ts) �
       call (Load l auto level) e = load-done l auto level e g
       call (Unload base) e = unload-done base e g
 
-turn-inside : (t : Turn) (ts : List Turn) → Typed t → own (t ∷ ts) ≡ t ∷ ts → Premises (t ∷ ts) → Holding (t .at) ts (t .before) → StaysInside t
+turn-inside : (t : CallRecord) (ts : List CallRecord) → Typed t → own (t ∷ ts) ≡ t ∷ ts → Premises (t ∷ ts) → Holding (t .at) ts (t .before) → StaysInside t
 unfolding StaysInside
 turn-inside t ts typed mine h g = go (done t) refl
   where
@@ -153,12 +152,12 @@ turn-inside t ts typed mine h g = go (done t) refl
     go false d u = unfit-inside t u
 
 -- the session's own calls
-last-own : (at : ℕ) (u : Turn) (us : List Turn) → OwnCalls at (u ∷ us) → (u .at ≡ at) × Gave Follows u
+last-own : (at : ℕ) (u : CallRecord) (us : List CallRecord) → OwnCalls at (u ∷ us) → (u .at ≡ at) × Gave Follows u
 last-own at u us (first v f e typed b g) = (e, g)
 last-own at u us (next v w vs a f e typed b g) = (e, g)
 
-own-inside : (at : ℕ) (ts : List Turn) → OwnCalls at ts → Premises ts → Each StaysInside ts
-unfolding Each Kept arrived
+own-inside : (at : ℕ) (ts : List CallRecord) → OwnCalls at ts → Premises ts → Each StaysInside ts
+unfolding Each HoldsAfter loadedModules
 own-inside at ts none h = tt
 own-inside at ts (first t f e typed fresh g) h =
     (turn-inside t [] typed (own-all at (t ∷ []) (first t f e typed fresh g)) h (none-came refl fresh), tt)
@@ -173,7 +172,7 @@ own-inside at ts (next t u us s f e typed b g) h =
     (turn-inside t (u ∷ us) typed mine h held, own-inside at (u ∷ us) s less)
 
 -- and those lent what breaks a rule
-all-inside : (ts : List Turn) → Each StaysInside (own ts) → Each StaysInside ts
+all-inside : (ts : List CallRecord) → Each StaysInside (own ts) → Each StaysInside ts
 unfolding own Each StaysInside
 all-inside [] h = tt
 all-inside (t ∷ ts) h = go (unfit t) refl h (all-inside ts)
@@ -184,10 +183,10 @@ all-inside (t ∷ ts) h = go (unfit t) refl h (all-inside ts)
     go true e g f = ((λ _. unfit-inside t e), f g)
     go false e g f = (g .0, f (g .1))
 
-pub stays-inside : (at : ℕ) (ts : List Turn) → Trace at ts → Made Follows ts → Premises ts → Each StaysInside ts
+pub stays-inside : (at : ℕ) (ts : List CallRecord) → Trace at ts → Made Follows ts → Premises ts → Each StaysInside ts
 stays-inside at ts trace made h = all-inside ts (own-inside at (own ts) (trace-own at ts trace made) (premises-own ts h))
 
 -- of the exported calls
-pub stays-inside-promised : (at : ℕ) (ts : List Turn) → Trace at ts → Made Promised ts → Premises ts → Each StaysInside ts
+pub stays-inside-promised : (at : ℕ) (ts : List CallRecord) → Trace at ts → Made Promised ts → Premises ts → Each StaysInside ts
 stays-inside-promised at ts trace made h =
     stays-inside at ts trace (each-mono (Gave Promised) (Gave Follows) ts promised-follows made) h

@@ -21,12 +21,12 @@ use Rattle.linker_spec.specs.Resets.{resetImporters}
 use Rattle.linker_spec.specs.Fix.{fix}
 use Rattle.linker_spec.specs.Unrebase.{unrebase}
 use Rattle.linker_spec.specs.Calls as calls
-use Rattle.linker_spec.specs.Calls.{Answer, BadWindow, NoRegister, number, rebase, rebaseStatic, fits, enter, initialized, listed, linked, Standing, unknown, stands, firstWithBase, unlisted, leave}
-use Rattle.linker_spec.specs.Gives.{Gives, gives-run, gives-then, gives-if}
-use Rattle.linker_spec.specs.Outcome.{Bytes, settle, chain, outcome}
+use Rattle.linker_spec.specs.Calls.{Answer, BadWindow, NoRegister, number, rebase, rebaseStatic, fits, addRecord, initialized, listed, linked, FirstWithBase, unknown, stands, firstWithBase, unlisted, leave}
+use Rattle.linker_spec.specs.AnyResult.{AnyResult, gives-run, gives-then, gives-if}
+use Rattle.linker_spec.specs.Outcome.{Buffers, outcomeOf, refusalOrder, callOutcome}
 use Rattle.linker_spec.specs.Refusals.{lentRegister}
 use Rattle.linker_spec.specs.Touches.{touchIn, counted, touches, touchesOf}
-use Rattle.history.specs.Sessions.{Turn, unfit}
+use Rattle.history.specs.Sessions.{CallRecord, unfit}
 use Rattle.history.specs.Windows.{program, given-program}
 use Rattle.history.specs.Steps.Asking.{true-false}
 use Rattle.history.specs.Sessions.Answers.{programOf}
@@ -40,24 +40,24 @@ abbrev Fit : Answer → Type 0
 Fit a = refuses (number a) ≡ false
 
 enter-fit
-    : (records names : ℕ) (r : Register) (base size : ℕ) (auto : Bool) (next : Module → Prog Answer) → ((m : Module) → Gives Fit (next m))
-    → (x : Rebased) → Gives Fit (enter records names r base size auto next x)
-unfolding enter Gives number
+    : (records names : ℕ) (r : Register) (base size : ℕ) (auto : Bool) (next : Module → Prog Answer) → ((m : Module) → AnyResult Fit (next m))
+    → (x : Rebased) → AnyResult Fit (addRecord records names r base size auto next x)
+unfolding addRecord AnyResult number
 enter-fit records names r base size auto next h Rebased.NotACro = refl
 enter-fit records names r base size auto next h Rebased.BadSegment = refl
 enter-fit records names r base size auto next h Rebased.Done =
     gives-then Fit _ (resetExternalRelocations base)
     (λ _. gives-then Fit _ (readModule base size auto) (λ m. gives-if Fit (fits records names r m) _ _ (h m) refl))
 
-leave-fit : (r : Register) (base : ℕ) (s : Standing) → Gives Fit (leave r base s)
-unfolding leave Gives number
+leave-fit : (r : Register) (base : ℕ) (s : FirstWithBase) → AnyResult Fit (leave r base s)
+unfolding leave AnyResult number
 leave-fit r base unknown = refl
 leave-fit r base (stands m k) =
     gives-then Fit _ (resetImporters m (without (r .modules) k))
     (λ _. gives-then Fit _ (unlisted (r .crs) base) (λ _. gives-then Fit _ (unrebase base) (λ _. refl)))
 
-program-fit : (c : Call) (records names : ℕ) (r : Register) → Gives Fit (program c records names r)
-unfolding program calls.initialize calls.load calls.unload initialized linked Gives number
+program-fit : (c : Call) (records names : ℕ) (r : Register) → AnyResult Fit (program c records names r)
+unfolding program calls.initialize calls.load calls.unload initialized linked AnyResult number
 program-fit (Initialize base size) records names r =
     gives-then Fit _ (rebaseStatic base)
     (enter-fit records names r base size true _
@@ -72,13 +72,13 @@ program-fit (Load l auto level) records names r =
 program-fit (Unload base) records names r = leave-fit r base (firstWithBase base (r .modules) 0)
 
 -- so 3 and 4 come before the first access
-unfit-given : (c : Call) (at : ℕ) (b : Bytes) → refuses (outcome (program c) at b .number) ≡ true → touches (program c) (beginning c) at b ≡ (0, 0)
-unfolding outcome touches settle
+unfit-given : (c : Call) (at : ℕ) (b : Buffers) → refuses (callOutcome (program c) at b .number) ≡ true → touches (program c) (beginning c) at b ≡ (0, 0)
+unfolding callOutcome touches outcomeOf
 unfit-given c at b u = go (goodWindow at (b .window)) (isRegister (b .records) (b .names) (b .missing)) u
   where
     go
         : (g v : Bool)
-        → refuses (chain g v b (settle b (run at (programOf c b) (b .window))) .number) ≡ true
+        → refuses (refusalOrder g v b (outcomeOf b (run at (programOf c b) (b .window))) .number) ≡ true
         → (if g && v then counted (run at (programOf c b) (b .window) .0) (touchIn at (beginning c) (b .window)) (touchIn at (programOf c b) (b .window)) else (0, 0))
         ≡ (0, 0)
     go true true u =
@@ -88,7 +88,7 @@ unfit-given c at b u = go (goodWindow at (b .window)) (isRegister (b .records) (
     go true false u = refl
     go false v u = refl
 
-pub unfit-inside : (t : Turn) → unfit t ≡ true → touchesOf (t .call) (t .at) (t .before) ≡ (0, 0)
+pub unfit-inside : (t : CallRecord) → unfit t ≡ true → touchesOf (t .call) (t .at) (t .before) ≡ (0, 0)
 unfolding unfit
 unfit-inside t u =
     touches-program (t .call) (t .at) (t .before)

@@ -10,7 +10,7 @@ use Rattle.layout.specs.declared.relocation.Patch.{Patch}
 use Rattle.layout.specs.declared.relocation.Patch.the-variants.{Word}
 
 -- "2 and 10 write symbol + addend, 3 writes symbol + addend − final place, all others nothing."
-abbrev pub relocatedWord : RelocationType → ℕ → ℕ → ℕ → Patch
+abbrev pub relocatedWord : RelocationType → (addend symbol final : ℕ) → Patch
 relocatedWord RelocationType.Nothing addend symbol final = Patch.Nothing
 relocatedWord AbsoluteAddress addend symbol final = Word (symbol ⊕ addend)
 relocatedWord RelativeAddress addend symbol final = Word (symbol ⊕ addend ⊖ final)
@@ -25,7 +25,7 @@ unfoldable pub patch : ℕ → Patch → Prog (Unit {0})
 patch target (Word v) = put32Privileged target v
 patch target Patch.Nothing = ret tt
 
-unfoldable pub applyRelocation : ℕ → RelocationType → ℕ → ℕ → ℕ → Prog (Unit {0})
+unfoldable pub applyRelocation : (target : ℕ) → RelocationType → (addend symbol final : ℕ) → Prog (Unit {0})
 applyRelocation target kind addend symbol final = patch target (relocatedWord kind addend symbol final)
 
 module _ (at target : ℕ) (kind : RelocationType) (addend symbol final : ℕ) (w : List ℕ) where

@@ -8,7 +8,7 @@ use borrow.Author.Tests.{eq-eqb, ne-eqb, lt-ltb, le-ltb}
 use Rattle.window.specs.Memory.{if_then_else_, _⊕_}
 use Rattle.window.specs.Access.{Prog, ret, _>>=_, _>>_}
 use Rattle.window.specs.Loop.{loop}
-use Rattle.window.specs.Trace.{S, runT}
+use Rattle.window.specs.Trace.{State, runT}
 use Rattle.window.specs.TraceRuns.{seq, gives}
 use Rattle.layout.specs.Header.{codeOffset, codeSize, moduleNameOffset, exportNamedSymbolTableOffset, importModuleTableOffset, staticAnonymousSymbolTableOffset, headerSize, fixedSize}
 use Rattle.layout.specs.Tables.{tableEntrySizes}
@@ -24,7 +24,7 @@ fixed-in-steps end base size e f g = g ∙ ap (λ a. min a size) (f ∙ ap align
 abbrev pairField : ℕ → ℕ
 pairField i = moduleNameOffset + 8 * i
 
-module _ (at base barrier i end : ℕ) (s : S) {table count : ℕ} {s₁ s₂ : S} (et : (table, s₁) ≡ runT at (field base (pairField i)) s)
+module _ (at base barrier i end : ℕ) (s : State) {table count : ℕ} {s₁ s₂ : State} (et : (table, s₁) ≡ runT at (field base (pairField i)) s)
     (ec : (count, s₂) ≡ runT at (field base (pairField i + 4)) s₁) where
   pair-is
       : runT at (if ltb (pairField i) barrier
@@ -41,7 +41,7 @@ module _ (at base barrier i end : ℕ) (s : S) {table count : ℕ} {s₁ s₂ : 
       ∙ gives at (field base (pairField i)) s _ et
 
   pub pair-dropped
-      : {v : S} → barrier ≤ pairField i → v ≡ runT at (setField base (pairField i + 4) 0) s₂ .1 → (end, v) ≡ runT at (fixPair base barrier i end) s
+      : {v : State} → barrier ≤ pairField i → v ≡ runT at (setField base (pairField i + 4) 0) s₂ .1 → (end, v) ≡ runT at (fixPair base barrier i end) s
   unfolding runT
   pair-dropped l h = seq at (setField base (pairField i + 4) 0) s₂ (ret end) h ∙ rw (le-ltb (pairField i) barrier l) at pair-is
 
@@ -59,7 +59,7 @@ module _ (at base barrier i end : ℕ) (s : S) {table count : ℕ} {s₁ s₂ : 
 
 -- the tables from the barrier on, as the code counts them
 pub dropped-start
-    : (at base barrier end : ℕ) (s : S) {n : ℕ} → n ≡ headerSize - barrier
+    : (at base barrier end : ℕ) (s : State) {n : ℕ} → n ≡ headerSize - barrier
     → runT at (loop (λ i _. setField base (barrier + 8 * i) end) 0 (n / 8 - 0) tt) s
     ≡ runT at (endTables base barrier end) s
 unfolding endTables
@@ -68,7 +68,7 @@ dropped-start at base barrier end s {n} e =
     rw z
 
 pub fixed-from
-    : (at base size barrier : ℕ) (s : S) {code bytes x end f y : ℕ} {s₁ s₂ u v z : S} → (code, s₁) ≡ runT at (field base codeOffset) s
+    : (at base size barrier : ℕ) (s : State) {code bytes x end f y : ℕ} {s₁ s₂ u v z : State} → (code, s₁) ≡ runT at (field base codeOffset) s
     → (bytes, s₂) ≡ runT at (field base codeSize) s₁ → x ≡ code ⊕ bytes → (end, u) ≡ runT at (loop (fixPair base barrier) 0 15 x) s₂
     → f ≡ fixedTo end base size → y ≡ base ⊕ f
     → v ≡ runT at (endTables base barrier y) u .1
@@ -87,18 +87,18 @@ fixed-from at base size barrier s {code} {bytes} {x} {end} {f} {y} {s₁} {s₂}
     ∙ gives at (field base codeSize) s₁ (λ b. pairs (code ⊕ b)) eb
     ∙ gives at (field base codeOffset) s (λ c. field base codeSize >>= λ b. pairs (c ⊕ b)) ec
 
-module _ (at base size level : ℕ) (s : S) where
-  pub fixed-1 : {r : ℕ × S} → level ≡ 1 → r ≡ runT at (fixFrom base size staticAnonymousSymbolTableOffset) s → r ≡ runT at (fix base size level) s
+module _ (at base size level : ℕ) (s : State) where
+  pub fixed-1 : {r : ℕ × State} → level ≡ 1 → r ≡ runT at (fixFrom base size staticAnonymousSymbolTableOffset) s → r ≡ runT at (fix base size level) s
   unfolding fix
   fixed-1 e h = rw (eq-eqb level 1 e) h
 
   pub fixed-2
-      : {r : ℕ × S} → (level ≡ 1 → ⊥) → level ≡ 2 → r ≡ runT at (fixFrom base size importModuleTableOffset) s → r ≡ runT at (fix base size level) s
+      : {r : ℕ × State} → (level ≡ 1 → ⊥) → level ≡ 2 → r ≡ runT at (fixFrom base size importModuleTableOffset) s → r ≡ runT at (fix base size level) s
   unfolding fix
   fixed-2 n e h = rw (ne-eqb level 1 n, eq-eqb level 2 e) h
 
   pub fixed-3
-      : {r : ℕ × S} → (level ≡ 1 → ⊥) → (level ≡ 2 → ⊥) → level ≡ 3 → r ≡ runT at (fixFrom base size exportNamedSymbolTableOffset) s
+      : {r : ℕ × State} → (level ≡ 1 → ⊥) → (level ≡ 2 → ⊥) → level ≡ 3 → r ≡ runT at (fixFrom base size exportNamedSymbolTableOffset) s
       → r ≡ runT at (fix base size level) s
   unfolding fix
   fixed-3 n m e h = rw (ne-eqb level 1 n, ne-eqb level 2 m, eq-eqb level 3 e) h

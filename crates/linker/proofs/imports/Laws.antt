@@ -7,7 +7,7 @@ use mathlib.Core.Bool.{Bool, true, false}
 use native.Mathlib.Omega.{arith}
 use Rattle.window.specs.Memory.{if_then_else_, _⊕_}
 use Rattle.window.specs.Access.{Prog, ret, _>>=_, get32}
-use Rattle.window.specs.Trace.{S, runT}
+use Rattle.window.specs.Trace.{State, runT}
 use Rattle.window.specs.TraceRuns.{gives, then-it, two}
 use Rattle.window.specs.Loop.{loop}
 use Rattle.window.specs.Name.{nameAt}
@@ -28,7 +28,7 @@ use Rattle.linker.specs.Imports.Served.{serveAllNamed, serveAllModules}
 
 -- a table's place and count read, then the loop over its entries
 pub table-starts
-    : {A : Type 0} (at base x y : ℕ) (turn : ℕ → ℕ → A → Prog A) (a : A) (s : S) {table count : ℕ} {s₁ s₂ : S}
+    : {A : Type 0} (at base x y : ℕ) (turn : ℕ → ℕ → A → Prog A) (a : A) (s : State) {table count : ℕ} {s₁ s₂ : State}
     → (table, s₁) ≡ runT at (field base x) s → (count, s₂) ≡ runT at (field base y) s₁
     → runT at (loop (turn table) 0 (count - 0) a) s₂ ≡ runT at (field base x >>= λ table. field base y >>= λ count. loop (turn table) 0 count a) s
 table-starts at base x y turn a s {table} {count} {s₁} h₁ h₂ =
@@ -39,10 +39,10 @@ table-starts at base x y turn a s {table} {count} {s₁} h₁ h₂ =
 
 -- the imports of the modules that stand
 
-module _ (at base entry : ℕ) (new : Module) (s : S) {y batch : ℕ} {t : Bool} {s₁ s₂ : S} (ey : y ≡ entry ⊕ 4)
+module _ (at base entry : ℕ) (new : Module) (s : State) {y batch : ℕ} {t : Bool} {s₁ s₂ : State} (ey : y ≡ entry ⊕ 4)
     (h₁ : (batch, s₁) ≡ runT at (get32 y) s) (h₂ : (t, s₂) ≡ runT at (isUnresolved batch) s₁) where
   serve-is
-      : {v : S}
+      : {v : State}
       → v ≡ runT at (if t then (get32 entry >>= λ p. nameAt p >>= λ name. resolve base batch (exportOf new name)) else ret tt) s₂ .1
       → v ≡ runT at (serveNamed new base entry) s .1
   unfolding serveNamed
@@ -52,7 +52,7 @@ module _ (at base entry : ℕ) (new : Module) (s : S) {y batch : ℕ} {t : Bool}
       (λ t. if t then (get32 entry >>= λ p. nameAt p >>= λ name. resolve base batch (exportOf new name)) else ret tt) h₂ h)
 
   pub serve-waits
-      : {p : ℕ} {z : Symbol} {s₃ s₄ v : S} → t ≡ true → (p, s₃) ≡ runT at (get32 entry) s₂
+      : {p : ℕ} {z : Symbol} {s₃ s₄ v : State} → t ≡ true → (p, s₃) ≡ runT at (get32 entry) s₂
       → (z ≡ exportOf new (runT at (nameAt p) s₃ .0)) × (s₄ ≡ runT at (nameAt p) s₃ .1) → v ≡ runT at (resolve base batch z) s₄ .1
       → v ≡ runT at (serveNamed new base entry) s .1
   serve-waits {p} {s₃ = s₃} e h₃ h₄ g =
@@ -66,10 +66,10 @@ module _ (at base entry : ℕ) (new : Module) (s : S) {y batch : ℕ} {t : Bool}
   unfolding runT
   serve-passed e = serve-is (rw (e, runT))
 
-module _ (at base entry : ℕ) (new : Module) (s : S) {p : ℕ} {t : Bool} {name : List ℕ} {s₁ s₂ : S} (h₁ : (p, s₁) ≡ runT at (get32 entry) s)
+module _ (at base entry : ℕ) (new : Module) (s : State) {p : ℕ} {t : Bool} {name : List ℕ} {s₁ s₂ : State} (h₁ : (p, s₁) ≡ runT at (get32 entry) s)
     (en : name ≡ new .name) (h₂ : (t ≡ same (runT at (nameAt p) s₁ .0) name) × (s₂ ≡ runT at (nameAt p) s₁ .1)) where
   entry-is
-      : {v : S} → v ≡ runT at (if t then importsOf (some new) base entry else ret tt) s₂ .1 → v ≡ runT at (serveModule new base entry) s .1
+      : {v : State} → v ≡ runT at (if t then importsOf (some new) base entry else ret tt) s₂ .1 → v ≡ runT at (serveModule new base entry) s .1
   unfolding serveModule
   entry-is h =
       let e : t ≡ same (runT at (nameAt p) s₁ .0) (new .name) = h₂ .0 ∙ ap (same (runT at (nameAt p) s₁ .0)) en in
@@ -79,7 +79,7 @@ module _ (at base entry : ℕ) (new : Module) (s : S) {p : ℕ} {t : Bool} {name
       (rw (← e) h))
 
   pub entry-served
-      : {tables : ModuleTables} {s₃ v : S} → t ≡ true → (tables, s₃) ≡ runT at (tablesOf entry) s₂
+      : {tables : ModuleTables} {s₃ v : State} → t ≡ true → (tables, s₃) ≡ runT at (tablesOf entry) s₂
       → v ≡ runT at (linkTables (some new) base tables) s₃ .1 → v ≡ runT at (serveModule new base entry) s .1
   entry-served e h g = entry-is (rw e (tables-linked at base entry (some new) s₂ h g))
 
@@ -88,7 +88,7 @@ module _ (at base entry : ℕ) (new : Module) (s : S) {p : ℕ} {t : Bool} {name
   entry-passed e = entry-is (rw (e, runT))
 
 pub both-served
-    : (at base : ℕ) (new : Module) (s : S) {u v : S} → u ≡ runT at (serveAllNamed new base) s .1 → v ≡ runT at (serveAllModules new base) u .1
+    : (at base : ℕ) (new : Module) (s : State) {u v : State} → u ≡ runT at (serveAllNamed new base) s .1 → v ≡ runT at (serveAllModules new base) u .1
     → v ≡ runT at (serve new base) s .1
 unfolding serve serveAllNamed serveAllModules field _>>=_
 both-served at base new s h g = two at (serveAllNamed new base) s (serveAllModules new base) h g
@@ -122,7 +122,7 @@ first-named place (b ∷ before) m after name e h =
     go true e g = let z : _≡_ {A = ℕ} 0 1 = cc in absurd (omega arith)
     go false e g = g e
 
-module _ (records names : List ℕ) (at base entry : ℕ) (s : S) {p : ℕ} {f : Found} {tables : ModuleTables} {s₁ s₂ s₃ : S}
+module _ (records names : List ℕ) (at base entry : ℕ) (s : State) {p : ℕ} {f : Found} {tables : ModuleTables} {s₁ s₂ s₃ : State}
     (h₁ : (p, s₁) ≡ runT at (get32 entry) s)
     (h₂ : (f ≡ placeFrom 32 (modulesOf records names) (hasName (runT at (nameAt p) s₁ .0))) × (s₂ ≡ runT at (nameAt p) s₁ .1))
     (h₃ : (tables, s₃) ≡ runT at (tablesOf entry) s₂) where
@@ -133,7 +133,7 @@ module _ (records names : List ℕ) (at base entry : ℕ) (s : S) {p : ℕ} {f :
   name = runT at (nameAt p) s₁ .0
 
   module-is
-      : {source : Option Module} {v : S} → moduleByName ms name ≡ source → v ≡ runT at (linkTables source base tables) s₃ .1
+      : {source : Option Module} {v : State} → moduleByName ms name ≡ source → v ≡ runT at (linkTables source base tables) s₃ .1
       → v ≡ runT at (importModule ms base entry) s .1
   unfolding importModule
   module-is {source} e g =
@@ -146,7 +146,7 @@ module _ (records names : List ℕ) (at base entry : ℕ) (s : S) {p : ℕ} {f :
   module-missing e = module-is (none-named 32 ms name (sym (h₂ .0) ∙ e)) refl
 
   pub module-found
-      : {place : ℕ} {v : S} → Encoded records names → f ≡ found.At place
+      : {place : ℕ} {v : State} → Encoded records names → f ≡ found.At place
       → v ≡ runT at (linkTables (some (moduleAt records names place)) base tables) s₃ .1 → v ≡ runT at (importModule ms base entry) s .1
   module-found {place} c e h =
       let d = first-placed records names (hasName name) c (sym (h₂ .0) ∙ e) in

@@ -8,7 +8,7 @@ use Rattle.window.specs.Memory.{if_then_else_, _⊕_}
 use Rattle.window.specs.Access.{Prog, ret, _>>=_, _>>_, get32}
 use Rattle.window.specs.Word.{setWordIn}
 use Rattle.window.specs.Loop.{loop}
-use Rattle.window.specs.Trace.{S, runT}
+use Rattle.window.specs.Trace.{State, runT}
 use Rattle.window.specs.TraceRuns.{given, gives, seq, on-true, on-false, turn-made, turns-over}
 use Rattle.window.specs.Silent.{reads-runT}
 use Rattle.window.specs.Name.{nameAt, nameAt-reads, isName, nameAt-isName, laidOver, name-is}
@@ -25,43 +25,43 @@ use Rattle.register.specs.declared.read.Symbol.the-variants.{At, Nothing}
 use Rattle.register.specs.Change.Bytes.{pushMissing}
 use Rattle.register.specs.Change.Kept.{word-twice, count-again, push-kept, push-counts}
 use Rattle.linker_spec.specs.Relocation.{applyRelocationBatch}
-use Rattle.linker_spec.specs.Imports.{isUnresolved, resolve, noted, importNamed}
+use Rattle.linker_spec.specs.Imports.{isUnresolved, resolve, addMissing, importNamed}
 use Rattle.linker_spec.specs.Calls.{missingNow}
-use Rattle.linker.specs.Imports.Missing.{imported, Noted}
+use Rattle.linker.specs.Imports.Missing.{imported, MissingAdded}
 use Rattle.layout.proofs.Accesses.{read-there}
 use Rattle.linker.specs.Sources.Laws.{paired, unresolved-stays, resolved-by}
 
 -- the bytes that a step leaves, and that they are the register with its missing names
-abbrev pub Left : Register → List ℕ → List ℕ → S → List ℕ → List ℕ → List (List ℕ) × S → Type 0
-Left r records₀ names s records missing x =
-    (_≡_ {A = S × List ℕ × List ℕ} (s, records, missing) (imported r records₀ x)) × Noted r records names missing (x .0)
+abbrev pub MissingLeft : Register → List ℕ → List ℕ → State → List ℕ → List ℕ → List (List ℕ) × State → Type 0
+MissingLeft r records₀ names s records missing x =
+    (_≡_ {A = State × List ℕ × List ℕ} (s, records, missing) (imported r records₀ x)) × MissingAdded r records names missing (x .0)
 
 -- the missing list follows from the register
 left-by
-    : (r : Register) (records₀ names : List ℕ) (s : S) {records missing : List ℕ} (ns : List (List ℕ))
-    → records ≡ setWordIn records₀ 20 (length ns) → Noted r records names missing ns → Left r records₀ names s records missing (ns, s)
+    : (r : Register) (records₀ names : List ℕ) (s : State) {records missing : List ℕ} (ns : List (List ℕ))
+    → records ≡ setWordIn records₀ 20 (length ns) → MissingAdded r records names missing ns → MissingLeft r records₀ names s records missing (ns, s)
 unfolding encodeMissing missingNow
 left-by r records₀ names s {records} {missing} ns f h =
     let m = names-are records names missing (registerOf records names missing) (register-parts records names missing (h .0) .1) in
     let g : missing ≡ encodeMissing (missingNow r ns) = m .1 ∙ rw (m .2, h .1) in
-    let o : S × List ℕ × List ℕ = imported r records₀ (ns, s) in (
+    let o : State × List ℕ × List ℕ = imported r records₀ (ns, s) in (
       ap (λ t. (s, t, missing)) f ∙ ap (λ t. (s, o .1, t)) g,
       h,
     )
 
 -- one import
 
-module _ (records names missing : List ℕ) (at base entry : ℕ) (s : S) (small : Below 256 records)
-    (pre : isRegister records names missing ≡ true) {y batch : ℕ} {t : Bool} {s₁ s₂ : S}
+module _ (records names missing : List ℕ) (at base entry : ℕ) (s : State) (small : Below 256 records)
+    (pre : isRegister records names missing ≡ true) {y batch : ℕ} {t : Bool} {s₁ s₂ : State}
     (ey : y ≡ entry ⊕ 4) (h₁ : (batch, s₁) ≡ runT at (get32 y) s) (h₂ : (t, s₂) ≡ runT at (isUnresolved batch) s₁) where
   abbrev r : Register
   r = registerOf records names missing
 
-  abbrev x : List (List ℕ) × S
+  abbrev x : List (List ℕ) × State
   x = runT at (importNamed (r .modules) base entry (r .missing)) s
 
   abbrev after : List ℕ → Prog (List (List ℕ))
-  after name = resolve base batch (lookupIn (r .modules) name) >> ret (noted (lookupIn (r .modules) name) name (r .missing))
+  after name = resolve base batch (lookupIn (r .modules) name) >> ret (addMissing (lookupIn (r .modules) name) name (r .missing))
 
   abbrev waiting : Prog (List (List ℕ))
   waiting = get32 entry >>= λ p. nameAt p >>= after
@@ -73,18 +73,18 @@ module _ (records names missing : List ℕ) (at base entry : ℕ) (s : S) (small
       ∙ gives at (get32 (entry ⊕ 4)) s _ (read-there at s ey h₁)
 
   -- where no name is missing that was not, the records stay
-  stays : (v : S) {ns : List (List ℕ)} → ns ≡ r .missing → Left r records names v records missing (ns, v)
+  stays : (v : State) {ns : List (List ℕ)} → ns ≡ r .missing → MissingLeft r records names v records missing (ns, v)
   unfolding missingNow
   stays v {ns} e =
       left-by r records names v ns (sym (count-again records names missing small pre) ∙ ap (λ t. setWordIn records 20 (length t)) (sym e))
       (pre, ap (missingNow r) (sym e))
 
-  pub own-passed : t ≡ false → Left r records names s₂ records missing x
+  pub own-passed : t ≡ false → MissingLeft r records names s₂ records missing x
   own-passed e =
       let k : (r .missing, s₂) ≡ x = on-false at s₂ waiting (ret (r .missing)) e (given at (r .missing) s₂) ∙ import-is in
-      subst (Left r records names s₂ records missing) k (stays s₂ refl)
+      subst (MissingLeft r records names s₂ records missing) k (stays s₂ refl)
 
-  module _ (old : List ℕ) (e : t ≡ true) {p n : ℕ} {buffer : List ℕ} {z : Symbol} {s₃ s₄ : S} (h₃ : (p, s₃) ≡ runT at (get32 entry) s₂)
+  module _ (old : List ℕ) (e : t ≡ true) {p n : ℕ} {buffer : List ℕ} {z : Symbol} {s₃ s₄ : State} (h₃ : (p, s₃) ≡ runT at (get32 entry) s₂)
       (h₄ : ((n, buffer) ≡ laidOver (runT at (nameAt p) s₃ .0) old) × (s₄ ≡ runT at (nameAt p) s₃ .1))
       (ez : z ≡ lookupIn (modulesOf records names) (take n buffer)) where
     abbrev name : List ℕ
@@ -94,35 +94,35 @@ module _ (records names missing : List ℕ) (at base entry : ℕ) (s : S) (small
     unfolding registerOf readRegister modulesOf
     found = ez ∙ ap (lookupIn (modulesOf records names)) (name-is name old (h₄ .0))
 
-    waits-is : (v : S) → v ≡ runT at (resolve base batch z) s₄ .1 → (noted z name (r .missing), v) ≡ x
+    waits-is : (v : State) → v ≡ runT at (resolve base batch z) s₄ .1 → (addMissing z name (r .missing), v) ≡ x
     waits-is v h =
-        given at (noted z name (r .missing)) v
-        ∙ seq at (resolve base batch z) s₄ (ret (noted z name (r .missing))) h
-        ∙ ap (λ z. runT at (resolve base batch z >> ret (noted z name (r .missing))) s₄) found
+        given at (addMissing z name (r .missing)) v
+        ∙ seq at (resolve base batch z) s₄ (ret (addMissing z name (r .missing))) h
+        ∙ ap (λ z. runT at (resolve base batch z >> ret (addMissing z name (r .missing))) s₄) found
         ∙ gives at (nameAt p) s₃ after (paired at (nameAt p) s₃ (h₄ .1))
         ∙ on-true at s₂ waiting (ret (r .missing)) e (gives at (get32 entry) s₂ (λ p. nameAt p >>= after) h₃)
         ∙ import-is
 
     pub own-found
-        : {a k : ℕ} {v : S} → z ≡ At a → (k, v) ≡ runT at (applyRelocationBatch base batch a true) s₄
-        → Left r records names v records missing x
-    unfolding noted
+        : {a k : ℕ} {v : State} → z ≡ At a → (k, v) ≡ runT at (applyRelocationBatch base batch a true) s₄
+        → MissingLeft r records names v records missing x
+    unfolding addMissing
     own-found {v = v} f h =
-        subst (Left r records names v records missing) (waits-is v (resolved-by at base batch s₄ f h)) (stays v (rw (f, noted)))
+        subst (MissingLeft r records names v records missing) (waits-is v (resolved-by at base batch s₄ f h)) (stays v (rw (f, addMissing)))
 
     pub own-missing
         : {records′ missing′ : List ℕ} → z ≡ Nothing → (records′, missing′) ≡ pushMissing records missing (take n buffer)
-        → Left r records names s₄ records′ missing′ x
-    unfolding noted missingNow withMissing
+        → MissingLeft r records names s₄ records′ missing′ x
+    unfolding addMissing missingNow withMissing
     own-missing {records′} {missing′} f h =
         let i : isName name ≡ true = rw (reads-runT at (nameAt p) s₃ (nameAt-reads p) .0) (nameAt-isName at p (s₃ .0)) in
         let g = push-kept records names missing name i pre in
         let h′ : (records′, missing′) ≡ pushMissing records missing name = h ∙ ap (pushMissing records missing) (name-is name old (h₄ .0)) in
         let a : records′ ≡ pushMissing records missing name .0 = ap (λ (q : List ℕ × List ℕ). q .0) h′ in
         let b : missing′ ≡ pushMissing records missing name .1 = ap (λ (q : List ℕ × List ℕ). q .1) h′ in
-        let ns : List (List ℕ) = noted z name (r .missing) in
-        let n : ns ≡ withMissing r name .missing = rw (f, noted) in
-        subst (Left r records names s₄ records′ missing′) (waits-is s₄ (unresolved-stays at base batch s₄ f))
+        let ns : List (List ℕ) = addMissing z name (r .missing) in
+        let n : ns ≡ withMissing r name .missing = rw (f, addMissing) in
+        subst (MissingLeft r records names s₄ records′ missing′) (waits-is s₄ (unresolved-stays at base batch s₄ f))
         (left-by r records names s₄ ns
         (a ∙ push-counts records names missing name i small pre ∙ ap (λ t. setWordIn records 20 (length t)) (sym n))
         (rw (a, b) (g .0), rw (a, b) (g .1) ∙ ap (missingNow r) (sym n)))
@@ -134,23 +134,23 @@ module _ (at base table : ℕ) (r₀ : Register) where
   turn i ns = importNamed (r₀ .modules) base (entryAt table i importNamedSymbolEntrySize) ns
 
   -- i turns are made, and the register has the missing names ns, counted in the records that were lent
-  abbrev pub Reached : List ℕ → List ℕ → List ℕ → List ℕ → ℕ → ℕ → S → List (List ℕ) × S → Type 0
+  abbrev pub Reached : List ℕ → List ℕ → List ℕ → List ℕ → ℕ → ℕ → State → List (List ℕ) × State → Type 0
   Reached records₀ records names missing i n s end =
       (ns : List (List ℕ))
-      × (Noted r₀ records names missing ns
+      × (MissingAdded r₀ records names missing ns
       × (runT at (loop turn i (n - i) ns) s ≡ end)
       × (records ≡ setWordIn records₀ 20 (length ns)))
 
-  module _ (records₀ records names missing : List ℕ) (i n : ℕ) (s : S) (end : List (List ℕ) × S)
+  module _ (records₀ records names missing : List ℕ) (i n : ℕ) (s : State) (end : List (List ℕ) × State)
       (h : Reached records₀ records names missing i n s end) where
-    pub reached-over : {whole : List (List ℕ) × S} → n ≤ i → end ≡ whole → Left r₀ records₀ names s records missing whole
+    pub reached-over : {whole : List (List ℕ) × State} → n ≤ i → end ≡ whole → MissingLeft r₀ records₀ names s records missing whole
     reached-over l d =
-        subst (Left r₀ records₀ names s records missing) (turns-over at turn i n (h .0) s (h .1 .1) l ∙ d)
+        subst (MissingLeft r₀ records₀ names s records missing) (turns-over at turn i n (h .0) s (h .1 .1) l ∙ d)
         (left-by r₀ records₀ names s (h .0) (h .1 .2) (h .1 .0))
 
     pub reached-next
-        : (records′ missing′ : List ℕ) {entry : ℕ} {v : S} → i < n → entry ≡ entryAt table i importNamedSymbolEntrySize
-        → Left (registerOf records names missing) records names v records′ missing′
+        : (records′ missing′ : List ℕ) {entry : ℕ} {v : State} → i < n → entry ≡ entryAt table i importNamedSymbolEntrySize
+        → MissingLeft (registerOf records names missing) records names v records′ missing′
         (runT at (importNamed (registerOf records names missing .modules) base entry (registerOf records names missing .missing)) s)
         → Reached records₀ records′ names missing′ (i + 1) n v end
     unfolding missingNow
@@ -167,20 +167,20 @@ module _ (at base table : ℕ) (r₀ : Register) where
               g .1 .0,
               g .1 .1
                   ∙ ap (λ (z : Register). missingNow z (runT at (importNamed (r .modules) base entry (r .missing)) s .0)) er
-                  ∙ ap (λ (z : List (List ℕ) × S). missingNow r₀ (z .0)) k,
+                  ∙ ap (λ (z : List (List ℕ) × State). missingNow r₀ (z .0)) k,
             ),
             turn-made at turn i n ns s (h .1 .1) l
                 (ap (λ z. (runT at (turn i ns) s .0, z))
-                (ap (λ (z : S × List ℕ × List ℕ). z .0) (g .0) ∙ ap (λ (z : List (List ℕ) × S). z .1) k)),
-            ap (λ (z : S × List ℕ × List ℕ). z .1) (g .0)
-                ∙ ap (λ (z : List (List ℕ) × S). setWordIn records 20 (length (z .0))) k
+                (ap (λ (z : State × List ℕ × List ℕ). z .0) (g .0) ∙ ap (λ (z : List (List ℕ) × State). z .1) k)),
+            ap (λ (z : State × List ℕ × List ℕ). z .1) (g .0)
+                ∙ ap (λ (z : List (List ℕ) × State). setWordIn records 20 (length (z .0))) k
                 ∙ ap (λ t. setWordIn t 20 (length (runT at (turn i ns) s .0))) (h .1 .2)
                 ∙ word-twice records₀ 20 (length ns) (length (runT at (turn i ns) s .0)),
           ),
         )
 
 pub reached-starts
-    : (at base table count : ℕ) (records names missing : List ℕ) (s : S) → Below 256 records → isRegister records names missing ≡ true
+    : (at base table count : ℕ) (records names missing : List ℕ) (s : State) → Below 256 records → isRegister records names missing ≡ true
     → Reached at base table (registerOf records names missing) records records names missing 0 count s
     (runT at (loop (turn at base table (registerOf records names missing)) 0 (count - 0) (registerOf records names missing .missing)) s)
 unfolding missingNow

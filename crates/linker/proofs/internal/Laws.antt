@@ -4,9 +4,9 @@ use mathlib.Core.Path.{_≡_, ap, _∙_}
 use native.Mathlib.Omega.{arith}
 use borrow.Author.Tests.{lt-ltb, le-ltb}
 use Rattle.window.specs.Memory.{_⊕_}
-use Rattle.window.specs.Access.{_>>=_, get8, get32}
+use Rattle.window.specs.Access.{get8, get32}
 use Rattle.window.specs.Loop.{loop}
-use Rattle.window.specs.Trace.{S, runT}
+use Rattle.window.specs.Trace.{State, runT}
 use Rattle.window.specs.TraceRuns.{gives, then-it}
 use Rattle.layout.specs.Header.{internalRelocationTableOffset, internalRelocationNum, relocationEntrySize}
 use Rattle.layout.specs.Format.{relocationType, tagSegment, tagOffset}
@@ -18,11 +18,11 @@ use Rattle.layout.specs.declared.segments.FoundSegment.{FoundSegment}
 use Rattle.layout.specs.declared.segments.FoundSegment.the-variants.{Found, Missing}
 use Rattle.linker_spec.specs.Relocation.{writePlace, relocateFrom, relocateInto, applyInternalRelocation, applyInternalRelocations}
 
-module _ (at base old entry : ℕ) (s : S) {tag y kind x symbol a addend n : ℕ} {into : FoundSegment} {s₁ s₂ s₃ s₄ s₅ : S}
+module _ (at base old entry : ℕ) (s : State) {tag y kind x symbol a addend n : ℕ} {into : FoundSegment} {s₁ s₂ s₃ s₄ s₅ : State}
     (t : (tag, s₁) ≡ runT at (get32 entry) s) (p : y ≡ entry ⊕ 4) (c : (kind, s₂) ≡ runT at (get8 y) s₁) (q : x ≡ entry ⊕ 5)
     (k : (symbol, s₃) ≡ runT at (get8 x) s₂) (b : a ≡ entry ⊕ 8) (d : (addend, s₄) ≡ runT at (get32 a) s₃) (e : n ≡ tagSegment tag)
     (i : (into, s₅) ≡ runT at (segment base n) s₄) where
-  internal-is : {v : S} → v ≡ runT at (relocateInto base old into tag kind symbol addend) s₅ .1 → v ≡ runT at (applyInternalRelocation base old entry) s .1
+  internal-is : {v : State} → v ≡ runT at (relocateInto base old into tag kind symbol addend) s₅ .1 → v ≡ runT at (applyInternalRelocation base old entry) s .1
   unfolding applyInternalRelocation
   internal-is h =
       then-it at (get32 entry) s _ t
@@ -40,9 +40,9 @@ module _ (at base old entry : ℕ) (s : S) {tag y kind x symbol a addend n : ℕ
     unfolding relocateInto runT
     into-past l = internal-is (rw (f, relocateInto, ← o, le-ltb offset (z .size) l, runT))
 
-    module _ (l : offset < z .size) {from : FoundSegment} {s₆ : S} (j : (from, s₆) ≡ runT at (segment base symbol) s₅) where
+    module _ (l : offset < z .size) {from : FoundSegment} {s₆ : State} (j : (from, s₆) ≡ runT at (segment base symbol) s₅) where
       from-is
-          : {v : S} → v ≡ runT at (relocateFrom from (writePlace (z .kind) old offset (z .offset ⊕ offset)) kind addend (z .offset ⊕ offset)) s₆ .1
+          : {v : State} → v ≡ runT at (relocateFrom from (writePlace (z .kind) old offset (z .offset ⊕ offset)) kind addend (z .offset ⊕ offset)) s₆ .1
           → v ≡ runT at (applyInternalRelocation base old entry) s .1
       unfolding relocateInto
       from-is h =
@@ -55,14 +55,14 @@ module _ (at base old entry : ℕ) (s : S) {tag y kind x symbol a addend n : ℕ
       from-missing m = from-is (rw (m, relocateFrom, runT))
 
       pub from-found
-          : (g : Segment) {final target : ℕ} {r : RelocationType} {v : S} → from ≡ Found g → final ≡ z .offset ⊕ offset
+          : (g : Segment) {final target : ℕ} {r : RelocationType} {v : State} → from ≡ Found g → final ≡ z .offset ⊕ offset
           → target ≡ writePlace (z .kind) old offset final → r ≡ relocationType kind
           → v ≡ runT at (applyRelocation target r addend (g .offset) final) s₆ .1 → v ≡ runT at (applyInternalRelocation base old entry) s .1
       unfolding relocateFrom
       from-found g m ef et r u = from-is (rw (m, relocateFrom, ← ef, ← et, ← r) u)
 
 pub internal-starts
-    : (at base old : ℕ) (s : S) {table count : ℕ} {s₁ s₂ : S} → (table, s₁) ≡ runT at (field base internalRelocationTableOffset) s
+    : (at base old : ℕ) (s : State) {table count : ℕ} {s₁ s₂ : State} → (table, s₁) ≡ runT at (field base internalRelocationTableOffset) s
     → (count, s₂) ≡ runT at (field base internalRelocationNum) s₁
     → runT at (loop (λ i _. applyInternalRelocation base old (entryAt table i relocationEntrySize)) 0 (count - 0) tt) s₂
     ≡ runT at (applyInternalRelocations base old) s

@@ -19,17 +19,17 @@ use Rattle.linker.specs.Record.Tried.{tried, putTried}
 
 -- a step kept or given up
 
-pub kept-full
+pub keep-or-give-up-full
     : (d : Draft) (after : Drafted) (rs ns : List ℕ) {rs′ ns′ : List ℕ} → after ≡ Full → _≡_ {A = List ℕ × List ℕ} (rs′, ns′) (givenUp rs ns d)
     → _≡_ {A = Drafted × List ℕ × List ℕ} (Full, rs′, ns′) (tried d after rs ns)
 unfolding tried
-kept-full d after rs ns e f = rw e (ap (λ (t : List ℕ × List ℕ). (Full, t .0, t .1)) f)
+keep-or-give-up-full d after rs ns e f = rw e (ap (λ (t : List ℕ × List ℕ). (Full, t .0, t .1)) f)
 
-pub kept-open
+pub keep-or-give-up-open
     : (d : Draft) (after : Drafted) (rs ns : List ℕ) (next : Draft) → after ≡ Open next
     → _≡_ {A = Drafted × List ℕ × List ℕ} (Open next, rs, ns) (tried d after rs ns)
 unfolding tried
-kept-open d after rs ns next e = rw e
+keep-or-give-up-open d after rs ns next e = rw e
 
 pub at-most : (n : ℕ) → 16 < n → 16 ≡ atMost16 n
 unfolding atMost16

@@ -9,7 +9,7 @@ use borrow.Author.Tests.{eq-eqb, ne-eqb}
 use Rattle.window.specs.Memory.{if_then_else_, _⊕_}
 use Rattle.window.specs.Access.{Prog, ret, _>>=_, _>>_, get8, get32, put8}
 use Rattle.window.specs.Loop.{loop}
-use Rattle.window.specs.Trace.{S, runT, runT-bind}
+use Rattle.window.specs.Trace.{State, runT, runT-bind}
 use Rattle.window.specs.TraceRuns.{given, gives, seq, then-it, two, pick-then, pick-else}
 use Rattle.layout.specs.Header.{externalRelocationTableOffset, externalRelocationNum, relocationEntrySize, onUnresolvedSegmentTag}
 use Rattle.layout.specs.Format.{relocationType}
@@ -23,17 +23,17 @@ use Rattle.linker_spec.specs.Relocation.{addressOr0, unresolvedSymbol, relocate
 use Rattle.linker.specs.Relocation.Entry.{relocateEntry, applyEntry, walkEntry}
 
 -- a byte at a sum that the code made first
-module _ (at : ℕ) (s : S) {p q : ℕ} (e : p ≡ q) where
-  read8-there : {r : ℕ × S} → r ≡ runT at (get8 p) s → r ≡ runT at (get8 q) s
+module _ (at : ℕ) (s : State) {p q : ℕ} (e : p ≡ q) where
+  read8-there : {r : ℕ × State} → r ≡ runT at (get8 p) s → r ≡ runT at (get8 q) s
   read8-there h = h ∙ ap (λ p. runT at (get8 p) s) e
 
-  write8-there : (v : ℕ) {u : S} → u ≡ runT at (put8 p v) s .1 → u ≡ runT at (put8 q v) s .1
+  write8-there : (v : ℕ) {u : State} → u ≡ runT at (put8 p v) s .1 → u ≡ runT at (put8 q v) s .1
   write8-there v h = h ∙ ap (λ p. runT at (put8 p v) s .1) e
 
 -- one entry
 
-module _ (at base symbol tag kind addend : ℕ) (s : S) {r : Address} {s₁ : S} (h : (r, s₁) ≡ runT at (tagToAddress base tag) s) where
-  relocated : {v : S} → v ≡ runT at (relocateAt r kind addend symbol) s₁ .1 → v ≡ runT at (relocateEntry base symbol tag kind addend) s .1
+module _ (at base symbol tag kind addend : ℕ) (s : State) {r : Address} {s₁ : State} (h : (r, s₁) ≡ runT at (tagToAddress base tag) s) where
+  relocated : {v : State} → v ≡ runT at (relocateAt r kind addend symbol) s₁ .1 → v ≡ runT at (relocateEntry base symbol tag kind addend) s .1
   unfolding relocateEntry
   relocated = then-it at (tagToAddress base tag) s (λ r. relocateAt r kind addend symbol) h
 
@@ -42,15 +42,15 @@ module _ (at base symbol tag kind addend : ℕ) (s : S) {r : Address} {s₁ : S}
   relocate-nowhere e = relocated (rw (e, relocateAt, runT))
 
   pub relocate-at
-      : {target : ℕ} {k : RelocationType} {v : S} → r ≡ At target → k ≡ relocationType kind
+      : {target : ℕ} {k : RelocationType} {v : State} → r ≡ At target → k ≡ relocationType kind
       → v ≡ runT at (applyRelocation target k addend symbol target) s₁ .1 → v ≡ runT at (relocateEntry base symbol tag kind addend) s .1
   unfolding relocateAt
   relocate-at e k g = relocated (rw (e, relocateAt, ← k) g)
 
-module _ (at base symbol entry : ℕ) (s : S) {tag x kind : ℕ} {s₁ s₂ : S} (h₁ : (tag, s₁) ≡ runT at (get32 entry) s)
+module _ (at base symbol entry : ℕ) (s : State) {tag x kind : ℕ} {s₁ s₂ : State} (h₁ : (tag, s₁) ≡ runT at (get32 entry) s)
     (e₂ : x ≡ entry ⊕ 4) (h₂ : (kind, s₂) ≡ runT at (get8 x) s₁) where
   pub entry-applied
-      : {y addend : ℕ} {s₃ v : S} → y ≡ entry ⊕ 8 → (addend, s₃) ≡ runT at (get32 y) s₂
+      : {y addend : ℕ} {s₃ v : State} → y ≡ entry ⊕ 8 → (addend, s₃) ≡ runT at (get32 y) s₂
       → v ≡ runT at (relocateEntry base symbol tag kind addend) s₃ .1 → v ≡ runT at (applyEntry base symbol entry) s .1
   unfolding applyEntry
   entry-applied e₃ h₃ g =
@@ -59,7 +59,7 @@ module _ (at base symbol entry : ℕ) (s : S) {tag x kind : ℕ} {s₁ s₂ : S}
       (then-it at (get32 (entry ⊕ 8)) s₂ (λ addend. relocateEntry base symbol tag kind addend) (read-there at s₂ e₃ h₃) g))
 
   pub entry-walked
-      : {z end y addend : ℕ} {s₃ s₄ v : S} → z ≡ entry ⊕ 5 → (end, s₃) ≡ runT at (get8 z) s₂ → y ≡ entry ⊕ 8
+      : {z end y addend : ℕ} {s₃ s₄ v : State} → z ≡ entry ⊕ 5 → (end, s₃) ≡ runT at (get8 z) s₂ → y ≡ entry ⊕ 8
       → (addend, s₄) ≡ runT at (get32 y) s₃ → v ≡ runT at (relocateEntry base symbol tag kind addend) s₄ .1
       → (end, v) ≡ runT at (walkEntry base symbol entry) s
   unfolding walkEntry
@@ -73,13 +73,13 @@ module _ (at base symbol entry : ℕ) (s : S) {tag x kind : ℕ} {s₁ s₂ : S}
 
 -- a batch: k entries walked, at most m
 
-module _ (at base symbol entry : ℕ) (s : S) where
+module _ (at base symbol entry : ℕ) (s : State) where
   -- what follows an entry, and what follows its turn
-  after : ℕ → ℕ → ℕ → Prog ℕ
+  after : (f n end : ℕ) → Prog ℕ
   after f n end = if eqb end 0 then walk f base symbol (entry ⊕ relocationEntrySize) (suc n) else ret (suc n)
 
   turn-then
-      : (tag kind addend end : ℕ) (next : ℕ → Prog ℕ) (u : S)
+      : (tag kind addend end : ℕ) (next : ℕ → Prog ℕ) (u : State)
       → runT at (tagToAddress base tag >>= λ target. relocateAt target kind addend symbol >> next end) u
       ≡ runT at (next (runT at (relocateEntry base symbol tag kind addend >> ret end) u .0)) (runT at (relocateEntry base symbol tag kind addend >> ret end) u .1)
   unfolding relocateEntry runT
@@ -88,8 +88,8 @@ module _ (at base symbol entry : ℕ) (s : S) where
       let t = runT at (tagToAddress base tag) u in
       runT-bind at (tagToAddress base tag) _ u
       ∙ runT-bind at (relocateAt (t .0) kind addend symbol) (λ _. next end) (t .1)
-      ∙ ap (λ (r : Unit {0} × S). runT at (next end) (r .1)) (sym (runT-bind at (tagToAddress base tag) (λ target. relocateAt target kind addend symbol) u))
-      ∙ sym (ap (λ (r : ℕ × S). runT at (next (r .0)) (r .1)) (runT-bind at m (λ _. ret end) u))
+      ∙ ap (λ (r : Unit {0} × State). runT at (next end) (r .1)) (sym (runT-bind at (tagToAddress base tag) (λ target. relocateAt target kind addend symbol) u))
+      ∙ sym (ap (λ (r : ℕ × State). runT at (next (r .0)) (r .1)) (runT-bind at m (λ _. ret end) u))
 
   walk-is
       : (f n : ℕ)
@@ -100,7 +100,7 @@ module _ (at base symbol entry : ℕ) (s : S) where
   walk-is f n =
       turn-then _ _ _ _ (λ end. if eqb end 0 then walk f base symbol (entry ⊕ relocationEntrySize) (suc n) else ret (suc n)) _
 
-  module _ (m k : ℕ) {end : ℕ} {v : S} (l : k < m) (h : (end, v) ≡ runT at (walkEntry base symbol entry) s) where
+  module _ (m k : ℕ) {end : ℕ} {v : State} (l : k < m) (h : (end, v) ≡ runT at (walkEntry base symbol entry) s) where
     walk-step
         : runT at (walk (m - k) base symbol entry k) s
         ≡ runT at (if eqb end 0 then walk (m - (k + 1)) base symbol (entry ⊕ relocationEntrySize) (k + 1) else ret (k + 1)) v
@@ -109,7 +109,7 @@ module _ (at base symbol entry : ℕ) (s : S) where
         let t : suc k ≡ k + 1 = omega arith in
         rw (z, ← t)
         (walk-is (m - suc k) k
-        ∙ ap (λ (r : ℕ × S). runT at (if eqb (r .0) 0 then walk (m - suc k) base symbol (entry ⊕ relocationEntrySize) (suc k) else ret (suc k)) (r .1))
+        ∙ ap (λ (r : ℕ × State). runT at (if eqb (r .0) 0 then walk (m - suc k) base symbol (entry ⊕ relocationEntrySize) (suc k) else ret (suc k)) (r .1))
         (sym h))
 
     pub walk-on
@@ -127,7 +127,7 @@ module _ (at base symbol entry : ℕ) (s : S) where
 
 -- the walk, then the mark
 pub batch-made
-    : (at base batch symbol : ℕ) (resolved : Bool) (s : S) {n x b : ℕ} {u v : S}
+    : (at base batch symbol : ℕ) (resolved : Bool) (s : State) {n x b : ℕ} {u v : State}
     → (n, u) ≡ runT at (walk batchLimit base symbol batch 0) s → x ≡ batch ⊕ 6 → b ≡ mark resolved → v ≡ runT at (put8 x b) u .1
     → (n, v) ≡ runT at (applyRelocationBatch base batch symbol resolved) s
 unfolding applyRelocationBatch
@@ -148,7 +148,7 @@ if-not true = refl
 if-not false = refl
 
 pub mark-read
-    : (at batch : ℕ) (s : S) {x m : ℕ} {u : S} → x ≡ batch ⊕ 6 → (m, u) ≡ runT at (get8 x) s
+    : (at batch : ℕ) (s : State) {x m : ℕ} {u : State} → x ≡ batch ⊕ 6 → (m, u) ≡ runT at (get8 x) s
     → (not (eqb m 0), u) ≡ runT at (batchIsResolved batch) s
 unfolding batchIsResolved
 mark-read at batch s {m = m} {u} x e =
@@ -156,7 +156,7 @@ mark-read at batch s {m = m} {u} x e =
     ∙ gives at (get8 (batch ⊕ 6)) s (λ m. ret (if eqb m 0 then false else true)) (read8-there at s x e)
 
 pub handler-is
-    : (at base : ℕ) (s : S) {tag h : ℕ} {r : Address} {s₁ s₂ : S} → (tag, s₁) ≡ runT at (field base onUnresolvedSegmentTag) s
+    : (at base : ℕ) (s : State) {tag h : ℕ} {r : Address} {s₁ s₂ : State} → (tag, s₁) ≡ runT at (field base onUnresolvedSegmentTag) s
     → (r, s₂) ≡ runT at (tagToAddress base tag) s₁ → h ≡ addressOr0 r → (h, s₂) ≡ runT at (unresolvedSymbol base) s
 unfolding unresolvedSymbol
 handler-is at base s {tag} {r = r} {s₁} {s₂} e g f =
@@ -167,7 +167,7 @@ handler-is at base s {tag} {r = r} {s₁} {s₂} e g f =
 
 -- the external reset
 
-module _ (at base handler entry : ℕ) (s : S) {x : ℕ} {u v : S} (p : x ≡ entry ⊕ 6) (h : v ≡ runT at (put8 x 0) u .1) where
+module _ (at base handler entry : ℕ) (s : State) {x : ℕ} {u v : State} (p : x ≡ entry ⊕ 6) (h : v ≡ runT at (put8 x 0) u .1) where
   pub reset-none : handler ≡ 0 → u ≡ s → v ≡ runT at (resetEntry base handler entry) s .1
   unfolding resetEntry runT
   reset-none z e =
@@ -179,7 +179,7 @@ module _ (at base handler entry : ℕ) (s : S) {x : ℕ} {u v : S} (p : x ≡ en
       two at _ s (put8 (entry ⊕ 6) 0) (pick-else at s handler (ret tt) (applyEntry base handler entry) z e) (write8-there at u p 0 h)
 
 pub external-starts
-    : (at base : ℕ) (s : S) {handler table count : ℕ} {s₁ s₂ s₃ : S} → (handler, s₁) ≡ runT at (unresolvedSymbol base) s
+    : (at base : ℕ) (s : State) {handler table count : ℕ} {s₁ s₂ s₃ : State} → (handler, s₁) ≡ runT at (unresolvedSymbol base) s
     → (table, s₂) ≡ runT at (field base externalRelocationTableOffset) s₁ → (count, s₃) ≡ runT at (field base externalRelocationNum) s₂
     → runT at (loop (λ i _. resetEntry base handler (entryAt table i relocationEntrySize)) 0 (count - 0) tt) s₃
     ≡ runT at (resetExternalRelocations base) s

@@ -8,7 +8,7 @@ use borrow.Author.Tests.{eq-eqb, ne-eqb}
 use Rattle.window.specs.Memory.{if_then_else_, _⊕_}
 use Rattle.window.specs.Access.{Prog, ret, _>>=_, _>>_, get32}
 use Rattle.window.specs.Loop.{loop}
-use Rattle.window.specs.Trace.{S, runT}
+use Rattle.window.specs.Trace.{State, runT}
 use Rattle.window.specs.TraceRuns.{left, gives, seq, then-it, two}
 use Rattle.window.specs.Name.{nameAt}
 use Rattle.layout.specs.Header.{importNamedSymbolTableOffset, importNamedSymbolNum, importNamedSymbolEntrySize, importModuleTableOffset, importModuleNum, importModuleEntrySize, importIndexedSymbolEntrySize}
@@ -27,12 +27,12 @@ use Rattle.linker.specs.Resets.Tables.{resetTable, resetAllNamed, resetA
 
 -- one batch
 
-module _ (at base handler batch : ℕ) (s : S) where
+module _ (at base handler batch : ℕ) (s : State) where
   pub reset-none : batch ≡ 0 → s ≡ runT at (reset base handler batch) s .1
   unfolding reset runT
   reset-none e = rw (eq-eqb batch 0 e, runT)
 
-  module _ (n : batch ≡ 0 → ⊥) {t : Bool} {s₁ : S} (et : (t, s₁) ≡ runT at (batchIsResolved batch) s) where
+  module _ (n : batch ≡ 0 → ⊥) {t : Bool} {s₁ : State} (et : (t, s₁) ≡ runT at (batchIsResolved batch) s) where
     abbrev turned : Bool → Prog (Unit {0})
     turned b = if b then applyRelocationBatch base batch handler false >> ret tt else ret tt
 
@@ -45,21 +45,21 @@ module _ (at base handler batch : ℕ) (s : S) where
     reset-left e = rw (reset-is, e, runT)
 
     pub reset-made
-        : {k : ℕ} {v : S} → t ≡ true → (k, v) ≡ runT at (applyRelocationBatch base batch handler false) s₁ → v ≡ runT at (reset base handler batch) s .1
+        : {k : ℕ} {v : State} → t ≡ true → (k, v) ≡ runT at (applyRelocationBatch base batch handler false) s₁ → v ≡ runT at (reset base handler batch) s .1
     unfolding runT
     reset-made e h = rw (reset-is, e) (ap left (seq at (applyRelocationBatch base batch handler false) s₁ (ret tt) (ap left h)))
 
 -- the batch of an entry
 
-module _ (at base handler entry : ℕ) (s : S) where
+module _ (at base handler entry : ℕ) (s : State) where
   pub reset-entry
-      : {y batch : ℕ} {s₁ v : S} → y ≡ entry ⊕ 4 → (batch, s₁) ≡ runT at (get32 y) s → v ≡ runT at (reset base handler batch) s₁ .1
+      : {y batch : ℕ} {s₁ v : State} → y ≡ entry ⊕ 4 → (batch, s₁) ≡ runT at (get32 y) s → v ≡ runT at (reset base handler batch) s₁ .1
       → v ≡ runT at (resetAt base handler entry) s .1
   unfolding resetAt
   reset-entry y b h = then-it at (get32 (entry ⊕ 4)) s (reset base handler) (read-there at s y b) h
 
   -- a name, and what is done with it
-  module _ {p : ℕ} {s₁ : S} (ep : (p, s₁) ≡ runT at (get32 entry) s) {s₂ : S} (en : s₂ ≡ runT at (nameAt p) s₁ .1) where
+  module _ {p : ℕ} {s₁ : State} (ep : (p, s₁) ≡ runT at (get32 entry) s) {s₂ : State} (en : s₂ ≡ runT at (nameAt p) s₁ .1) where
     abbrev name : List ℕ
     name = runT at (nameAt p) s₁ .0
 
@@ -77,7 +77,7 @@ module _ (at base handler entry : ℕ) (s : S) where
         named-kept e = rw (named-is, e, runT)
 
         pub named-reset
-            : {a : ℕ} {v : S} → x ≡ At a → v ≡ runT at (resetAt base handler entry) s₂ .1 → v ≡ runT at (resetNamed gone base handler entry) s .1
+            : {a : ℕ} {v : State} → x ≡ At a → v ≡ runT at (resetAt base handler entry) s₂ .1 → v ≡ runT at (resetNamed gone base handler entry) s .1
         named-reset e h = rw (named-is, e) h
 
       module _ {t : Bool} {own : List ℕ} (eo : own ≡ gone .name) (et : t ≡ same name own) where
@@ -93,7 +93,7 @@ module _ (at base handler entry : ℕ) (s : S) where
         module-kept e = rw (module-is, e, runT)
 
         pub module-reset
-            : {x : ModuleTables} {s₃ u v : S} → t ≡ true → (x, s₃) ≡ runT at (tablesOf entry) s₂
+            : {x : ModuleTables} {s₃ u v : State} → t ≡ true → (x, s₃) ≡ runT at (tablesOf entry) s₂
             → u ≡ runT at (resetTable base handler (x .«indexed_table») (x .«indexed_count»)) s₃ .1
             → v ≡ runT at (resetTable base handler (x .«anonymous_table») (x .«anonymous_count»)) u .1
             → v ≡ runT at (resetModule gone base handler entry) s .1
@@ -101,7 +101,7 @@ module _ (at base handler entry : ℕ) (s : S) where
 
 -- the loops, and both halves
 
-module _ (at base handler : ℕ) (s : S) where
+module _ (at base handler : ℕ) (s : State) where
   pub resets-start
       : (table count : ℕ)
       → runT at (loop (λ i _. resetAt base handler (entryAt table i importIndexedSymbolEntrySize)) 0 (count - 0) tt) s
@@ -109,7 +109,7 @@ module _ (at base handler : ℕ) (s : S) where
   unfolding resetTable
   resets-start table count = let z : count - 0 ≡ count = omega arith in rw z
 
-  module _ (gone : Module) {table count : ℕ} {s₁ s₂ : S} where
+  module _ (gone : Module) {table count : ℕ} {s₁ s₂ : State} where
     pub named-start
         : (table, s₁) ≡ runT at (field base importNamedSymbolTableOffset) s → (count, s₂) ≡ runT at (field base importNamedSymbolNum) s₁
         → runT at (loop (λ i _. resetNamed gone base handler (entryAt table i importNamedSymbolEntrySize)) 0 (count - 0) tt) s₂
@@ -128,7 +128,7 @@ module _ (at base handler : ℕ) (s : S) where
         let z : count - 0 ≡ count = omega arith in
         rw z (gives at (field base importModuleNum) s₁ _ n ∙ gives at (field base importModuleTableOffset) s _ t)
 
-module _ (at base : ℕ) (s : S) (gone : Module) where
+module _ (at base : ℕ) (s : State) (gone : Module) where
   abbrev halves : ℕ → Prog (Unit {0})
   halves k = resetAllNamed gone base k >> resetAllModules gone base k
 
@@ -137,7 +137,7 @@ module _ (at base : ℕ) (s : S) (gone : Module) where
   imports-are = refl
 
   pub both-reset
-      : {handler : ℕ} {s₁ u v : S} → (handler, s₁) ≡ runT at (unresolvedSymbol base) s → u ≡ runT at (resetAllNamed gone base handler) s₁ .1
+      : {handler : ℕ} {s₁ u v : State} → (handler, s₁) ≡ runT at (unresolvedSymbol base) s → u ≡ runT at (resetAllNamed gone base handler) s₁ .1
       → v ≡ runT at (resetAllModules gone base handler) u .1 → v ≡ runT at (resetImports gone base) s .1
   both-reset {handler} {s₁} e h g =
       rw imports-are

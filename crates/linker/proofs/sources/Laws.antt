@@ -9,7 +9,7 @@ use lib.ListN.{take}
 use borrow.Author.Tests.{eq-eqb, ne-eqb}
 use Rattle.window.specs.Memory.{if_then_else_, _⊕_}
 use Rattle.window.specs.Access.{ret, get32}
-use Rattle.window.specs.Trace.{S, runT}
+use Rattle.window.specs.Trace.{State, runT}
 use Rattle.window.specs.TraceRuns.{given, gives, then-it, two, on-true, on-false}
 use Rattle.window.specs.Loop.{loop}
 use Rattle.window.specs.Name.{nameAt, laidOver, name-is}
@@ -30,7 +30,7 @@ use Rattle.linker.specs.declared.sources.source.ModuleTables.{ModuleTabl
 
 -- what is made of a name's bytes in a buffer is made of the name
 pub name-made
-    : {A : Type 0} (f : List ℕ → A) (at address : ℕ) (s : S) (old : List ℕ) {r : A} {n : ℕ} {buffer : List ℕ} → r ≡ f (take n buffer)
+    : {A : Type 0} (f : List ℕ → A) (at address : ℕ) (s : State) (old : List ℕ) {r : A} {n : ℕ} {buffer : List ℕ} → r ≡ f (take n buffer)
     → (n, buffer) ≡ laidOver (runT at (nameAt address) s .0) old → r ≡ f (runT at (nameAt address) s .0)
 name-made f at address s old h e = h ∙ ap f (name-is (runT at (nameAt address) s .0) old e)
 
@@ -40,12 +40,12 @@ turned : (b : Bool) → not b ≡ (if b then false else true)
 turned true = refl
 turned false = refl
 
-module _ (at batch : ℕ) (s : S) where
+module _ (at batch : ℕ) (s : State) where
   pub no-batch : batch ≡ 0 → (false, s) ≡ runT at (isUnresolved batch) s
   unfolding isUnresolved
   no-batch e = on-true at s (ret false) _ (eq-eqb batch 0 e) (given at false s)
 
-  pub batch-waits : {r : Bool} {u : S} → (batch ≡ 0 → ⊥) → (r, u) ≡ runT at (batchIsResolved batch) s → (not r, u) ≡ runT at (isUnresolved batch) s
+  pub batch-waits : {r : Bool} {u : State} → (batch ≡ 0 → ⊥) → (r, u) ≡ runT at (batchIsResolved batch) s → (not r, u) ≡ runT at (isUnresolved batch) s
   unfolding isUnresolved
   batch-waits {r} {u} n e =
       on-false at s (ret false) _ (ne-eqb batch 0 n)
@@ -73,9 +73,9 @@ pub symbol-anonymous : (m : Module) (x : ℕ) {k : ImportTable} {s : Symbol} →
 unfolding symbolOf
 symbol-anonymous m x e f = rw (e, symbolOf) f
 
-module _ (at base entry : ℕ) (symbol : ℕ → Symbol) (s : S) {x batch y : ℕ} {t : Bool} {s₁ s₂ s₃ : S} (h₁ : (x, s₁) ≡ runT at (get32 entry) s)
+module _ (at base entry : ℕ) (symbol : ℕ → Symbol) (s : State) {x batch y : ℕ} {t : Bool} {s₁ s₂ s₃ : State} (h₁ : (x, s₁) ≡ runT at (get32 entry) s)
     (ey : y ≡ entry ⊕ 4) (h₂ : (batch, s₂) ≡ runT at (get32 y) s₁) (h₃ : (t, s₃) ≡ runT at (isUnresolved batch) s₂) where
-  from-is : {v : S} → v ≡ runT at (if t then resolve base batch (symbol x) else ret tt) s₃ .1 → v ≡ runT at (importFrom symbol base entry) s .1
+  from-is : {v : State} → v ≡ runT at (if t then resolve base batch (symbol x) else ret tt) s₃ .1 → v ≡ runT at (importFrom symbol base entry) s .1
   unfolding importFrom
   from-is h =
       then-it at (get32 entry) s _ h₁
@@ -83,7 +83,7 @@ module _ (at base entry : ℕ) (symbol : ℕ → Symbol) (s : S) {x batch y : �
       (then-it at (isUnresolved batch) s₂ (λ t. if t then resolve base batch (symbol x) else ret tt) h₃ h))
 
   pub from-waits
-      : {z : Symbol} {v : S} → t ≡ true → z ≡ symbol x → v ≡ runT at (resolve base batch z) s₃ .1
+      : {z : Symbol} {v : State} → t ≡ true → z ≡ symbol x → v ≡ runT at (resolve base batch z) s₃ .1
       → v ≡ runT at (importFrom symbol base entry) s .1
   from-waits e f h = from-is (rw (e, ← f) h)
 
@@ -94,7 +94,7 @@ module _ (at base entry : ℕ) (symbol : ℕ → Symbol) (s : S) {x batch y : �
 -- the imports of a table
 
 pub table-starts
-    : (at base table count : ℕ) (k : ImportTable) (m : Module) (s : S)
+    : (at base table count : ℕ) (k : ImportTable) (m : Module) (s : State)
     → runT at (loop (λ i _. importFrom (symbolOf k m) base (entryAt table i importIndexedSymbolEntrySize)) 0 (count - 0) tt) s
     ≡ runT at (importTable k m base table count) s
 unfolding importTable
@@ -103,7 +103,7 @@ table-starts at base table count k m s = let z : count - 0 ≡ count = omega ari
 -- a module entry's four words, and its two tables
 
 pub tables-read
-    : (at entry : ℕ) (s : S) {x₁ x₂ x₃ x₄ indexed n anonymous m : ℕ} {s₁ s₂ s₃ s₄ : S} → x₁ ≡ entry ⊕ 4 → (indexed, s₁) ≡ runT at (get32 x₁) s
+    : (at entry : ℕ) (s : State) {x₁ x₂ x₃ x₄ indexed n anonymous m : ℕ} {s₁ s₂ s₃ s₄ : State} → x₁ ≡ entry ⊕ 4 → (indexed, s₁) ≡ runT at (get32 x₁) s
     → x₂ ≡ entry ⊕ 8 → (n, s₂) ≡ runT at (get32 x₂) s₁ → x₃ ≡ entry ⊕ 12 → (anonymous, s₃) ≡ runT at (get32 x₃) s₂ → x₄ ≡ entry ⊕ 16
     → (m, s₄) ≡ runT at (get32 x₄) s₃
     → (record { «indexed_table» = indexed; «indexed_count» = n; «anonymous_table» = anonymous; «anonymous_count» = m }, s₄) ≡ runT at (tablesOf entry) s
@@ -116,7 +116,7 @@ tables-read at entry s {indexed = indexed} {n} {anonymous} {m} {s₁} {s₂} {s�
     ∙ gives at (get32 (entry ⊕ 4)) s _ (read-there at s p₁ h₁)
 
 pub tables-made
-    : (at base : ℕ) (source : Module) (t : ModuleTables) (s : S) {u v : S}
+    : (at base : ℕ) (source : Module) (t : ModuleTables) (s : State) {u v : State}
     → u ≡ runT at (importTable Indexed source base (t .«indexed_table») (t .«indexed_count»)) s .1
     → v ≡ runT at (importTable Anonymous source base (t .«anonymous_table») (t .«anonymous_count»)) u .1
     → v ≡ runT at (linkTables (some source) base t) s .1

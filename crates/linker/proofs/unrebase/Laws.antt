@@ -6,7 +6,7 @@ use native.Mathlib.Omega.{arith}
 use borrow.Author.Tests.{eq-eqb, ne-eqb}
 use Rattle.window.specs.Access.{_>>_}
 use Rattle.window.specs.Loop.{loop}
-use Rattle.window.specs.Trace.{S, runT}
+use Rattle.window.specs.Trace.{State, runT}
 use Rattle.window.specs.TraceRuns.{given, gives, then-it, two, left}
 use Rattle.layout.specs.Header.{segmentNum, fixedSize}
 use Rattle.layout.specs.Tables.{pointerTables}
@@ -47,8 +47,8 @@ module _ (base : ℕ) (s : Segment) {k : SegmentType} {z : Segment} where
   unfolding leavesAs
   leaves-bss h c = rw c h
 
-module _ (at base i : ℕ) (s : S) {found : FoundSegment} {s₁ : S} (e : (found, s₁) ≡ runT at (segment base i) s) where
-  unmove-is : {v : S} → v ≡ runT at (unmoveFound base i found) s₁ .1 → v ≡ runT at (unmoveSegment base i) s .1
+module _ (at base i : ℕ) (s : State) {found : FoundSegment} {s₁ : State} (e : (found, s₁) ≡ runT at (segment base i) s) where
+  unmove-is : {v : State} → v ≡ runT at (unmoveFound base i found) s₁ .1 → v ≡ runT at (unmoveSegment base i) s .1
   unfolding unmoveSegment
   unmove-is h = then-it at (segment base i) s (unmoveFound base i) e h
 
@@ -57,20 +57,20 @@ module _ (at base i : ℕ) (s : S) {found : FoundSegment} {s₁ : S} (e : (found
   unmove-passed m = unmove-is (rw (m, unmoveFound) (ap left (given at tt s₁)))
 
   pub unmoved
-      : {z y : Segment} {v : S} → found ≡ Found z → y ≡ leavesAs base z (z .kind) → v ≡ runT at (setSegment base i y) s₁ .1
+      : {z y : Segment} {v : State} → found ≡ Found z → y ≡ leavesAs base z (z .kind) → v ≡ runT at (setSegment base i y) s₁ .1
       → v ≡ runT at (unmoveSegment base i) s .1
   unfolding unmoveFound
   unmoved m l h = unmove-is (rw (m, unmoveFound, ← l) h)
 
 pub unmove-starts
-    : (at base : ℕ) (s : S) {n : ℕ} {s₁ : S} → (n, s₁) ≡ runT at (field base segmentNum) s
+    : (at base : ℕ) (s : State) {n : ℕ} {s₁ : State} → (n, s₁) ≡ runT at (field base segmentNum) s
     → runT at (loop (λ i _. unmoveSegment base i) 0 (n - 0) tt) s₁ ≡ runT at (unmoveSegments base) s
 unfolding unmoveSegments
 unmove-starts at base s {n} e =
     let z : n - 0 ≡ n = omega arith in rw z (gives at (field base segmentNum) s (λ n. loop (λ i _. unmoveSegment base i) 0 n tt) e)
 
 pub unrebased
-    : (at base : ℕ) (s : S) {s₁ s₂ s₃ v : S} → s₁ ≡ runT at (moveTables false base pointerTables) s .1
+    : (at base : ℕ) (s : State) {s₁ s₂ s₃ v : State} → s₁ ≡ runT at (moveTables false base pointerTables) s .1
     → s₂ ≡ runT at (unmoveSegments base) s₁ .1 → s₃ ≡ runT at (moveHeader false base) s₂ .1 → v ≡ runT at (setField base fixedSize 0) s₃ .1
     → v ≡ runT at (unrebase base) s .1
 unfolding unrebase

@@ -1,13 +1,13 @@
 -- What a call has passed when a part of it answers 0, and what it leaves when one does not.
 use Prim.Native.Nat.{ℕ}
-use mathlib.Core.Path.{_≡_, refl, sym, ap, _∙_, subst}
+use mathlib.Core.Path.{_≡_, refl, sym, _∙_, subst}
 use mathlib.Core.List.{List}
 use mathlib.Core.Bool.{Bool, true, false}
 use native.Mathlib.Omega.{arith}
 use lib.ListN.{length}
 use Rattle.window.specs.Memory.{goodWindow}
 use Rattle.window.specs.Access.{Prog}
-use Rattle.window.specs.Trace.{S, runT}
+use Rattle.window.specs.Trace.{State, runT}
 use Rattle.window.specs.TraceRuns.{two}
 use Rattle.window.specs.Silent.{reads-runT}
 use Rattle.layout.specs.Header.{nextCro, previousCro}
@@ -19,49 +19,49 @@ use Rattle.register.specs.Buffers.{encodeRecords, encodeNames}
 use Rattle.linker_spec.specs.declared.rebase.Rebased.{Rebased}
 use Rattle.linker_spec.specs.Relocation.{resetExternalRelocations}
 use Rattle.linker_spec.specs.Exports.{readModule, readModule-reads}
-use Rattle.linker_spec.specs.Calls.{Answer, number, value, fits, enter}
-use Rattle.linker_spec.specs.Outcome.{Bytes, Outcome, registerAfter, settle, outcome}
+use Rattle.linker_spec.specs.Calls.{Answer, number, value, fits, addRecord}
+use Rattle.linker_spec.specs.Outcome.{Buffers, Outcome, registerAfter, outcomeOf, callOutcome}
 use Rattle.linker_spec.specs.Touches.{resetRebased, counted}
 use Rattle.linker_spec.specs.Refusals.{lentRegister, refuses-3, refuses-4}
 use Rattle.linker.specs.Exports.Exported.{registerIn, exported, fits-in, records-in, names-in}
-use Rattle.linker.specs.Entry.Entry.{tested, entered, enter-done, entered-done}
-use Rattle.linker.specs.Calls.Steps.{lent, left, unhung}
+use Rattle.linker.specs.Entry.Entry.{EntryResult, refusalOfBuffers, recordAdded, add-record-done, record-added-done}
+use Rattle.linker.specs.Calls.Steps.{buffers, outcome, clearListFields}
 
 -- the tests
 
-pub tests-pass : (g v : Bool) {n : ℕ} → n ≡ tested g v → n ≡ 0 → (g ≡ true) × (v ≡ true)
-unfolding tested number
+pub tests-pass : (g v : Bool) {n : ℕ} → n ≡ refusalOfBuffers g v → n ≡ 0 → (g ≡ true) × (v ≡ true)
+unfolding refusalOfBuffers number
 tests-pass true true e z = (refl, refl)
 tests-pass true false e z = absurd (omega arith)
 tests-pass false v e z = absurd (omega arith)
 
 pub tests-refuse
-    : (call : ℕ → ℕ → Register → Prog Answer) (at : ℕ) (b : Bytes) {n : ℕ}
-    → n ≡ tested (goodWindow at (b .window)) (isRegister (b .records) (b .names) (b .missing)) → (n ≡ 0 → ⊥) → left n 0 b ≡ outcome call at b
-unfolding tested number value
+    : (call : ℕ → ℕ → Register → Prog Answer) (at : ℕ) (b : Buffers) {n : ℕ}
+    → n ≡ refusalOfBuffers (goodWindow at (b .window)) (isRegister (b .records) (b .names) (b .missing)) → (n ≡ 0 → ⊥) → outcome n 0 b ≡ callOutcome call at b
+unfolding refusalOfBuffers number value
 tests-refuse call at b {n} e k =
     go (goodWindow at (b .window)) (isRegister (b .records) (b .names) (b .missing)) refl refl e
   where
     go
-        : (g v : Bool) → goodWindow at (b .window) ≡ g → isRegister (b .records) (b .names) (b .missing) ≡ v → n ≡ tested g v
-        → left n 0 b ≡ outcome call at b
+        : (g v : Bool) → goodWindow at (b .window) ≡ g → isRegister (b .records) (b .names) (b .missing) ≡ v → n ≡ refusalOfBuffers g v
+        → outcome n 0 b ≡ callOutcome call at b
     go true true eg ev e = absurd (k e)
     go true false eg ev e = rw e (sym (refuses-4 call at b eg ev))
     go false v eg ev e = rw e (sym (refuses-3 call at b eg))
 
 -- the entry of a module
 
-module _ (at : ℕ) (b : Bytes) (base size : ℕ) (auto : Bool) (s : S) where
+module _ (at : ℕ) (b : Buffers) (base size : ℕ) (auto : Bool) (s : State) where
   abbrev r : Register
   r = lentRegister b
 
-  abbrev v : S
+  abbrev v : State
   v = runT at (resetExternalRelocations base) s .1
 
   abbrev m : Module
   m = runT at (readModule base size auto) v .0
 
-  abbrev z : S
+  abbrev z : State
   z = runT at (readModule base size auto) v .1
 
   abbrev R : ℕ
@@ -71,26 +71,26 @@ module _ (at : ℕ) (b : Bytes) (base size : ℕ) (auto : Bool) (s : S) where
   N = length (b .names)
 
   -- the module that has its record now
-  pub record In (x : Rebased) (left : S) (records names : List ℕ) : Type 0 where
+  pub record RecordAdded (x : Rebased) (state : State) (records names : List ℕ) : Type 0 where
     pub rebased : x ≡ Rebased.Done
-    pub reset : left .0 ≡ v .0
+    pub reset : state .0 ≡ v .0
     pub fit : fits R N r m ≡ true
-    pub same : (next : Module → Prog Answer) → runT at (enter R N r base size auto next x) s ≡ runT at (next m) left
+    pub same : (next : Module → Prog Answer) → runT at (addRecord R N r base size auto next x) s ≡ runT at (next m) state
     pub records-now : records ≡ encodeRecords R (appended r m)
     pub names-now : names ≡ encodeNames N (appended r m)
 
-  abbrev after : Rebased → ℕ × S × List ℕ × List ℕ
-  after x = entered at (b .records) (b .names) base size auto x s
+  abbrev after : Rebased → EntryResult
+  after x = recordAdded at (b .records) (b .names) base size auto x s
 
   -- after a rebase that is done
   abbrev stored : Answer × List ℕ × List ℕ
   stored = exported (b .records) (b .names) m
 
-  abbrev done : ℕ × S × List ℕ × List ℕ
+  abbrev done : EntryResult
   done = (number (stored .0), (v .0, counted (stored .0) (v .1) (z .1)), stored .1, stored .2)
 
   is-done : done ≡ after Rebased.Done
-  is-done = sym (entered-done at base size auto s (b .records) (b .names))
+  is-done = sym (record-added-done at base size auto s (b .records) (b .names))
 
   -- whether the module fits, told from records and names alone
   abbrev fitting : Bool
@@ -103,49 +103,49 @@ module _ (at : ℕ) (b : Bytes) (base size : ℕ) (auto : Bool) (s : S) where
   unwritten : z .0 ≡ v .0
   unwritten = reads-runT at (readModule base size auto) v (readModule-reads base size auto) .1
 
-  done-now : (t : Bool) → fitting ≡ t → done .0 ≡ 0 → In Rebased.Done (done .1) (done .2) (done .3)
+  done-now : (t : Bool) → fitting ≡ t → done .0 ≡ 0 → RecordAdded Rebased.Done (done .1) (done .2) (done .3)
   unfolding number exported registerAfter counted
   done-now true e o =
       record {
         rebased = refl;
         reset = refl;
         fit = fitting-is e;
-        same = λ next. enter-done at base size auto s R N r next ∙ rw (fitting-is e, e, ← unwritten);
+        same = λ next. add-record-done at base size auto s R N r next ∙ rw (fitting-is e, e, ← unwritten);
         records-now = rw e (records-in (b .records) (b .names) (b .missing) m R);
         names-now = rw e (names-in (b .records) (b .names) (b .missing) m N);
       }
   done-now false e o = let y : done .0 ≡ 5 = rw e in absurd (omega arith)
 
-  pub in-now : (x : Rebased) → after x .0 ≡ 0 → In x (after x .1) (after x .2) (after x .3)
-  unfolding entered enter runT number
+  pub in-now : (x : Rebased) → after x .0 ≡ 0 → RecordAdded x (after x .1) (after x .2) (after x .3)
+  unfolding recordAdded addRecord runT number
   in-now Rebased.NotACro o = absurd (omega arith)
   in-now Rebased.BadSegment o = absurd (omega arith)
   in-now Rebased.Done o =
-      subst (λ (y : ℕ × S × List ℕ × List ℕ). y .0 ≡ 0 → In Rebased.Done (y .1) (y .2) (y .3)) is-done (done-now fitting refl) o
+      subst (λ (y : EntryResult). y .0 ≡ 0 → RecordAdded Rebased.Done (y .1) (y .2) (y .3)) is-done (done-now fitting refl) o
 
   module _ (next : Module → Prog Answer) where
-    abbrev entry : Rebased → Answer × S
-    entry x = runT at (enter R N r base size auto next x) s
+    abbrev entry : Rebased → Answer × State
+    entry x = runT at (addRecord R N r base size auto next x) s
 
-    abbrev Leaves : ℕ × S × List ℕ × List ℕ → Rebased → Type 0
-    Leaves y x =
-        _≡_ {A = Outcome × List ℕ} (left (y .0) 0 (lent (y .1 .0) (y .2) (y .3) (b .missing)), y .1 .1)
-        (settle b (entry x .0, entry x .1 .0), counted (entry x .0) (runT at (resetRebased base x) s .1 .1) (entry x .1 .1))
+    abbrev EntryLeaves : EntryResult → Rebased → Type 0
+    EntryLeaves y x =
+        _≡_ {A = Outcome × List ℕ} (outcome (y .0) 0 (buffers (y .1 .0) (y .2) (y .3) (b .missing)), y .1 .1)
+        (outcomeOf b (entry x .0, entry x .1 .0), counted (entry x .0) (runT at (resetRebased base x) s .1 .1) (entry x .1 .1))
 
-    not-done : (t : Bool) → fitting ≡ t → (done .0 ≡ 0 → ⊥) → Leaves done Rebased.Done
-    unfolding number value exported registerAfter settle runT counted resetRebased
+    not-done : (t : Bool) → fitting ≡ t → (done .0 ≡ 0 → ⊥) → EntryLeaves done Rebased.Done
+    unfolding number value exported registerAfter outcomeOf runT counted resetRebased
     not-done true e n = absurd (n (rw e))
-    not-done false e n = rw (enter-done at base size auto s R N r next, fitting-is e, e, unwritten)
+    not-done false e n = rw (add-record-done at base size auto s R N r next, fitting-is e, e, unwritten)
 
-    pub not-now : (x : Rebased) → (after x .0 ≡ 0 → ⊥) → Leaves (after x) x
-    unfolding entered enter settle number value registerAfter runT counted
+    pub not-now : (x : Rebased) → (after x .0 ≡ 0 → ⊥) → EntryLeaves (after x) x
+    unfolding recordAdded addRecord outcomeOf number value registerAfter runT counted
     not-now Rebased.NotACro n = refl
     not-now Rebased.BadSegment n = refl
     not-now Rebased.Done n =
-        subst (λ (y : ℕ × S × List ℕ × List ℕ). (y .0 ≡ 0 → ⊥) → Leaves y Rebased.Done) is-done (not-done fitting refl) n
+        subst (λ (y : EntryResult). (y .0 ≡ 0 → ⊥) → EntryLeaves y Rebased.Done) is-done (not-done fitting refl) n
 
-pub unhung-is
-    : (at base : ℕ) (s : S) {u v : S} → u ≡ runT at (setField base nextCro 0) s .1 → v ≡ runT at (setField base previousCro 0) u .1
-    → v ≡ runT at (unhung base) s .1
-unfolding unhung
-unhung-is at base s e f = two at (setField base nextCro 0) s (setField base previousCro 0) e f
+pub clear-list-fields-is
+    : (at base : ℕ) (s : State) {u v : State} → u ≡ runT at (setField base nextCro 0) s .1 → v ≡ runT at (setField base previousCro 0) u .1
+    → v ≡ runT at (clearListFields base) s .1
+unfolding clearListFields
+clear-list-fields-is at base s e f = two at (setField base nextCro 0) s (setField base previousCro 0) e f

@@ -7,8 +7,8 @@ use native.Mathlib.Omega.{arith}
 use lib.ListN.{length, take}
 use lib.Dec.{eqb}
 use Rattle.window.specs.Memory.{if_then_else_}
-use Rattle.window.specs.Access.{ret, _>>=_, _>>_}
-use Rattle.window.specs.Trace.{S, runT}
+use Rattle.window.specs.Access.{ret}
+use Rattle.window.specs.Trace.{State, runT}
 use Rattle.window.specs.TraceRuns.{seq}
 use Rattle.register.specs.declared.words.Crs.{Crs}
 use Rattle.register.specs.declared.words.Crs.the-variants.{Unknown, Known}
@@ -18,7 +18,7 @@ use Rattle.register.specs.Encode.{recordWords}
 use Rattle.register.specs.Decode.{registerOf, isRegister}
 use Rattle.register.specs.Change.{without, removed}
 use Rattle.register.specs.Read.Read.{modulesOf, moduleBytes, moduleAt, placeFrom, placeAfter, hasBase}
-use Rattle.register.specs.Change.Remove.{Stands}
+use Rattle.register.specs.Change.Remove.{RecordOfRegister}
 use Rattle.linker_spec.specs.Resets.{resetImporters}
 use Rattle.linker_spec.specs.Lists.{unregister}
 use Rattle.linker_spec.specs.Unrebase.{unrebase}
@@ -28,12 +28,12 @@ use Rattle.linker.specs.Resets.Modules.{otherThan, gone-is}
 use Rattle.linker.specs.Calls.Stored.{after-words, crs-is}
 use Rattle.linker.specs.Calls.Linked.{headerCrs}
 
-pub unlisted-none : (at base : ℕ) (s : S) {c : Crs} → c ≡ Unknown → s ≡ runT at (unlisted c base) s .1
+pub unlisted-none : (at base : ℕ) (s : State) {c : Crs} → c ≡ Unknown → s ≡ runT at (unlisted c base) s .1
 unfolding unlisted runT
 unlisted-none at base s e = rw e
 
 pub unlisted-known
-    : (at base : ℕ) (s : S) {c : Crs} (crs : ℕ) {u : S} → c ≡ Known crs → u ≡ runT at (unregister crs base) s .1
+    : (at base : ℕ) (s : State) {c : Crs} (crs : ℕ) {u : State} → c ≡ Known crs → u ≡ runT at (unregister crs base) s .1
     → u ≡ runT at (unlisted c base) s .1
 unfolding unlisted
 unlisted-known at base s crs e h = rw e h
@@ -52,20 +52,20 @@ no-first base p i (x ∷ ms) e = go (eqb (x .base) base) e (no-first base (p + m
     go false e k = k e
 
 -- the place of the first record that has it
-record At (base p i : ℕ) (ms : List Module) (k : ℕ) : Type 0 where
+record FirstAt (base p i : ℕ) (ms : List Module) (k : ℕ) : Type 0 where
   number : ℕ
   counts : k ≡ i + number
   below : number < length ms
   there : placeFrom p ms (hasBase base) ≡ found.At (placeAfter p (take number ms))
 
-first-at : (base p i : ℕ) (ms : List Module) (k : ℕ) (m : Module) → firstWithBase base ms i ≡ stands m k → At base p i ms k
+first-at : (base p i : ℕ) (ms : List Module) (k : ℕ) (m : Module) → firstWithBase base ms i ≡ stands m k → FirstAt base p i ms k
 unfolding placeFrom hasBase firstWithBase placeAfter
 first-at base p i [] k m e = let z : _≡_ {A = ℕ} 0 1 = cc in absurd (omega arith)
 first-at base p i (x ∷ ms) k m e = go (eqb (x .base) base) refl e (first-at base (p + moduleBytes x) (suc i) ms k m)
   where
     go
         : (t : Bool) → eqb (x .base) base ≡ t → (if t then stands x i else firstWithBase base ms (suc i)) ≡ stands m k
-        → (firstWithBase base ms (suc i) ≡ stands m k → At base (p + moduleBytes x) (suc i) ms k) → At base p i (x ∷ ms) k
+        → (firstWithBase base ms (suc i) ≡ stands m k → FirstAt base (p + moduleBytes x) (suc i) ms k) → FirstAt base p i (x ∷ ms) k
     go true q e h = let z : i ≡ k = cc in record { number = 0; counts = omega arith; below = omega arith; there = rw q }
     go false q e h =
         let a = h e in
@@ -96,14 +96,14 @@ module _ (records names missing : List ℕ) (v : isRegister records names missin
       rw (modules-are records names missing, sym n)
       (l, p ∙ after-words 0 32 (take (a .number) (modulesOf records names)))
 
-  abbrev pub standing : Stands records names place
+  abbrev pub standing : RecordOfRegister records names place
   standing = record { missing = missing; number = number; holds = v; below = at-place .0; there = at-place .1 }
 
   pub left-is
-      : (at : ℕ) (s : S) {s₁ s₂ s₃ : S}
+      : (at : ℕ) (s : State) {s₁ s₂ s₃ : State}
       → s₁ ≡ runT at (resetImporters (moduleAt records names place) (otherThan place 32 (modulesOf records names))) s .1
       → s₂ ≡ runT at (unlisted (headerCrs records) base) s₁ .1 → s₃ ≡ runT at (unrebase base) s₂ .1
-      → _≡_ {A = Answer × S} (runT at (leave r base (firstWithBase base (r .modules) 0)) s) (Done 1 (removed r number), s₃)
+      → _≡_ {A = Answer × State} (runT at (leave r base (firstWithBase base (r .modules) 0)) s) (Done 1 (removed r number), s₃)
   unfolding leave runT
   left-is at s {s₁} {s₂} {s₃} e₁ e₂ e₃ =
       let g : firstWithBase base (r .modules) 0 ≡ stands (moduleAt records names place) number = rw (modules-are records names missing) (gone .1 .0) in

@@ -1,23 +1,23 @@
 -- What a call is lent and leaves, and the last step of `initialize`.
 use Prim.Native.Nat.{ℕ}
 use mathlib.Core.List.{List}
-use Rattle.window.specs.Access.{Prog, _>>=_, _>>_}
+use Rattle.window.specs.Access.{Prog, _>>_}
 use Rattle.layout.specs.Header.{nextCro, previousCro}
 use Rattle.layout.specs.Segments.{setField}
-use Rattle.linker_spec.specs.declared.rebase.Lent.{Lent}
-use Rattle.linker_spec.specs.Outcome.{Bytes, Outcome}
+use Rattle.linker_spec.specs.declared.rebase.LoadArguments.{LoadArguments}
+use Rattle.linker_spec.specs.Outcome.{Buffers, Outcome}
 
-abbrev pub lent : List ℕ → List ℕ → List ℕ → List ℕ → Bytes
-lent window records names missing = record { window = window; records = records; names = names; missing = missing }
+abbrev pub buffers : List ℕ → List ℕ → List ℕ → List ℕ → Buffers
+buffers window records names missing = record { window = window; records = records; names = names; missing = missing }
 
-abbrev pub left : ℕ → ℕ → Bytes → Outcome
-left number value b = record { number = number; value = value; left = b }
+abbrev pub outcome : ℕ → ℕ → Buffers → Outcome
+outcome number value b = record { number = number; value = value; left = b }
 
 -- what a load is lent beside the bytes
-abbrev pub toLoad : ℕ → ℕ → ℕ → ℕ → ℕ → ℕ → Lent
-toLoad base size dataAt dataSize bssAt bssSize =
-    record { base = base; size = size; «data_at» = dataAt; «data_size» = dataSize; «bss_at» = bssAt; «bss_size» = bssSize }
+abbrev pub loadArguments : (base size dataSegment dataSegmentSize bssSegment bssSegmentSize : ℕ) → LoadArguments
+loadArguments base size dataSegment dataSegmentSize bssSegment bssSegmentSize =
+    record { base = base; size = size; «data_segment» = dataSegment; «data_segment_size» = dataSegmentSize; «bss_segment» = bssSegment; «bss_segment_size» = bssSegmentSize }
 
 -- "no module hangs off it yet"
-unfoldable pub unhung : ℕ → Prog (Unit {0})
-unhung base = setField base nextCro 0 >> setField base previousCro 0
+unfoldable pub clearListFields : ℕ → Prog (Unit {0})
+clearListFields base = setField base nextCro 0 >> setField base previousCro 0

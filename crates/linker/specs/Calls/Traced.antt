@@ -3,31 +3,31 @@ use Prim.Native.Nat.{ℕ}
 use mathlib.Core.Path.{_≡_, refl, sym, ap, _∙_}
 use mathlib.Core.List.{List}
 use mathlib.Core.Bool.{Bool, true, false, _&&_}
-use lib.ListN.{length, replicate}
+use lib.ListN.{length}
 use lib.Dec.{eqb}
 use Rattle.window.specs.Memory.{if_then_else_, goodWindow}
 use Rattle.window.specs.Access.{Prog, run}
-use Rattle.window.specs.Trace.{S, runT, touchOf}
+use Rattle.window.specs.Trace.{runT, touchOf}
 use Rattle.window.specs.Silent.{erase}
 use Rattle.register.specs.Module.{Register}
 use Rattle.register.specs.Decode.{isRegister}
 use Rattle.linker_spec.specs.Calls.{Answer, NoRoom, number}
-use Rattle.linker_spec.specs.Outcome.{Bytes, Outcome, settle, outcome}
+use Rattle.linker_spec.specs.Outcome.{Buffers, Outcome, outcomeOf, callOutcome}
 use Rattle.linker_spec.specs.Touches.{noTouch, no-log, touchIn, counted, touches}
 use Rattle.linker_spec.specs.Refusals.{lentRegister, answers}
-use Rattle.linker.specs.Entry.Entry.{tested}
-use Rattle.linker.specs.Calls.Steps.{left}
+use Rattle.linker.specs.Entry.Entry.{refusalOfBuffers}
+use Rattle.linker.specs.Calls.Steps.{outcome}
 use Rattle.linker.specs.Calls.Laws.{tests-pass, tests-refuse}
 
 -- the call as its buffers' lengths and its register make it
-abbrev pub callOf : (ℕ → ℕ → Register → Prog Answer) → Bytes → Prog Answer
+abbrev pub callOf : (ℕ → ℕ → Register → Prog Answer) → Buffers → Prog Answer
 callOf call b = call (length (b .records)) (length (b .names)) (lentRegister b)
 
 -- the outcome, and the trace that counts with it
-unfoldable pub traced : (ℕ → ℕ → Register → Prog Answer) → Prog (Unit {0}) → ℕ → Bytes → List ℕ → Outcome × List ℕ
+unfoldable pub traced : (ℕ → ℕ → Register → Prog Answer) → Prog (Unit {0}) → ℕ → Buffers → List ℕ → Outcome × List ℕ
 traced call beginning at b t =
     let x = runT at (callOf call b) (b .window, t) in
-    (settle b (x .0, x .1 .0), counted (x .0) (runT at beginning (b .window, t) .1 .1) (x .1 .1))
+    (outcomeOf b (x .0, x .1 .0), counted (x .0) (runT at beginning (b .window, t) .1 .1) (x .1 .1))
 
 counted-ap : {A B : Type 0} (f : A → B) (a : Answer) (x y : A) → f (counted a x y) ≡ counted a (f x) (f y)
 unfolding counted
@@ -39,30 +39,30 @@ counted-ap f a x y = go (eqb (number a) (number NoRoom))
 
 -- a call that its tests refuse makes no access
 refused-touches
-    : (call : ℕ → ℕ → Register → Prog Answer) (beginning : Prog (Unit {0})) (at : ℕ) (b : Bytes) {n : ℕ}
-    → n ≡ tested (goodWindow at (b .window)) (isRegister (b .records) (b .names) (b .missing)) → (n ≡ 0 → ⊥)
+    : (call : ℕ → ℕ → Register → Prog Answer) (beginning : Prog (Unit {0})) (at : ℕ) (b : Buffers) {n : ℕ}
+    → n ≡ refusalOfBuffers (goodWindow at (b .window)) (isRegister (b .records) (b .names) (b .missing)) → (n ≡ 0 → ⊥)
     → _≡_ {A = ℕ × ℕ} (0, 0) (touches call beginning at b)
-unfolding touches tested
+unfolding touches refusalOfBuffers
 refused-touches call beginning at b {n} e k = go (goodWindow at (b .window)) (isRegister (b .records) (b .names) (b .missing)) e
   where
     go
-        : (g v : Bool) → n ≡ tested g v
+        : (g v : Bool) → n ≡ refusalOfBuffers g v
         → _≡_ {A = ℕ × ℕ} (0, 0) (if g && v then counted (run at (callOf call b) (b .window) .0) (touchIn at beginning (b .window)) (touchIn at (callOf call b) (b .window)) else (0, 0))
     go true true e = absurd (k e)
     go true false e = refl
     go false v e = refl
 
 -- an exported call that passes its tests lends a trace of which nothing is said
-module _ (call : ℕ → ℕ → Register → Prog Answer) (beginning : Prog (Unit {0})) (at : ℕ) (b : Bytes) (g : goodWindow at (b .window) ≡ true)
+module _ (call : ℕ → ℕ → Register → Prog Answer) (beginning : Prog (Unit {0})) (at : ℕ) (b : Buffers) (g : goodWindow at (b .window) ≡ true)
     (v : isRegister (b .records) (b .names) (b .missing) ≡ true) where
   same : let x = runT at (callOf call b) (b .window, noTouch) in _≡_ {A = Answer × List ℕ} (x .0, x .1 .0) (run at (callOf call b) (b .window))
   same = erase at (callOf call b) (b .window) noTouch no-log .0
 
-  exported-left : {o : Outcome} {t : List ℕ} → (o, t) ≡ traced call beginning at b noTouch → o ≡ outcome call at b
+  exported-left : {o : Outcome} {t : List ℕ} → (o, t) ≡ traced call beginning at b noTouch → o ≡ callOutcome call at b
   unfolding traced
   exported-left e =
       ap (λ (y : Outcome × List ℕ). y .0) e
-      ∙ ap (settle b) same
+      ∙ ap (outcomeOf b) same
       ∙ sym (answers call at b g v refl)
 
   exported-touches
@@ -80,16 +80,16 @@ pub told : (t : List ℕ) {touched first : ℕ} → touched ≡ touchOf t .0 →
 told t e f = rw (e, f)
 
 -- both clauses of an exported call: the tests refuse it, or it is made
-module _ (call : ℕ → ℕ → Register → Prog Answer) (beginning : Prog (Unit {0})) (at : ℕ) (b : Bytes) {n : ℕ}
-    (e : n ≡ tested (goodWindow at (b .window)) (isRegister (b .records) (b .names) (b .missing))) where
+module _ (call : ℕ → ℕ → Register → Prog Answer) (beginning : Prog (Unit {0})) (at : ℕ) (b : Buffers) {n : ℕ}
+    (e : n ≡ refusalOfBuffers (goodWindow at (b .window)) (isRegister (b .records) (b .names) (b .missing))) where
   pub call-refused
       : (n ≡ 0 → ⊥) → {v touched first : ℕ} → (v ≡ 0) × (touched ≡ 0) × (first ≡ 0)
-      → (left n v b ≡ outcome call at b) × _≡_ {A = ℕ × ℕ} (touched, first) (touches call beginning at b)
+      → (outcome n v b ≡ callOutcome call at b) × _≡_ {A = ℕ × ℕ} (touched, first) (touches call beginning at b)
   call-refused k h = (rw (h .0) (tests-refuse call at b e k), rw (h .1, h .2) (refused-touches call beginning at b e k))
 
   pub call-answered
       : n ≡ 0 → {o : Outcome} {t : List ℕ} {touch : ℕ × ℕ} → (o, t) ≡ traced call beginning at b noTouch → touch ≡ touchOf t
-      → (o ≡ outcome call at b) × (touch ≡ touches call beginning at b)
+      → (o ≡ callOutcome call at b) × (touch ≡ touches call beginning at b)
   call-answered z h g =
       let passed = tests-pass _ _ e z in
       (exported-left call beginning at b (passed .0) (passed .1) h, exported-touches call beginning at b (passed .0) (passed .1) h g)

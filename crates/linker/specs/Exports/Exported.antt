@@ -21,13 +21,13 @@ use Rattle.register.specs.Append.Draft.{beginRecord, finishRecord}
 use Rattle.linker_spec.specs.Exports.{readSegments, namedExports, indexedExports, readModule}
 use Rattle.linker_spec.specs.Calls as answer
 use Rattle.linker_spec.specs.Calls.{Answer, Done, fits}
-use Rattle.linker_spec.specs.Outcome.{Bytes, registerAfter}
-use Rattle.linker.specs.declared.exports.Indexed.{Indexed}
-use Rattle.linker.specs.declared.exports.Indexed.the-variants.{Appended, NoRoom}
+use Rattle.linker_spec.specs.Outcome.{Buffers, registerAfter}
+use Rattle.linker.specs.declared.exports.IndexResult.{IndexResult}
+use Rattle.linker.specs.declared.exports.IndexResult.the-variants.{Appended, NoRoom}
 use Rattle.linker.specs.Record.Read.{ownName, module-is}
 use Rattle.linker.specs.Exports.Writing.{Ground, Writing, roomy, fits-roomy, holding, finishes, stays, writing-is, begin-writing}
 use Rattle.linker.specs.Exports.Proper.{module-proper}
-use Rattle.linker.specs.Exports.Modules.{withSegments, withNamed, withIndexeds, Turns, Empty, Lists, full-lists}
+use Rattle.linker.specs.Exports.Modules.{withSegments, withNamed, withIndexeds, DraftStep, EmptyModule, Lists, full-lists}
 
 -- the register that records and names encode; its missing names stand in a buffer of their own: each is read as empty here, and
 -- only how many they are is told
@@ -35,12 +35,12 @@ unfoldable pub registerIn : List ℕ → List ℕ → Register
 registerIn records names = registerOf records names []
 
 -- the answer of document 01's table that each case is, r being the register with the module
-unfoldable pub entryAnswer : Register → Indexed → Answer
+unfoldable pub entryAnswer : Register → IndexResult → Answer
 entryAnswer r Appended = Done 0 r
 entryAnswer r NoRoom = answer.NoRoom
 
 -- the records and the names that an answer leaves
-abbrev pub leftBy : List ℕ → List ℕ → Answer → Bytes
+abbrev pub leftBy : List ℕ → List ℕ → Answer → Buffers
 leftBy records names a = registerAfter (record { window = []; records = records; names = names; missing = [] }) [] a
 
 -- the answer, and the encoding with one module more where it has room, else every byte as before
@@ -79,16 +79,16 @@ module _ (records names missing : List ℕ) (m : Module) where
   names-in n = refl
 
 -- the answer and the bytes; and they are a register again, that one
-abbrev pub Outcome : List ℕ → List ℕ → List ℕ → Module → Indexed → List ℕ → List ℕ → Type 0
-Outcome records names missing m i rs ns =
+abbrev pub ExportsLeave : List ℕ → List ℕ → List ℕ → Module → IndexResult → List ℕ → List ℕ → Type 0
+ExportsLeave records names missing m i rs ns =
     (_≡_ {A = Answer × List ℕ × List ℕ} (entryAnswer (appended (registerIn records names) m) i, rs, ns) (exported records names m))
     × (isRegister rs ns missing ≡ true)
     × (registerOf rs ns missing ≡ registerWith records names (registerOf records names missing) m)
 
 -- the answer and the bytes once for all missing lists; and for each that they were a register with, they are one again
 pub for-all
-    : (records names : List ℕ) (m : Module) (i : Indexed) (rs ns : List ℕ) → Encoded records names
-    → ((missing : List ℕ) → isRegister records names missing ≡ true → Outcome records names missing m i rs ns)
+    : (records names : List ℕ) (m : Module) (i : IndexResult) (rs ns : List ℕ) → Encoded records names
+    → ((missing : List ℕ) → isRegister records names missing ≡ true → ExportsLeave records names missing m i rs ns)
     → (_≡_ {A = Answer × List ℕ × List ℕ} (entryAnswer (appended (registerIn records names) m) i, rs, ns) (exported records names m))
     × ((missing : List ℕ) → isRegister records names missing ≡ true → (isRegister rs ns missing ≡ true)
     × (registerOf rs ns missing ≡ registerWith records names (registerOf records names missing) m))
@@ -112,7 +112,7 @@ module _ (records names missing : List ℕ) (b : Below 256 records) (e : isRegis
     room : {t : Bool} → roomy ground m ≡ t → fits (length records) (length names) (registerIn records names) m ≡ t
     room z = fits-in records names missing m (length records) (length names) ∙ fits-roomy ground m ∙ z
 
-    full-is : Writing ground m Full rs ns → Outcome records names missing m NoRoom rs ns
+    full-is : Writing ground m Full rs ns → ExportsLeave records names missing m NoRoom rs ns
     unfolding exported entryAnswer registerAfter registerWith Writing
     full-is h = (
       rw (room (h .2), h .0, h .1),
@@ -120,7 +120,7 @@ module _ (records names missing : List ℕ) (b : Below 256 records) (e : isRegis
       rw (fits-roomy ground m, h .2, h .0, h .1),
     )
 
-    open-is : (d : Draft) → properModule m ≡ true → Writing ground m (Open d) rs ns → Outcome records names missing m Appended (finishRecord rs d) ns
+    open-is : (d : Draft) → properModule m ≡ true → Writing ground m (Open d) rs ns → ExportsLeave records names missing m Appended (finishRecord rs d) ns
     unfolding exported entryAnswer registerAfter registerWith
     open-is d p h =
         let f = finishes ground m d rs ns h in
@@ -149,7 +149,7 @@ module _ (at : ℕ) (w rs ns : List ℕ) (base size : ℕ) (auto : Bool) (b : Be
   abbrev all : Module → Module
   all = Lists (run at (readSegments base) w .0) (run at (namedExports base) w .0) (run at (indexedExports base) w .0)
 
-  new-empty : Empty new
+  new-empty : EmptyModule new
   unfolding newModule
   new-empty = (refl, (refl, refl))
 
@@ -160,18 +160,18 @@ module _ (at : ℕ) (w rs ns : List ℕ) (base size : ℕ) (auto : Bool) (b : Be
   begun : Writing g new r₁ rs₁ ns₁
   begun = writing-is g new e (begin-writing g base size auto (ownName at w base) hb hs)
 
-  abbrev Result : Indexed → List ℕ → List ℕ → Type 0
-  Result i rs′ ns′ = Outcome rs ns missing (run at (readModule base size auto) w .0) i rs′ ns′
+  abbrev Result : IndexResult → List ℕ → List ℕ → Type 0
+  Result i rs′ ns′ = ExportsLeave rs ns missing (run at (readModule base size auto) w .0) i rs′ ns′
 
-  of-all : (i : Indexed) {rs′ ns′ : List ℕ} → Outcome rs ns missing (all new) i rs′ ns′ → Result i rs′ ns′
-  of-all i {rs′} {ns′} o = subst (λ m. Outcome rs ns missing m i rs′ ns′) all-is o
+  of-all : (i : IndexResult) {rs′ ns′ : List ℕ} → ExportsLeave rs ns missing (all new) i rs′ ns′ → Result i rs′ ns′
+  of-all i {rs′} {ns′} o = subst (λ m. ExportsLeave rs ns missing m i rs′ ns′) all-is o
 
   pub not-begun : r₁ ≡ Full → Result NoRoom rs₁ ns₁
   not-begun z =
       of-all NoRoom
       (full-is rs ns missing b h (all new) rs₁ ns₁ (full-lists _ _ _ g new rs₁ ns₁ new-empty (subst (λ t. Writing g new t rs₁ ns₁) z begun)))
 
-  module _ (d₁ : Draft) (z₁ : r₁ ≡ Open d₁) (r₂ : Drafted) (rs₂ ns₂ : List ℕ) (t : Turns Empty (λ m. m) all d₁ rs₁ ns₁ r₂ rs₂ ns₂) where
+  module _ (d₁ : Draft) (z₁ : r₁ ≡ Open d₁) (r₂ : Drafted) (rs₂ ns₂ : List ℕ) (t : DraftStep EmptyModule (λ m. m) all d₁ rs₁ ns₁ r₂ rs₂ ns₂) where
     filled : Writing g (all new) r₂ rs₂ ns₂
     filled = t g new new-empty (subst (λ x. Writing g new x rs₁ ns₁) z₁ begun)
 

@@ -142,9 +142,9 @@ module _ (at : ℕ) (w : List ℕ) (base : ℕ) where
   length-indexed (suc i) = length-append (indexedTo at w base i) (indexedOf at w base i ∷ []) ∙ omega (arith, length-indexed i)
 
 -- a step on a draft and two buffers: what held `from m` holds `to m`, or had no room for it
-abbrev pub Turns
+abbrev pub DraftStep
     : (Module → Type 0) → (Module → Module) → (Module → Module) → Draft → List ℕ → List ℕ → Drafted → List ℕ → List ℕ → Type 0
-Turns P from to d rs ns r rs′ ns′ =
+DraftStep P from to d rs ns r rs′ ns′ =
     (g : Ground) (m : Module) → P m → Writing g (from m) (Open d) rs ns → Writing g (to m) r rs′ ns′
 
 -- what a module must not have yet
@@ -154,11 +154,11 @@ Bare m = (m .named ≡ []) × (m .indexed ≡ [])
 abbrev pub Unindexed : Module → Type 0
 Unindexed m = m .indexed ≡ []
 
-abbrev pub Empty : Module → Type 0
-Empty m = (m .segments ≡ []) × Bare m
+abbrev pub EmptyModule : Module → Type 0
+EmptyModule m = (m .segments ≡ []) × Bare m
 
-abbrev pub Any : Module → Type 0
-Any m = Unit {0}
+abbrev pub AnyModule : Module → Type 0
+AnyModule m = Unit {0}
 
 -- all three lists of a module that has none of them yet
 
@@ -178,7 +178,7 @@ module _ (xs : List ℕ) (ys : List Export) (zs : List ℕ) where
   abbrev pub Lists : Module → Module
   Lists m = withIndexeds (withNamed (withSegments m xs) ys) zs
 
-  no-segments : (m : Module) → Empty m → withSegments m [] ≡ m
+  no-segments : (m : Module) → EmptyModule m → withSegments m [] ≡ m
   no-segments m p = ap (withSegments m) (sym (p .0)) ∙ own-segments m
 
   no-named : (m : Module) → Bare m → withNamed (withSegments m xs) [] ≡ withSegments m xs
@@ -193,7 +193,7 @@ module _ (xs : List ℕ) (ys : List Export) (zs : List ℕ) where
       ap (withIndexeds (withNamed (withSegments m xs) ys)) (sym (unindexed m p)) ∙ own-indexeds (withNamed (withSegments m xs) ys)
 
   -- where there was no room before, there is none in the end
-  full-segments : (g : Ground) (m : Module) (rs ns : List ℕ) → Empty m → Writing g m Full rs ns → Writing g (withSegments m xs) Full rs ns
+  full-segments : (g : Ground) (m : Module) (rs ns : List ℕ) → EmptyModule m → Writing g m Full rs ns → Writing g (withSegments m xs) Full rs ns
   full-segments g m rs ns p h =
       full-greater g m (withSegments m xs) rs ns
       (subst (λ x. Grows g x (withSegments m xs)) (no-segments m p) (segments-grow g m [] xs (omega arith))) h
@@ -215,35 +215,35 @@ module _ (xs : List ℕ) (ys : List Export) (zs : List ℕ) where
       full-greater g n (Lists m) rs ns
       (subst (λ x. Grows g x (Lists m)) (no-indexeds m p) (indexeds-grow g n [] zs (omega arith))) h
 
-  pub full-lists : (g : Ground) (m : Module) (rs ns : List ℕ) → Empty m → Writing g m Full rs ns → Writing g (Lists m) Full rs ns
+  pub full-lists : (g : Ground) (m : Module) (rs ns : List ℕ) → EmptyModule m → Writing g m Full rs ns → Writing g (Lists m) Full rs ns
   full-lists g m rs ns p h =
       full-indexeds g m rs ns (p .1) (full-named g m rs ns (p .1) (full-segments g m rs ns p h))
 
   module _ (d : Draft) (rs ns : List ℕ) (r₁ : Drafted) (rs₁ ns₁ : List ℕ)
-      (first : Turns Bare (λ m. withSegments m []) (λ m. withSegments m xs) d rs ns r₁ rs₁ ns₁) where
-    segments-in : (g : Ground) (m : Module) → Empty m → Writing g m (Open d) rs ns → Writing g (withSegments m xs) r₁ rs₁ ns₁
+      (first : DraftStep Bare (λ m. withSegments m []) (λ m. withSegments m xs) d rs ns r₁ rs₁ ns₁) where
+    segments-in : (g : Ground) (m : Module) → EmptyModule m → Writing g m (Open d) rs ns → Writing g (withSegments m xs) r₁ rs₁ ns₁
     segments-in g m p h = first g m (p .1) (subst (λ x. Writing g x (Open d) rs ns) (sym (no-segments m p)) h)
 
-    pub no-segments-in : r₁ ≡ Full → Turns Empty (λ m. m) Lists d rs ns Full rs₁ ns₁
+    pub no-segments-in : r₁ ≡ Full → DraftStep EmptyModule (λ m. m) Lists d rs ns Full rs₁ ns₁
     no-segments-in e g m p h =
         full-indexeds g m rs₁ ns₁ (p .1)
         (full-named g m rs₁ ns₁ (p .1) (subst (λ t. Writing g (withSegments m xs) t rs₁ ns₁) e (segments-in g m p h)))
 
     module _ (d₁ : Draft) (e₁ : r₁ ≡ Open d₁) (r₂ : Drafted) (rs₂ ns₂ : List ℕ)
-        (second : Turns Unindexed (λ m. withNamed m []) (λ m. withNamed m ys) d₁ rs₁ ns₁ r₂ rs₂ ns₂) where
-      named-in : (g : Ground) (m : Module) → Empty m → Writing g m (Open d) rs ns → Writing g (withNamed (withSegments m xs) ys) r₂ rs₂ ns₂
+        (second : DraftStep Unindexed (λ m. withNamed m []) (λ m. withNamed m ys) d₁ rs₁ ns₁ r₂ rs₂ ns₂) where
+      named-in : (g : Ground) (m : Module) → EmptyModule m → Writing g m (Open d) rs ns → Writing g (withNamed (withSegments m xs) ys) r₂ rs₂ ns₂
       named-in g m p h =
           second g (withSegments m xs) (segments-rest m xs .1 ∙ p .1 .1)
           (subst (λ x. Writing g x (Open d₁) rs₁ ns₁) (sym (no-named m (p .1)))
           (subst (λ t. Writing g (withSegments m xs) t rs₁ ns₁) e₁ (segments-in g m p h)))
 
-      pub no-named-in : r₂ ≡ Full → Turns Empty (λ m. m) Lists d rs ns Full rs₂ ns₂
+      pub no-named-in : r₂ ≡ Full → DraftStep EmptyModule (λ m. m) Lists d rs ns Full rs₂ ns₂
       no-named-in e g m p h =
           full-indexeds g m rs₂ ns₂ (p .1) (subst (λ t. Writing g (withNamed (withSegments m xs) ys) t rs₂ ns₂) e (named-in g m p h))
 
       pub lists-in
           : (d₂ : Draft) → r₂ ≡ Open d₂ → (r₃ : Drafted) (rs₃ ns₃ : List ℕ)
-          → Turns Any (λ m. withIndexeds m []) (λ m. withIndexeds m zs) d₂ rs₂ ns₂ r₃ rs₃ ns₃ → Turns Empty (λ m. m) Lists d rs ns r₃ rs₃ ns₃
+          → DraftStep AnyModule (λ m. withIndexeds m []) (λ m. withIndexeds m zs) d₂ rs₂ ns₂ r₃ rs₃ ns₃ → DraftStep EmptyModule (λ m. m) Lists d rs ns r₃ rs₃ ns₃
       lists-in d₂ e₂ r₃ rs₃ ns₃ third g m p h =
           let n = withNamed (withSegments m xs) ys in
           third g n tt

@@ -5,7 +5,7 @@ use mathlib.Core.List.{List}
 use mathlib.Core.Bool.{true}
 use lib.ListN.{length}
 use Rattle.window.specs.Word.{setWordIn}
-use Rattle.window.specs.Trace.{S}
+use Rattle.window.specs.Trace.{State}
 use Rattle.register.specs.Module.{Register}
 use Rattle.register.specs.Decode.{registerOf, isRegister}
 use Rattle.register.specs.Buffers.{encodeMissing}
@@ -13,10 +13,10 @@ use Rattle.linker_spec.specs.Calls.{missingNow}
 
 -- window and trace, the records and the missing list after a program that gave missing names and a state: header word 5 counts the
 -- names, and all other record bytes stay; word 3 too, which is 0 or 32 where no module stands
-abbrev pub imported : Register → List ℕ → List (List ℕ) × S → S × List ℕ × List ℕ
+abbrev pub imported : Register → List ℕ → List (List ℕ) × State → State × List ℕ × List ℕ
 imported r records x = (x .1, setWordIn records 20 (length (x .0)), encodeMissing (missingNow r (x .0)))
 
 -- the bytes are r with those missing names
-abbrev pub Noted : Register → List ℕ → List ℕ → List ℕ → List (List ℕ) → Type 0
-Noted r records names missing ns =
+abbrev pub MissingAdded : Register → List ℕ → List ℕ → List ℕ → List (List ℕ) → Type 0
+MissingAdded r records names missing ns =
     (isRegister records names missing ≡ true) × (registerOf records names missing ≡ missingNow r ns)

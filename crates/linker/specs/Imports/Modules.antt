@@ -5,7 +5,7 @@ use mathlib.Core.List.{List, [], _∷_, _++_}
 use Rattle.register.specs.Module.{Module}
 use Rattle.register.specs.Decode.{readRegister, registerOf}
 use Rattle.register.specs.Read.Read.{Encoded, modulesOf, placeAfter, moduleAt}
-use Rattle.register.specs.Read.Places.{Standing, stands-at}
+use Rattle.register.specs.Read.Places.{RecordsStand, stands-at}
 use Rattle.register.specs.Read.Encoded.{modules-stand}
 
 -- all but the last
@@ -28,7 +28,7 @@ module _ (records names : List ℕ) (e : Encoded records names) where
 
   pub new-is-last : (ms : List Module) (m : Module) → all ≡ ms ++ (m ∷ []) → (butLast all ≡ ms) × (moduleAt records names (placeAfter 32 ms) ≡ m)
   new-is-last ms m s =
-      let d = subst (Standing records names 32) s (modules-stand records names (e .0) (e .1)) in
+      let d = subst (RecordsStand records names 32) s (modules-stand records names (e .0) (e .1)) in
       (ap butLast s ∙ but-last ms m, stands-at ms [] d .back)
 
 -- the modules that a call's register has

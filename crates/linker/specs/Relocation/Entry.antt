@@ -6,12 +6,12 @@ use Rattle.layout.specs.Segments.{tagToAddress}
 use Rattle.linker_spec.specs.Relocation.{relocateAt}
 
 -- what is done with an entry's words
-unfoldable pub relocateEntry : ℕ → ℕ → ℕ → ℕ → ℕ → Prog (Unit {0})
+unfoldable pub relocateEntry : (base symbol tag kind addend : ℕ) → Prog (Unit {0})
 relocateEntry base symbol tag kind addend = do
   target ← tagToAddress base tag
   relocateAt target kind addend symbol
 
-unfoldable pub applyEntry : ℕ → ℕ → ℕ → Prog (Unit {0})
+unfoldable pub applyEntry : (base symbol entry : ℕ) → Prog (Unit {0})
 applyEntry base symbol entry = do
   tag ← get32 entry
   kind ← get8 (entry ⊕ 4)
@@ -19,7 +19,7 @@ applyEntry base symbol entry = do
   relocateEntry base symbol tag kind addend
 
 -- a turn of the walk, which gives the end mark
-unfoldable pub walkEntry : ℕ → ℕ → ℕ → Prog ℕ
+unfoldable pub walkEntry : (base symbol entry : ℕ) → Prog ℕ
 walkEntry base symbol entry = do
   tag ← get32 entry
   kind ← get8 (entry ⊕ 4)

@@ -7,7 +7,7 @@ use Rattle.layout.specs.Segments.{field, entryAt}
 use Rattle.register.specs.Module.{Module}
 use Rattle.linker_spec.specs.Resets.{resetAt, resetNamed, resetModule}
 
-unfoldable pub resetTable : ℕ → ℕ → ℕ → ℕ → Prog (Unit {0})
+unfoldable pub resetTable : (base handler table count : ℕ) → Prog (Unit {0})
 resetTable base handler table count = loop (λ i _. resetAt base handler (entryAt table i importIndexedSymbolEntrySize)) 0 count tt
 
 unfoldable pub resetAllNamed : Module → ℕ → ℕ → Prog (Unit {0})

@@ -19,7 +19,7 @@ unfoldable pub symbolOf : ImportTable → Module → ℕ → Symbol
 symbolOf Indexed m x = entryOf (m .indexed) x
 symbolOf Anonymous m x = anonymousOf m x
 
-unfoldable pub importTable : ImportTable → Module → ℕ → ℕ → ℕ → Prog (Unit {0})
+unfoldable pub importTable : ImportTable → Module → (base table count : ℕ) → Prog (Unit {0})
 importTable kind m base table count =
     loop (λ i _. importFrom (symbolOf kind m) base (entryAt table i importIndexedSymbolEntrySize)) 0 count tt
 

@@ -10,10 +10,10 @@ ghost use Rattle.register.specs.Change.{appended};
 ghost use Rattle.register.specs.Read.Read.{placeAfter};
 ghost use Rattle.linker_spec.specs.Calls.{rebase, rebaseStatic, listed, unlisted, initialize, load, unload};
 ghost use Rattle.linker_spec.specs.Touches.{upToReset};
-ghost use Rattle.linker.specs.Calls.Steps.{lent, left, unhung};
-ghost use Rattle.linker.specs.Calls.Linked.{headerCrs, Links};
+ghost use Rattle.linker.specs.Calls.Steps.{buffers, outcome, clearListFields};
+ghost use Rattle.linker.specs.Calls.Linked.{headerCrs, LinkLeaves};
 ghost use Rattle.linker.specs.Calls.Traced.{traced};
-use crate::entry::enter;
+use crate::entry::add_record;
 use crate::fix::fix;
 use crate::imports::others::apply_exports_to_loaded;
 use crate::imports::own::apply_import_named_symbols;
@@ -25,7 +25,7 @@ use crate::unrebase::unrebase;
 use layout::fields::set_field;
 use layout::header::NEXT_CRO;
 use layout::header::PREVIOUS_CRO;
-use linker_spec::rebase::Lent;
+use linker_spec::rebase::LoadArguments;
 use register::change::remove::remove_record;
 use register::exports::Found;
 use register::header::crs::set_crs;
@@ -35,8 +35,8 @@ use register::words::read_crs;
 use register::words::used_bytes;
 
 // The static module heads no list yet.
-fn unhang(at: u32, w: &mut [u8], trace: &mut [u8], base: u32)
-    ensures { λ _. ⌜ (now (w .exit), now (trace .exit)) ≡ runT at (unhung base) (now (w .entry), now (trace .entry)) .1 ⌝ }
+fn clear_list_fields(at: u32, w: &mut [u8], trace: &mut [u8], base: u32)
+    ensures { λ _. ⌜ (now (w .exit), now (trace .exit)) ≡ runT at (clearListFields base) (now (w .entry), now (trace .entry)) .1 ⌝ }
 {
     set_field(at, w, trace, base, NEXT_CRO, 0);
     set_field(at, w, trace, base, PREVIOUS_CRO, 0);
@@ -71,24 +71,24 @@ fn link(
     names: &[u8],
     missing: &mut [u8],
     place: usize,
-    given: Lent,
+    given: LoadArguments,
     auto_link: bool,
-    level: u32,
+    fix_level: u32,
 ) -> u32
     requires { ⌜ isRegister (now records) (now names) (now missing) ≡ true ⌝ }
     ensures { λ r. ⌜ ((old : Register) (m : Module) → registerOf (now (records .entry)) (now (names .entry)) (now (missing .entry)) ≡ appended old m
         → place ≡ placeAfter 32 (old .modules)
-        → Links at old given «auto_link» level m (now (w .entry), now (trace .entry)) r (now (w .exit), now (trace .exit)) (now (records .exit)) (now (names .entry)) (now (missing .exit))) ⌝ }
+        → LinkLeaves at old given «auto_link» «fix_level» m (now (w .entry), now (trace .entry)) r (now (w .exit), now (trace .exit)) (now (records .exit)) (now (names .entry)) (now (missing .exit))) ⌝ }
 {
     list(at, w, trace, records, given.base, auto_link);
     apply_import_named_symbols(at, w, trace, records, names, missing, given.base);
     apply_module_imports(at, w, trace, records, names, given.base);
     apply_exports_to_loaded(at, w, trace, records, names, place);
-    fix(at, w, trace, given.base, given.size, level)
+    fix(at, w, trace, given.base, given.size, fix_level)
 }
 
 // Takes in the static module, whose base the register keeps from then on.
-pub fn initialize(
+pub(crate) fn initialize(
     at: u32,
     w: &mut [u8],
     trace: &mut [u8],
@@ -100,44 +100,44 @@ pub fn initialize(
     value: &mut u32,
 ) -> u32
     requires { ⌜ isRegister (now records) (now names) (now missing) ≡ true ⌝ }
-    ensures { λ r. ⌜ (left r (now (value .exit)) (lent (now (w .exit)) (now (records .exit)) (now (names .exit)) (now (missing .exit))), now (trace .exit))
+    ensures { λ r. ⌜ (outcome r (now (value .exit)) (buffers (now (w .exit)) (now (records .exit)) (now (names .exit)) (now (missing .exit))), now (trace .exit))
         ≡ traced (initialize base size) (upToReset (rebaseStatic base) base) at
-        (lent (now (w .entry)) (now (records .entry)) (now (names .entry)) (now (missing .entry))) (now (trace .entry)) ⌝ }
+        (buffers (now (w .entry)) (now (records .entry)) (now (names .entry)) (now (missing .entry))) (now (trace .entry)) ⌝ }
 {
     *value = 0;
     let rebased = rebase::rebase_static(at, w, trace, base);
-    let hindered = enter(at, w, trace, records, names, base, size, true, rebased);
-    if hindered != 0 {
-        return hindered;
+    let refused = add_record(at, w, trace, records, names, base, size, true, rebased);
+    if refused != 0 {
+        return refused;
     }
-    unhang(at, w, trace, base);
+    clear_list_fields(at, w, trace, base);
     set_crs(records, base);
     0
 }
 
 // Loads a module: links it, and gives as value how much of it is left.
-pub fn load(
+pub(crate) fn load(
     at: u32,
     w: &mut [u8],
     trace: &mut [u8],
     records: &mut [u8],
     names: &mut [u8],
     missing: &mut [u8],
-    given: Lent,
+    given: LoadArguments,
     auto_link: u32,
-    level: u32,
+    fix_level: u32,
     value: &mut u32,
 ) -> u32
     requires { ⌜ isRegister (now records) (now names) (now missing) ≡ true ⌝ }
-    ensures { λ r. ⌜ (left r (now (value .exit)) (lent (now (w .exit)) (now (records .exit)) (now (names .exit)) (now (missing .exit))), now (trace .exit))
-        ≡ traced (load given (not (eqb «auto_link» 0)) level) (upToReset (rebase given) (given .base)) at
-        (lent (now (w .entry)) (now (records .entry)) (now (names .entry)) (now (missing .entry))) (now (trace .entry)) ⌝ }
+    ensures { λ r. ⌜ (outcome r (now (value .exit)) (buffers (now (w .exit)) (now (records .exit)) (now (names .exit)) (now (missing .exit))), now (trace .exit))
+        ≡ traced (load given (not (eqb «auto_link» 0)) «fix_level») (upToReset (rebase given) (given .base)) at
+        (buffers (now (w .entry)) (now (records .entry)) (now (names .entry)) (now (missing .entry))) (now (trace .entry)) ⌝ }
 {
     *value = 0;
     let place = used_bytes(records) as usize;
     let auto = auto_link != 0;
     let rebased = rebase::rebase(at, w, trace, given);
-    let hindered = enter(
+    let refused = add_record(
         at,
         w,
         trace,
@@ -148,8 +148,8 @@ pub fn load(
         auto,
         rebased,
     );
-    if hindered != 0 {
-        return hindered;
+    if refused != 0 {
+        return refused;
     }
     *value = link(
         at,
@@ -161,14 +161,14 @@ pub fn load(
         place,
         given,
         auto,
-        level,
+        fix_level,
     );
     0
 }
 
 // Unloads the first module with that base: the modules that linked on their own no longer use it, and its record is gone.
 // The value is 1 where a module left, 0 where none has that base.
-pub fn unload(
+pub(crate) fn unload(
     at: u32,
     w: &mut [u8],
     trace: &mut [u8],
@@ -179,9 +179,9 @@ pub fn unload(
     value: &mut u32,
 ) -> u32
     requires { ⌜ isRegister (now records) (now names) (now missing) ≡ true ⌝ }
-    ensures { λ r. ⌜ (left r (now (value .exit)) (lent (now (w .exit)) (now (records .exit)) (now (names .exit)) (now (missing .exit))), now (trace .exit))
+    ensures { λ r. ⌜ (outcome r (now (value .exit)) (buffers (now (w .exit)) (now (records .exit)) (now (names .exit)) (now (missing .exit))), now (trace .exit))
         ≡ traced (λ records names. unload base) (ret tt) at
-        (lent (now (w .entry)) (now (records .entry)) (now (names .entry)) (now (missing .entry))) (now (trace .entry)) ⌝ }
+        (buffers (now (w .entry)) (now (records .entry)) (now (names .entry)) (now (missing .entry))) (now (trace .entry)) ⌝ }
 {
     *value = 0;
     let Found::At(place) = first_with_base(records, base) else {

@@ -111,7 +111,7 @@ fn serve_all_modules(
 }
 
 // Resolves the imports of the module at base that the module at the place satisfies.
-pub fn serve(
+fn serve(
     at: u32,
     w: &mut [u8],
     trace: &mut [u8],
@@ -128,7 +128,7 @@ pub fn serve(
 }
 
 // Resolves the imports that the module at the place satisfies in all modules but the last, which is the new one itself.
-pub fn apply_exports_to_loaded(
+pub(crate) fn apply_exports_to_loaded(
     at: u32,
     w: &mut [u8],
     trace: &mut [u8],

@@ -5,7 +5,7 @@ ghost use Rattle.window.specs.Trace.{runT};
 ghost use Rattle.register.specs.Decode.{registerOf, isRegister};
 ghost use Rattle.register.specs.Read.Read.{Encoded, modulesOf};
 ghost use Rattle.linker_spec.specs.Imports.{importNamed, applyImportNamedSymbols, importModule, applyModuleImports};
-ghost use Rattle.linker.specs.Imports.Missing.{imported, Noted};
+ghost use Rattle.linker.specs.Imports.Missing.{imported, MissingAdded};
 use crate::relocation::apply_relocation_batch;
 use crate::sources::batch::is_unresolved;
 use crate::sources::names::module_by_name;
@@ -40,7 +40,7 @@ fn import_named(
     ensures { λ _. ⌜ (let r = registerOf (now (records .entry)) (now (names .entry)) (now (missing .entry)) in
         let x = runT at (importNamed (r .modules) base entry (r .missing)) (now (w .entry), now (trace .entry)) in
         (((now (w .exit), now (trace .exit)), now (records .exit), now (missing .exit)) ≡ imported r (now (records .entry)) x)
-        × Noted r (now (records .exit)) (now (names .entry)) (now (missing .exit)) (x .0)) ⌝ }
+        × MissingAdded r (now (records .exit)) (now (names .entry)) (now (missing .exit)) (x .0)) ⌝ }
 {
     let batch = window::read32(at, w, trace, std::num::wrapping_add_u32(entry, 4));
     if is_unresolved(at, w, trace, batch) {
@@ -59,7 +59,7 @@ fn import_named(
 }
 
 // Resolves the named symbols that a module imports.
-pub fn apply_import_named_symbols(
+pub(crate) fn apply_import_named_symbols(
     at: u32,
     w: &mut [u8],
     trace: &mut [u8],
@@ -72,7 +72,7 @@ pub fn apply_import_named_symbols(
     ensures { λ _. ⌜ (let r = registerOf (now (records .entry)) (now (names .entry)) (now (missing .entry)) in
         let x = runT at (applyImportNamedSymbols (r .modules) base (r .missing)) (now (w .entry), now (trace .entry)) in
         (((now (w .exit), now (trace .exit)), now (records .exit), now (missing .exit)) ≡ imported r (now (records .entry)) x)
-        × Noted r (now (records .exit)) (now (names .entry)) (now (missing .exit)) (x .0)) ⌝ }
+        × MissingAdded r (now (records .exit)) (now (names .entry)) (now (missing .exit)) (x .0)) ⌝ }
 {
     let table = field(at, w, trace, base, IMPORT_NAMED_SYMBOL_TABLE_OFFSET);
     let count = field(at, w, trace, base, IMPORT_NAMED_SYMBOL_NUM);
@@ -105,7 +105,7 @@ fn import_module(
 }
 
 // Resolves the indexed and anonymous symbols that a module imports from the modules that it names.
-pub fn apply_module_imports(
+pub(crate) fn apply_module_imports(
     at: u32,
     w: &mut [u8],
     trace: &mut [u8],

@@ -10,12 +10,12 @@ use layout::header::SEGMENT_NUM;
 use layout::segments::FoundSegment;
 use layout::segments::segment;
 use layout::segments::set_segment;
-use linker_spec::rebase::Lent;
+use linker_spec::rebase::LoadArguments;
 use linker_spec::rebase::Moved;
 use linker_spec::rebase::Placed;
 
 // The segment at another offset.
-pub fn at_offset(s: Segment, offset: u32) -> Segment
+pub(crate) fn at_offset(s: Segment, offset: u32) -> Segment
     ensures { λ r. ⌜ r ≡ at-offset s offset ⌝ }
 {
     let kind = s.kind;
@@ -37,7 +37,7 @@ fn lent_place(s: Segment, address: u32, size: u32, old: u32) -> Placed
 }
 
 // A segment that stays in the image, unless it would start past the end of it.
-fn moved_place(lent: Lent, s: Segment, old: u32) -> Placed
+fn moved_place(lent: LoadArguments, s: Segment, old: u32) -> Placed
     ensures { λ r. ⌜ r ≡ movedPlace lent s old ⌝ }
 {
     if s.offset == 0 {
@@ -51,7 +51,7 @@ fn moved_place(lent: Lent, s: Segment, old: u32) -> Placed
 }
 
 // Where a load puts a segment; `old` is Data's old place so far.
-fn place(lent: Lent, s: Segment, old: u32) -> Placed
+fn place(lent: LoadArguments, s: Segment, old: u32) -> Placed
     ensures { λ r. ⌜ r ≡ place lent s (s .kind) old ⌝ }
 {
     let kind = s.kind;
@@ -63,13 +63,13 @@ fn place(lent: Lent, s: Segment, old: u32) -> Placed
                 return moved_place(lent, s, old);
             }
             let from = std::num::wrapping_add_u32(s.offset, lent.base);
-            lent_place(s, lent.data_at, lent.data_size, from)
+            lent_place(s, lent.data_segment, lent.data_segment_size, from)
         }
         SegmentType::Bss => {
             if s.size == 0 {
                 return moved_place(lent, s, old);
             }
-            lent_place(s, lent.bss_at, lent.bss_size, old)
+            lent_place(s, lent.bss_segment, lent.bss_segment_size, old)
         }
     }
 }
@@ -93,7 +93,14 @@ fn write_back(
 }
 
 // Moves one segment; a lookup that finds none passes it over.
-fn move_segment(at: u32, w: &mut [u8], trace: &mut [u8], lent: Lent, index: u32, old: u32) -> Moved
+fn move_segment(
+    at: u32,
+    w: &mut [u8],
+    trace: &mut [u8],
+    lent: LoadArguments,
+    index: u32,
+    old: u32,
+) -> Moved
     ensures { λ r. ⌜ (r, (now (w .exit), now (trace .exit))) ≡ runT at (moveSegment lent index (OldPlace old)) (now (w .entry), now (trace .entry)) ⌝ }
 {
     let base = lent.base;
@@ -104,7 +111,7 @@ fn move_segment(at: u32, w: &mut [u8], trace: &mut [u8], lent: Lent, index: u32,
 }
 
 // Moves the segments in order, up to the first that is refused.
-pub fn move_segments(at: u32, w: &mut [u8], trace: &mut [u8], lent: Lent) -> Moved
+pub(crate) fn move_segments(at: u32, w: &mut [u8], trace: &mut [u8], lent: LoadArguments) -> Moved
     ensures { λ r. ⌜ (r, (now (w .exit), now (trace .exit))) ≡ runT at (moveSegments lent) (now (w .entry), now (trace .entry)) ⌝ }
 {
     let base = lent.base;
@@ -120,7 +127,7 @@ pub fn move_segments(at: u32, w: &mut [u8], trace: &mut [u8], lent: Lent) -> Mov
 }
 
 // Looks every segment up and changes none. Once a touch is kept the lookups left cannot add one, however many a false count asks for.
-pub fn look_at_segments(at: u32, w: &[u8], trace: &mut [u8], base: u32)
+pub(crate) fn look_at_segments(at: u32, w: &[u8], trace: &mut [u8], base: u32)
     ensures { λ _. ⌜ (now (w .entry), now (trace .exit)) ≡ runT at (lookAtSegments base) (now (w .entry), now (trace .entry)) .1 ⌝ }
 {
     let count = field(at, w, trace, base, SEGMENT_NUM);

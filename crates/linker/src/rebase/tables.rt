@@ -72,7 +72,7 @@ fn move_table(at: u32, w: &mut [u8], trace: &mut [u8], forward: bool, base: u32,
 }
 
 // Turns the offsets that the five tables' entries hold into addresses, or back.
-pub fn move_tables(at: u32, w: &mut [u8], trace: &mut [u8], forward: bool, base: u32)
+pub(crate) fn move_tables(at: u32, w: &mut [u8], trace: &mut [u8], forward: bool, base: u32)
     ensures { λ _. ⌜ (now (w .exit), now (trace .exit)) ≡ runT at (moveTables forward base pointerTables) (now (w .entry), now (trace .entry)) .1 ⌝ }
 {
     for i in 0u32..5 {

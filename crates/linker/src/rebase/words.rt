@@ -16,7 +16,7 @@ fn moved(forward: bool, base: u32, value: u32) -> u32
 }
 
 // Moves the word at p, unless it is 0.
-pub fn move_word(at: u32, w: &mut [u8], trace: &mut [u8], forward: bool, base: u32, p: u32)
+pub(crate) fn move_word(at: u32, w: &mut [u8], trace: &mut [u8], forward: bool, base: u32, p: u32)
     ensures { λ _. ⌜ (now (w .exit), now (trace .exit)) ≡ runT at (moveWord forward base p) (now (w .entry), now (trace .entry)) .1 ⌝ }
 {
     let value = window::read32(at, w, trace, p);
@@ -27,7 +27,7 @@ pub fn move_word(at: u32, w: &mut [u8], trace: &mut [u8], forward: bool, base: u
 }
 
 // Moves the name's offset, then the offset of each pair of offset and size from the code's on.
-pub fn move_header(at: u32, w: &mut [u8], trace: &mut [u8], forward: bool, base: u32)
+pub(crate) fn move_header(at: u32, w: &mut [u8], trace: &mut [u8], forward: bool, base: u32)
     ensures { λ _. ⌜ (now (w .exit), now (trace .exit)) ≡ runT at (moveHeader forward base) (now (w .entry), now (trace .entry)) .1 ⌝ }
 {
     move_word(

@@ -12,7 +12,7 @@ use register::read::modules::first_with_name;
 use window::name::read_name;
 
 // Where the record of the first module with the name at `address` begins.
-pub fn module_by_name(
+pub(crate) fn module_by_name(
     at: u32,
     w: &[u8],
     trace: &mut [u8],
@@ -31,7 +31,7 @@ pub fn module_by_name(
 }
 
 // The export with the name at `address` of the record at a place.
-pub fn export_of(
+pub(crate) fn export_of(
     at: u32,
     w: &[u8],
     trace: &mut [u8],
@@ -49,7 +49,7 @@ pub fn export_of(
 }
 
 // Whether the name at `address` is that one.
-pub fn is_name(at: u32, w: &[u8], trace: &mut [u8], address: u32, name: &[u8]) -> bool
+pub(crate) fn is_name(at: u32, w: &[u8], trace: &mut [u8], address: u32, name: &[u8]) -> bool
     ensures { λ r. ⌜ (r ≡ same (runT at (nameAt address) (now (w .entry), now (trace .entry)) .0) (now (name .entry)))
         × ((now (w .entry), now (trace .exit)) ≡ runT at (nameAt address) (now (w .entry), now (trace .entry)) .1) ⌝ }
 {

@@ -17,13 +17,13 @@ use register::read::export_indexed;
 use register::read::segment_address;
 
 // The two tables of a module entry; the entries of both have the same size.
-pub enum ImportTable {
+pub(crate) enum ImportTable {
     Indexed,
     Anonymous,
 }
 
 // What a module entry says of them.
-pub struct ModuleTables {
+pub(crate) struct ModuleTables {
     pub indexed_table: u32,
     pub indexed_count: u32,
     pub anonymous_table: u32,
@@ -100,7 +100,7 @@ fn import_table(
 }
 
 // Where the two tables of the module entry at `entry` are, and how many imports each has.
-pub fn tables_of(at: u32, w: &[u8], trace: &mut [u8], entry: u32) -> ModuleTables
+pub(crate) fn tables_of(at: u32, w: &[u8], trace: &mut [u8], entry: u32) -> ModuleTables
     ensures { λ r. ⌜ (r, (now (w .entry), now (trace .exit))) ≡ runT at (tablesOf entry) (now (w .entry), now (trace .entry)) ⌝ }
 {
     let indexed_table = window::read32(at, w, trace, std::num::wrapping_add_u32(entry, 4));
@@ -116,7 +116,7 @@ pub fn tables_of(at: u32, w: &[u8], trace: &mut [u8], entry: u32) -> ModuleTable
 }
 
 // The imports of both tables, from the module whose record begins at the place.
-pub fn link_from(
+pub(crate) fn link_from(
     at: u32,
     w: &mut [u8],
     trace: &mut [u8],

@@ -2,7 +2,6 @@
 use Prim.Native.Nat.{ℕ, suc, _+_, _-_, _*_, _≤_, _<_}
 use mathlib.Core.Path.{_≡_, sym, ap, _∙_, subst}
 use mathlib.Core.List.{List, _++_, append-assoc, append-nil}
-use mathlib.Core.Bool.{Bool}
 use native.Mathlib.Omega.{arith}
 use native.Mathlib.Numerals.{add-one}
 use lib.ListN.{length, take, drop, getD, set, replicate, length-append, length-drop, length-replicate, drop-of-length-le}
@@ -13,7 +12,7 @@ use Rattle.register.specs.Words.{part, flat, wordsIn}
 use Rattle.register.specs.Decode.{moduleSize}
 use Rattle.register.specs.Encode.{recordWords}
 use Rattle.register.specs.Change.Bytes.{closed, namesEnd, lowerWord, lowerExports, lowerHeader, cutRecord}
-use Rattle.register.specs.Change.Lower.{Records}
+use Rattle.register.specs.Change.Lower.{RecordsFrom}
 use Rattle.register.specs.Change.Remove.{Leaving}
 
 -- bytes moved down, those below i done; those from i on still as they were
@@ -77,9 +76,9 @@ size-part l p e =
 -- the record cut out, in steps
 pub cut-in-steps
     : (records : List ℕ) (place size gap used : ℕ) {lowered closer last : List ℕ} → used ≡ wordIn records 12 → place + size ≤ used
-    → ((s : Records gap (take (used - (place + size)) (drop (place + size) records))) → lowered ≡ flat (recordWords (s .from - gap) (s .modules)))
+    → ((s : RecordsFrom gap (take (used - (place + size)) (drop (place + size) records))) → lowered ≡ flat (recordWords (s .from - gap) (s .modules)))
     → closer ≡ closed (putMid (place + size) (used - (place + size)) records lowered) place size → last ≡ lowerHeader closer size gap
-    → (s : Records gap (part records (place + size) (wordIn records 12 - (place + size))))
+    → (s : RecordsFrom gap (part records (place + size) (wordIn records 12 - (place + size))))
     → last ≡ cutRecord records place size gap (flat (recordWords (s .from - gap) (s .modules)))
 unfolding cutRecord part
 cut-in-steps records place size gap used u h low shut head s =
@@ -94,19 +93,19 @@ module _ {records names : List ℕ} {place : ℕ} {left : List ℕ × List ℕ} 
   pub end-found : (end size : ℕ) → end ≡ namesEnd records (place + size) → size ≡ n .size → end ≡ n .offset + n .gap
   end-found end size e es = e ∙ ap (λ t. namesEnd records (place + t)) es ∙ n .end-is
 
-  pub later-found : (size gap : ℕ) → size ≡ n .size → gap ≡ n .gap → Records gap (part records (place + size) (wordIn records 12 - (place + size)))
+  pub later-found : (size gap : ℕ) → size ≡ n .size → gap ≡ n .gap → RecordsFrom gap (part records (place + size) (wordIn records 12 - (place + size)))
   later-found size gap es eg = rw (es, eg) (n .later)
 
 -- the record removed, in steps
 pub removed-in-steps
     : {records names : List ℕ} {place : ℕ} {left : List ℕ × List ℕ} (n : Leaving records names place left) (size gap first : ℕ) {last closer : List ℕ}
     → size ≡ n .size → gap ≡ n .gap → first ≡ n .offset
-    → ((s : Records gap (part records (place + size) (wordIn records 12 - (place + size))))
+    → ((s : RecordsFrom gap (part records (place + size) (wordIn records 12 - (place + size))))
     → last ≡ cutRecord records place size gap (flat (recordWords (s .from - gap) (s .modules))))
     → closer ≡ closed names first gap → _≡_ {A = List ℕ × List ℕ} (last, closer) left
 removed-in-steps {records} {names} {place} {left} n size gap first {last} {closer} es eg ef cut shut =
     let Cut : ℕ → ℕ → Type 0 =
-    λ size gap. (s : Records gap (part records (place + size) (wordIn records 12 - (place + size))))
+    λ size gap. (s : RecordsFrom gap (part records (place + size) (wordIn records 12 - (place + size))))
     → last ≡ cutRecord records place size gap (flat (recordWords (s .from - gap) (s .modules))) in
     let c : Cut (n .size) (n .gap) = subst (λ t. Cut (n .size) t) eg (subst (λ t. Cut t gap) es cut) in
     let x : last ≡ left .0 = c (n .later) ∙ n .cut in

@@ -9,8 +9,6 @@ use borrow.Author.Tests.{leb-true, eqb-true, lt-ltb, le-ltb}
 use Rattle.window.specs.Word.{wordIn, setWordIn}
 use Rattle.window.specs.Tests.{both}
 use Rattle.register.specs.Change.Bytes.{takesName, putSlot, pushMissing}
-use Rattle.register.specs.Change.Lower.{Records}
-use Rattle.register.specs.Change.Remove.{Leaving}
 
 -- a missing name
 

@@ -13,7 +13,7 @@ use Rattle.register.specs.declared.exports.Found.the-variants as found
 use Rattle.register.specs.declared.read.Record.{Record}
 use Rattle.register.specs.declared.read.Symbol.the-variants.{At, Nothing}
 use Rattle.register.specs.Read.Read.{modulesOf, placeFrom, hasBase, hasName, exportOf, lookupIn, recordAt, recordEnd, moduleAt}
-use Rattle.register.specs.Read.Places.{Stands, stands-name}
+use Rattle.register.specs.Read.Places.{RecordStands, stands-name}
 use Rattle.register.specs.Read.Walk.{Walk, walk-fits, walk-stops, walk-goes, place-here, place-on, lookup-here, lookup-on, lookup-past}
 
 flag-true : (b : Bool) → flag b ≡ 1 → b ≡ true
@@ -37,7 +37,7 @@ module _ (records names : List ℕ) (place k : ℕ) {r : Record} (h : k < getD (
   -- by base
 
   module _ (base : ℕ) (w : Walk (λ p ms. placeFrom p ms (hasBase base)) records names place k) where
-    its-base : (m : Module) → Stands records names place m → m .base ≡ r .base
+    its-base : (m : Module) → RecordStands records names place m → m .base ≡ r .base
     its-base m s = sym (ap (λ (x : Record). x .base) (er ∙ s .words))
 
     pub base-here : r .base ≡ base → found.At place ≡ placeFrom 32 (modulesOf records names) (hasBase base)
@@ -57,7 +57,7 @@ module _ (records names : List ℕ) (place k : ℕ) {r : Record} (h : k < getD (
 
   module _ (name own : List ℕ) {t : Bool} (eo : own ≡ part names (r .«name_offset») (r .«name_length»)) (et : t ≡ same name own)
       (w : Walk (λ p ms. placeFrom p ms (hasName name)) records names place k) where
-    has-name : (m : Module) → Stands records names place m → hasName name m ≡ t
+    has-name : (m : Module) → RecordStands records names place m → hasName name m ≡ t
     unfolding hasName
     has-name m s =
         ap (same name) (sym (eo ∙ rw er (stands-name s))) ∙ sym et
@@ -72,10 +72,10 @@ module _ (records names : List ℕ) (place k : ℕ) {r : Record} (h : k < getD (
   -- named lookup
 
   module _ (name : List ℕ) (w : Walk (λ p ms. lookupIn ms name) records names place k) where
-    its-flag : (m : Module) → Stands records names place m → flag (m .auto) ≡ r .«auto_link»
+    its-flag : (m : Module) → RecordStands records names place m → flag (m .auto) ≡ r .«auto_link»
     its-flag m s = sym (ap (λ (x : Record). x .«auto_link») (er ∙ s .words))
 
-    its-export : (m : Module) → Stands records names place m → exportOf m name ≡ exportOf (moduleAt records names place) name
+    its-export : (m : Module) → RecordStands records names place m → exportOf m name ≡ exportOf (moduleAt records names place) name
     its-export m s = ap (λ x. exportOf x name) (sym (s .back))
 
     pub lookup-found

@@ -108,10 +108,10 @@ putExport records names d name address =
     else (Full, records, names)
 
 -- the first eight words of a record that has nothing yet but its name
-unfoldable pub firstWords : ℕ → ℕ → Bool → ℕ → ℕ → List ℕ
+unfoldable pub firstWords : (base size : ℕ) → Bool → (q count : ℕ) → List ℕ
 firstWords base size auto q count = base ∷ size ∷ flag auto ∷ q ∷ count ∷ 0 ∷ 0 ∷ 0 ∷ []
 
-unfoldable pub draftAt : ℕ → ℕ → ℕ → Draft
+unfoldable pub draftAt : (used named count : ℕ) → Draft
 draftAt used named count = record { start = used; end = used + 32; names = named; last = named + count }
 
 unfoldable pub beginRecord : List ℕ → List ℕ → ℕ → ℕ → Bool → List ℕ → Drafted × List ℕ × List ℕ

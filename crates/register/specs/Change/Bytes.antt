@@ -17,7 +17,7 @@ unfoldable pub putSlot : List ℕ → ℕ → List ℕ → List ℕ
 putSlot missing place name = sets missing place (length name % 256 ∷ length name / 256 ∷ name)
 
 -- the lengths of a register's buffers and of a name
-unfoldable pub takesName : ℕ → ℕ → ℕ → Bool
+unfoldable pub takesName : (records missing count : ℕ) → Bool
 takesName records missing count = leb 32 records && (eqb missing 32896 && leb count 512)
 
 -- "Missing names stop at 64"; word 5 counts them
@@ -37,7 +37,7 @@ unfoldable pub lowerWord : List ℕ → ℕ → ℕ → List ℕ
 lowerWord bytes place d = setWordIn bytes place (wordIn bytes place ⊖ d)
 
 -- of n exports from `place` on
-unfoldable pub lowerExports : ℕ → List ℕ → ℕ → ℕ → List ℕ
+unfoldable pub lowerExports : (count : ℕ) → List ℕ → (place d : ℕ) → List ℕ
 lowerExports zero bytes place d = bytes
 lowerExports (suc n) bytes place d = lowerExports n (lowerWord bytes place d) (place + 12) d
 
@@ -55,6 +55,6 @@ unfoldable pub lowerHeader : List ℕ → ℕ → ℕ → List ℕ
 lowerHeader records size gap = lowerWord (lowerWord (lowerWord records 0 1) 12 size) 16 gap
 
 -- the record of `size` bytes at `place` out, with the later ones' bytes as given
-unfoldable pub cutRecord : List ℕ → ℕ → ℕ → ℕ → List ℕ → List ℕ
+unfoldable pub cutRecord : List ℕ → (place size gap : ℕ) → List ℕ → List ℕ
 cutRecord records place size gap later =
     lowerHeader (closed (take (place + size) records ++ (later ++ drop (wordIn records 12) records)) place size) size gap

@@ -18,7 +18,7 @@ use Rattle.register.specs.Append.Laid.{below-append}
 use Rattle.register.specs.Append.Stands.{encoded-small}
 use Rattle.register.specs.Change.Lower.{below-left, below-right, length-records}
 use Rattle.register.specs.Change.Encoded.{whole-fits}
-use Rattle.register.specs.Change.Remove.{Stands, remaining}
+use Rattle.register.specs.Change.Remove.{RecordOfRegister, remaining}
 
 -- words stay small when name offsets fall
 
@@ -130,7 +130,7 @@ module _ (r : Register) (k : ℕ) where
 
 -- a removal leaves the encoding of the register without the record
 pub remove-encodes
-    : {records names : List ℕ} {place : ℕ} → Below 256 records → (s : Stands records names place)
+    : {records names : List ℕ} {place : ℕ} → Below 256 records → (s : RecordOfRegister records names place)
     → encodes (remaining s .0) (remaining s .1) (s .missing) (removed (registerOf records names (s .missing)) (s .number)) ≡ true
 unfolding remaining encodeMissing removed
 remove-encodes {records} {names} b s =
@@ -148,7 +148,7 @@ remove-encodes {records} {names} b s =
     subst (λ t. encodes (remaining s .0) (remaining s .1) t (removed r (s .number)) ≡ true) (sym e) h
 
 pub remove-kept
-    : {records names : List ℕ} {place : ℕ} → Below 256 records → (s : Stands records names place)
+    : {records names : List ℕ} {place : ℕ} → Below 256 records → (s : RecordOfRegister records names place)
     → (isRegister (remaining s .0) (remaining s .1) (s .missing) ≡ true)
     × (registerOf (remaining s .0) (remaining s .1) (s .missing) ≡ removed (registerOf records names (s .missing)) (s .number))
 remove-kept {records} {names} b s =

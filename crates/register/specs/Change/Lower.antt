@@ -52,7 +52,7 @@ module _ (a ws z : List ℕ) where
         rw (word-amid b, e) (set-amid (getD ws i 0 - d))
 
 -- records, from a name offset of at least d on
-pub record Records (d : ℕ) (bytes : List ℕ) : Type 0 where
+pub record RecordsFrom (d : ℕ) (bytes : List ℕ) : Type 0 where
   pub from : ℕ
   pub modules : List Module
   pub are : bytes ≡ flat (recordWords from modules)
@@ -156,12 +156,12 @@ pub record Walked (d place : ℕ) (bytes aim : List ℕ) : Type 0 where
   pub small : Below (2 ^ 32) (recordWords from rest)
   pub end : done ++ flat (recordWords (from - d) rest) ≡ aim
 
-pub walk-start : {d : ℕ} {bytes : List ℕ} (s : Records d bytes) → Walked d 0 bytes (flat (recordWords (s .from - d) (s .modules)))
+pub walk-start : {d : ℕ} {bytes : List ℕ} (s : RecordsFrom d bytes) → Walked d 0 bytes (flat (recordWords (s .from - d) (s .modules)))
 walk-start s =
     record { done = []; from = s .from; rest = s .modules; are = s .are; at = refl; least = s .least; small = s .small; end = refl }
 
 -- a record more
-pub record Next (d place : ℕ) (bytes aim : List ℕ) : Type 0 where
+pub record NextRecord (d place : ℕ) (bytes aim : List ℕ) : Type 0 where
   pub some : 0 < moduleSize (wordsIn (drop place bytes))
   pub inside : place + 4 * moduleSize (wordsIn (drop place bytes)) ≤ length bytes
   pub fits : place + 4 * (8 + wordIn bytes (place + 20)) + 12 * wordIn bytes (place + 24) ≤ length bytes
@@ -203,7 +203,7 @@ module _ (d o q : ℕ) (done aim : List ℕ) (m : Module) (ms : List Module) (lo
             ∙ e);
       }
 
-  next-here : Next d o whole aim
+  next-here : NextRecord d o whole aim
   next-here =
       let k = words-long q m in
       let f : length (flat (moduleWords q m)) ≡ 4 * length (moduleWords q m) = length-flat (moduleWords q m) in
@@ -215,19 +215,19 @@ module _ (d o q : ℕ) (done aim : List ℕ) (m : Module) (ms : List Module) (lo
         walked = rw (size-here, lower-record m done z o q d lo h own) next-walked;
       }
 
-pub walk-next : {d place : ℕ} {bytes aim : List ℕ} → Walked d place bytes aim → place < length bytes → Next d place bytes aim
+pub walk-next : {d place : ℕ} {bytes aim : List ℕ} → Walked d place bytes aim → place < length bytes → NextRecord d place bytes aim
 unfolding recordWords flat
 walk-next {d} {place} {bytes} {aim} w h = go (w .rest) (w .are) (w .small) (w .end)
   where
     go
         : (ms : List Module) → bytes ≡ w .done ++ flat (recordWords (w .from) ms) → Below (2 ^ 32) (recordWords (w .from) ms)
-        → w .done ++ flat (recordWords (w .from - d) ms) ≡ aim → Next d place bytes aim
+        → w .done ++ flat (recordWords (w .from - d) ms) ≡ aim → NextRecord d place bytes aim
     go [] a b e = let n : length bytes ≡ place = rw (a, append-nil) (w .at) in absurd (omega arith)
     go (m ∷ ms) a b e =
         let q = w .from in
         let s : bytes ≡ w .done ++ (flat (moduleWords q m) ++ flat (recordWords (q + length (moduleNames m)) ms)) =
         a ∙ ap (λ t. w .done ++ t) (flat-append (moduleWords q m) (recordWords (q + length (moduleNames m)) ms)) in
-        subst (λ t. Next d place t aim) (sym s) (next-here d place q (w .done) aim m ms (w .at) (w .least) b e)
+        subst (λ t. NextRecord d place t aim) (sym s) (next-here d place q (w .done) aim m ms (w .at) (w .least) b e)
 
 pub walk-end : {d place : ℕ} {bytes aim : List ℕ} → Walked d place bytes aim → length bytes ≤ place → bytes ≡ aim
 unfolding recordWords

@@ -22,11 +22,11 @@ use Rattle.register.specs.Append.Held.{words-long, below-set}
 use Rattle.register.specs.Append.Append.{names-append, words-append}
 use Rattle.register.specs.Append.Stands.{encoded-small}
 use Rattle.register.specs.Change.Bytes.{closed, namesEnd, lowerHeader, cutRecord}
-use Rattle.register.specs.Change.Lower.{Records, word-amid, lower-amid, group, length-group, below-left, below-right, length-records, size-amid}
+use Rattle.register.specs.Change.Lower.{RecordsFrom, word-amid, lower-amid, group, length-group, below-left, below-right, length-records, size-amid}
 use Rattle.register.specs.Change.Encoded.{whole-fits, records-exact}
 
 -- the record of module number `number` begins at byte `place` of a register
-pub record Stands (records names : List ℕ) (place : ℕ) : Type 0 where
+pub record RecordOfRegister (records names : List ℕ) (place : ℕ) : Type 0 where
   pub missing : List ℕ
   pub number : ℕ
   pub holds : isRegister records names missing ≡ true
@@ -34,7 +34,7 @@ pub record Stands (records names : List ℕ) (place : ℕ) : Type 0 where
   pub there : place ≡ 32 + 4 * length (recordWords 0 (take number (registerOf records names missing .modules)))
 
 -- the encoding of the register without it
-unfoldable pub remaining : {records names : List ℕ} {place : ℕ} → Stands records names place → List ℕ × List ℕ
+unfoldable pub remaining : {records names : List ℕ} {place : ℕ} → RecordOfRegister records names place → List ℕ × List ℕ
 remaining {records} {names} s =
     let r = removed (registerOf records names (s .missing)) (s .number) in
     (encodeRecords (length records) r, encodeNames (length names) r)
@@ -93,7 +93,7 @@ pub record Leaving (records names : List ℕ) (place : ℕ) (left : List ℕ × 
   pub used-small : wordIn records 12 < 2 ^ 32
   pub next-whole : place + size < wordIn records 12 → place + size + 32 ≤ length records
   pub named : offset + gap ≤ length names
-  pub later : Records gap (part records (place + size) (wordIn records 12 - (place + size)))
+  pub later : RecordsFrom gap (part records (place + size) (wordIn records 12 - (place + size)))
   pub cut : cutRecord records place size gap (flat (recordWords (later .from - gap) (later .modules))) ≡ left .0
   pub named-closed : closed names offset gap ≡ left .1
 
@@ -118,7 +118,7 @@ module _ (ps bs : List Module) (x : Module) (c : Crs) (ns : List (List ℕ)) whe
   used = 4 * (8 + length (recordWords 0 all))
 
   -- the words before its own, its own, and those after
-  abbrev head : ℕ → ℕ → ℕ → List ℕ
+  abbrev head : (count bytes named : ℕ) → List ℕ
   head count bytes named = count ∷ crsKnown c ∷ crsBase c ∷ bytes ∷ named ∷ length ns ∷ 0 ∷ 0 ∷ []
 
   abbrev front : List ℕ
@@ -216,15 +216,15 @@ module _ (ps bs : List Module) (x : Module) (c : Crs) (ns : List (List ℕ)) whe
         (length-flat back ∙ omega (arith, used-is)))
 
     -- either nothing comes after it, or a record whose names begin where its own end
-    record After : Type 0 where
+    record RecordAfter : Type 0 where
       ends : namesEnd records (place + size) ≡ q + g
       next : place + size < used → place + size + 32 ≤ n
 
-    after : After
+    after : RecordAfter
     unfolding namesEnd recordWords moduleWords recordNames
     after = go bs refl
       where
-        go : (ts : List Module) → bs ≡ ts → After
+        go : (ts : List Module) → bs ≡ ts → RecordAfter
         go [] e =
             let b : length back ≡ 0 = ap (λ t. length (recordWords (q + g) t)) e in
             let m : length (recordNames bs) ≡ 0 = ap (λ t. length (recordNames t)) e in
@@ -363,7 +363,7 @@ module _ (ps bs : List Module) (x : Module) (c : Crs) (ns : List (List ℕ)) whe
           named-closed = names-left;
         }
       where
-        later-here : Records g (part records (place + size) (wordIn records 12 - (place + size)))
+        later-here : RecordsFrom g (part records (place + size) (wordIn records 12 - (place + size)))
         later-here =
             record { from = q + g; modules = bs; are = rw used-word back-part; least = omega arith; small = small-back }
 
@@ -380,7 +380,7 @@ carry {records} {records′} {names} {names′} {place} {place′} {left} {left�
     (subst (λ t. Leaving records′ names′ t left) (sym ep) (subst (λ t. Leaving records′ names′ place′ t) (sym el) l)))
 
 -- the record that stands there leaves so
-pub leaving : {records names : List ℕ} {place : ℕ} → Below 256 records → (s : Stands records names place) → Leaving records names place (remaining s)
+pub leaving : {records names : List ℕ} {place : ℕ} → Below 256 records → (s : RecordOfRegister records names place) → Leaving records names place (remaining s)
 unfolding remaining removed encodeNames
 leaving {records} {names} b s =
     let n = length records in

@@ -20,13 +20,13 @@ use Rattle.register.specs.CheckIs.{length-settled, begins-long, register
 use Rattle.register.specs.Buffers.{padded, names-are}
 use Rattle.register.specs.declared.exports.Found.the-variants.{At}
 use Rattle.register.specs.Read.Read.{Encoded, modulesOf, moduleBytes, placeFrom, recordAt, moduleAt}
-use Rattle.register.specs.Read.Places.{module-bytes, Stands, Standing, none, next, Placed, placed}
+use Rattle.register.specs.Read.Places.{module-bytes, RecordStands, RecordsStand, none, next, FirstPassing, placed}
 
 -- a record in front of the words from number i on, with its names in the middle of names
 stands
     : (records names : List ℕ) (i q : ℕ) (m : Module) (rest pre post : List ℕ) → drop i (wordsIn records) ≡ moduleWords q m ++ rest
     → names ≡ pre ++ (moduleNames m ++ post) → length pre ≡ q → properModule m ≡ true → i + length (moduleWords q m) ≤ length (wordsIn records)
-    → Stands records names (4 * i) m
+    → RecordStands records names (4 * i) m
 unfolding recordAt moduleAt moduleWords
 stands records names i q m rest pre post ew en lp h l =
     let w = module-complete m rest names pre post q en lp h in
@@ -43,7 +43,7 @@ stands records names i q m rest pre post ew en lp h l =
 standing
     : (ms : List Module) (records names : List ℕ) (i q : ℕ) (rest pre post : List ℕ) → drop i (wordsIn records) ≡ recordWords q ms ++ rest
     → names ≡ pre ++ (recordNames ms ++ post) → length pre ≡ q → properModules ms ≡ true → i + length (recordWords q ms) ≤ length (wordsIn records)
-    → Standing records names (4 * i) ms
+    → RecordsStand records names (4 * i) ms
 unfolding recordWords recordNames properModules
 standing [] records names i q rest pre post ew en lp h l = none
 standing (m ∷ ms) records names i q rest pre post ew en lp h l =
@@ -62,7 +62,7 @@ standing (m ∷ ms) records names i q rest pre post ew en lp h l =
     (length-append pre (moduleNames m) ∙ ap (λ t. t + length (moduleNames m)) lp)
     (a .1) (omega arith) in
     let p : 4 * (i + n) ≡ 4 * i + moduleBytes m = omega (arith, module-bytes q m) in
-    next s (subst (λ t. Standing records names t ms) p r)
+    next s (subst (λ t. RecordsStand records names t ms) p r)
 
 settled-rest : (ws : List ℕ) → drop 8 (settled ws) ≡ drop 8 ws
 unfolding settled
@@ -114,7 +114,7 @@ module _ (records names missing : List ℕ) (h : isRegister records names missin
   split = sym (take-append-drop (length (encodeWords reg)) ws) ∙ ap (λ t. t ++ rest) encoded-words
 
   -- "Then one record per module in load order"
-  pub modules-stand : Standing records names 32 (modulesOf records names)
+  pub modules-stand : RecordsStand records names 32 (modulesOf records names)
   unfolding encodeWords padded
   modules-stand =
       let ms = reg .modules in
@@ -150,5 +150,5 @@ module _ (records names missing : List ℕ) (h : isRegister records names missin
 -- what a search over all modules gives
 pub first-placed
     : (records names : List ℕ) (test : Module → Bool) {p : ℕ} → Encoded records names
-    → placeFrom 32 (modulesOf records names) test ≡ At p → Placed records names 32 (modulesOf records names) test p
+    → placeFrom 32 (modulesOf records names) test ≡ At p → FirstPassing records names 32 (modulesOf records names) test p
 first-placed records names test e f = placed 32 (modulesOf records names) test (modules-stand records names (e .0) (e .1)) f

@@ -25,7 +25,7 @@ module-bytes q m =
     omega arith
 
 -- the record of module m begins at byte `place`, and is whole
-pub record Stands (records names : List ℕ) (place : ℕ) (m : Module) : Type 0 where
+pub record RecordStands (records names : List ℕ) (place : ℕ) (m : Module) : Type 0 where
   pub offset : ℕ
   pub words : recordAt records place ≡ recordOf place offset m
   pub back : moduleAt records names place ≡ m
@@ -33,34 +33,34 @@ pub record Stands (records names : List ℕ) (place : ℕ) (m : Module) : Type 0
   pub aligned : place % 4 ≡ 0
   pub proper : properModule m ≡ true
 
-pub stands-end : {records names : List ℕ} {place : ℕ} {m : Module} → Stands records names place m → recordEnd (recordAt records place)
+pub stands-end : {records names : List ℕ} {place : ℕ} {m : Module} → RecordStands records names place m → recordEnd (recordAt records place)
     ≡ place + moduleBytes m
 unfolding moduleBytes
 stands-end s = ap recordEnd (s .words)
 
 pub stands-name
-    : {records names : List ℕ} {place : ℕ} {m : Module} → Stands records names place m
+    : {records names : List ℕ} {place : ℕ} {m : Module} → RecordStands records names place m
     → part names (recordAt records place .«name_offset») (recordAt records place .«name_length») ≡ m .name
 unfolding recordAt moduleAt readModule
 stands-name s = ap (λ (x : Module). x .name) (s .back)
 
 -- the records of the modules, one after another
-pub data Standing (records names : List ℕ) : ℕ → List Module → Type 0 where
-  none : {place : ℕ} → Standing records names place []
+pub data RecordsStand (records names : List ℕ) : ℕ → List Module → Type 0 where
+  none : {place : ℕ} → RecordsStand records names place []
   next
-      : {place : ℕ} {m : Module} {ms : List Module} → Stands records names place m → Standing records names (place + moduleBytes m) ms
-      → Standing records names place (m ∷ ms)
+      : {place : ℕ} {m : Module} {ms : List Module} → RecordStands records names place m → RecordsStand records names (place + moduleBytes m) ms
+      → RecordsStand records names place (m ∷ ms)
 
 -- a record by its position
 pub stands-at
     : {records names : List ℕ} {place : ℕ} (before after : List Module) {m : Module}
-    → Standing records names place (before ++ (m ∷ after)) → Stands records names (placeAfter place before) m
+    → RecordsStand records names place (before ++ (m ∷ after)) → RecordStands records names (placeAfter place before) m
 unfolding placeAfter
 stands-at [] after (next s r) = s
 stands-at (b ∷ before) after (next s r) = stands-at before after r
 
 -- the place of the first module that passes a test: that module, those before it, and that its record begins there
-pub record Placed (records names : List ℕ) (place : ℕ) (ms : List Module) (test : Module → Bool) (p : ℕ) : Type 0 where
+pub record FirstPassing (records names : List ℕ) (place : ℕ) (ms : List Module) (test : Module → Bool) (p : ℕ) : Type 0 where
   pub before : List Module
   pub found : Module
   pub after : List Module
@@ -68,19 +68,19 @@ pub record Placed (records names : List ℕ) (place : ℕ) (ms : List Module) (t
   pub first : placeFrom place before test ≡ Nothing
   pub passes : test found ≡ true
   pub at : p ≡ placeAfter place before
-  pub stands : Stands records names p found
+  pub stands : RecordStands records names p found
 
 pub placed
-    : {records names : List ℕ} (place : ℕ) (ms : List Module) (test : Module → Bool) {p : ℕ} → Standing records names place ms
-    → placeFrom place ms test ≡ At p → Placed records names place ms test p
+    : {records names : List ℕ} (place : ℕ) (ms : List Module) (test : Module → Bool) {p : ℕ} → RecordsStand records names place ms
+    → placeFrom place ms test ≡ At p → FirstPassing records names place ms test p
 unfolding placeFrom placeAfter
 placed place [] test s e = let z : _≡_ {A = ℕ} 0 1 = cc in absurd (omega arith)
 placed {records} {names} place (m ∷ ms) test {p} (next s r) e = go (test m) refl e (placed (place + moduleBytes m) ms test r)
   where
     go
         : (b : Bool) → test m ≡ b → (if b then At place else placeFrom (place + moduleBytes m) ms test) ≡ At p
-        → (placeFrom (place + moduleBytes m) ms test ≡ At p → Placed records names (place + moduleBytes m) ms test p)
-        → Placed records names place (m ∷ ms) test p
+        → (placeFrom (place + moduleBytes m) ms test ≡ At p → FirstPassing records names (place + moduleBytes m) ms test p)
+        → FirstPassing records names place (m ∷ ms) test p
     go true t f ih =
         let q : place ≡ p = cc in
         record {
@@ -91,7 +91,7 @@ placed {records} {names} place (m ∷ ms) test {p} (next s r) e = go (test m) re
           first = refl;
           passes = t;
           at = sym q;
-          stands = subst (λ x. Stands records names x m) q s;
+          stands = subst (λ x. RecordStands records names x m) q s;
         }
     go false t f ih =
         let i = ih f in

@@ -11,7 +11,7 @@ use Rattle.register.specs.declared.exports.Found.the-variants as found
 use Rattle.register.specs.declared.read.Symbol.{Symbol}
 use Rattle.register.specs.declared.read.Symbol.the-variants.{At, Nothing}
 use Rattle.register.specs.Read.Read.{Encoded, modulesOf, moduleBytes, placeFrom, exportOf, orElse, lookupIn, recordAt, recordEnd}
-use Rattle.register.specs.Read.Places.{Stands, stands-end, Standing, next}
+use Rattle.register.specs.Read.Places.{RecordStands, stands-end, RecordsStand, next}
 use Rattle.register.specs.Read.Encoded.{modules-stand, module-count}
 
 -- a sum that fits 64 bits is what it is modulo 2^64
@@ -19,17 +19,17 @@ pub unwrapped : {r x : ℕ} → r ≡ x % 2 ^ 64 → x < 2 ^ 64 → r ≡ x
 unwrapped e h = omega arith
 
 -- k records seen, the next one standing at `place`, and the modules ms left: the first of them, and those after it
-pub record Turn (records names : List ℕ) (place k : ℕ) (ms : List Module) : Type 0 where
+pub record WalkStep (records names : List ℕ) (place k : ℕ) (ms : List Module) : Type 0 where
   pub here : Module
   pub rest : List Module
   pub split : ms ≡ here ∷ rest
-  pub stands : Stands records names place here
-  pub standing : Standing records names (place + moduleBytes here) rest
+  pub stands : RecordStands records names place here
+  pub standing : RecordsStand records names (place + moduleBytes here) rest
   pub count : k + 1 + length rest ≡ getD (wordsIn records) 0 0
 
 pub turn
-    : (records names : List ℕ) (place k : ℕ) (ms : List Module) → Standing records names place ms → k + length ms ≡ getD (wordsIn records) 0 0
-    → k < getD (wordsIn records) 0 0 → Turn records names place k ms
+    : (records names : List ℕ) (place k : ℕ) (ms : List Module) → RecordsStand records names place ms → k + length ms ≡ getD (wordsIn records) 0 0
+    → k < getD (wordsIn records) 0 0 → WalkStep records names place k ms
 turn records names place k [] s c h = absurd (omega arith)
 turn records names place k (m ∷ ms) (next s r) c h =
     record { here = m; rest = ms; split = refl; stands = s; standing = r; count = omega arith }
@@ -37,7 +37,7 @@ turn records names place k (m ∷ ms) (next s r) c h =
 -- a walk that looks for an answer f: f of the modules left is f of all
 pub record Walk {A : Type 0} (f : ℕ → List Module → A) (records names : List ℕ) (place k : ℕ) : Type 0 where
   pub left : List Module
-  pub standing : Standing records names place left
+  pub standing : RecordsStand records names place left
   pub count : k + length left ≡ getD (wordsIn records) 0 0
   pub same : f place left ≡ f 32 (modulesOf records names)
 
@@ -62,7 +62,7 @@ module _ {A : Type 0} (f : ℕ → List Module → A) (records names : List ℕ)
         go (m ∷ ms) c s = absurd (omega arith)
 
     module _ (h : k < getD (wordsIn records) 0 0) where
-      walk-turn : Turn records names place k (w .left)
+      walk-turn : WalkStep records names place k (w .left)
       walk-turn = turn records names place k (w .left) (w .standing) (w .count) h
 
       here-same : f place (walk-turn .here ∷ walk-turn .rest) ≡ f 32 (modulesOf records names)
@@ -74,14 +74,14 @@ module _ {A : Type 0} (f : ℕ → List Module → A) (records names : List ℕ)
 
       -- the answer is found at the record at `place`
       pub walk-stops
-          : {x : A} → ((m : Module) (ms : List Module) → Stands records names place m → x ≡ f place (m ∷ ms))
+          : {x : A} → ((m : Module) (ms : List Module) → RecordStands records names place m → x ≡ f place (m ∷ ms))
           → x ≡ f 32 (modulesOf records names)
       walk-stops g = let t = walk-turn in g (t .here) (t .rest) (t .stands) ∙ here-same
 
       -- or among the records after it
       pub walk-goes
           : {end : ℕ} → end ≡ recordEnd (recordAt records place)
-          → ((m : Module) (ms : List Module) → Stands records names place m → f (place + moduleBytes m) ms ≡ f place (m ∷ ms))
+          → ((m : Module) (ms : List Module) → RecordStands records names place m → f (place + moduleBytes m) ms ≡ f place (m ∷ ms))
           → Walk f records names end (k + 1)
       walk-goes {end} d g =
           let t = walk-turn in

@@ -7,7 +7,7 @@ ghost use lib.Seq.{sets};
 ghost use Rattle.register.specs.Append.Draft.{roomIn};
 
 // How many of n lent bytes count: those past 2^32 - 1 never do.
-pub fn room(n: usize) -> usize
+pub(crate) fn room(n: usize) -> usize
     ensures { λ r. ⌜ r ≡ roomIn n ⌝ }
 {
     if n < 0xFFFF_FFFF {
@@ -17,7 +17,7 @@ pub fn room(n: usize) -> usize
 }
 
 // Whether `count` bytes from `from` on are among the first `free`.
-pub fn fits(free: usize, from: usize, count: usize) -> bool
+pub(crate) fn fits(free: usize, from: usize, count: usize) -> bool
     ensures { λ r. ⌜ r ≡ leb (from + count) free ⌝ }
 {
     if free < count {
@@ -27,7 +27,7 @@ pub fn fits(free: usize, from: usize, count: usize) -> bool
 }
 
 // Copies `source` into the buffer from `place` on, as far as there are bytes.
-pub fn copy_into(buffer: &mut [u8], place: usize, source: &[u8])
+pub(crate) fn copy_into(buffer: &mut [u8], place: usize, source: &[u8])
     ensures { λ _. ⌜ now (buffer .exit) ≡ sets (now (buffer .entry)) place (now (source .entry)) ⌝ }
 {
     let mut i: usize = 0;
@@ -43,7 +43,7 @@ pub fn copy_into(buffer: &mut [u8], place: usize, source: &[u8])
 }
 
 // Clears the bytes from `from` up to `to`, as far as there are bytes.
-pub fn clear(buffer: &mut [u8], from: usize, to: usize)
+pub(crate) fn clear(buffer: &mut [u8], from: usize, to: usize)
     ensures { λ _. ⌜ now (buffer .exit) ≡ sets (now (buffer .entry)) from (replicate (to - from) 0) ⌝ }
 {
     let mut i = from;

@@ -6,7 +6,7 @@ ghost use Rattle.window.specs.Word.{wordIn};
 ghost use Rattle.register.specs.Words.{flat};
 ghost use Rattle.register.specs.Encode.{recordWords};
 ghost use Rattle.register.specs.Change.Bytes.{lowerWord, lowerExports, lowerRecord};
-ghost use Rattle.register.specs.Change.Lower.{Records};
+ghost use Rattle.register.specs.Change.Lower.{RecordsFrom};
 use crate::record;
 
 // Lowers the word at `place` by d.
@@ -45,8 +45,8 @@ fn lower_record(bytes: &mut [u8], place: usize, d: u32)
 
 // Lowers the name offsets of records, one after another to the end of the bytes.
 pub(crate) fn lower_records(bytes: &mut [u8], d: u32)
-    requires { ⌜ Records d (now bytes) ⌝ }
-    ensures { λ _. ⌜ ((s : Records d (now (bytes .entry))) → now (bytes .exit) ≡ flat (recordWords (s .from - d) (s .modules))) ⌝ }
+    requires { ⌜ RecordsFrom d (now bytes) ⌝ }
+    ensures { λ _. ⌜ ((s : RecordsFrom d (now (bytes .entry))) → now (bytes .exit) ≡ flat (recordWords (s .from - d) (s .modules))) ⌝ }
 {
     let mut place: usize = 0;
     while place < bytes.len() {

@@ -6,8 +6,8 @@ ghost use Rattle.window.specs.Word.{wordIn};
 ghost use Rattle.register.specs.Words.{part, flat};
 ghost use Rattle.register.specs.Encode.{recordWords};
 ghost use Rattle.register.specs.Change.Bytes.{namesEnd, lowerHeader, cutRecord};
-ghost use Rattle.register.specs.Change.Lower.{Records};
-ghost use Rattle.register.specs.Change.Remove.{Stands, remaining};
+ghost use Rattle.register.specs.Change.Lower.{RecordsFrom};
+ghost use Rattle.register.specs.Change.Remove.{RecordOfRegister, remaining};
 use crate::change::gap;
 use crate::change::lower;
 use crate::record;
@@ -36,8 +36,8 @@ fn lower_header(records: &mut [u8], size: u32, gap: u32)
 // Takes the record of `size` bytes at `place` out of the records; `gap` name bytes leave with it.
 fn cut_record(records: &mut [u8], place: usize, size: usize, gap: u32)
     requires { ⌜ (32 ≤ length (now records)) × (size < 2 ^ 32) × (place + size ≤ wordIn (now records) 12) × (wordIn (now records) 12 ≤ length (now records))
-        × Records gap (part (now records) (place + size) (wordIn (now records) 12 - (place + size))) ⌝ }
-    ensures { λ _. ⌜ ((s : Records gap (part (now (records .entry)) (place + size) (wordIn (now (records .entry)) 12 - (place + size))))
+        × RecordsFrom gap (part (now records) (place + size) (wordIn (now records) 12 - (place + size))) ⌝ }
+    ensures { λ _. ⌜ ((s : RecordsFrom gap (part (now (records .entry)) (place + size) (wordIn (now (records .entry)) 12 - (place + size))))
         → now (records .exit) ≡ cutRecord (now (records .entry)) place size gap (flat (recordWords (s .from - gap) (s .modules)))) ⌝ }
 {
     let next = place + size;
@@ -49,8 +49,8 @@ fn cut_record(records: &mut [u8], place: usize, size: usize, gap: u32)
 
 // Removes the record whose words begin at `place`.
 pub fn remove_record(records: &mut [u8], names: &mut [u8], place: usize)
-    requires { ⌜ Stands (now records) (now names) place ⌝ }
-    ensures { λ _. ⌜ ((s : Stands (now (records .entry)) (now (names .entry)) place)
+    requires { ⌜ RecordOfRegister (now records) (now names) place ⌝ }
+    ensures { λ _. ⌜ ((s : RecordOfRegister (now (records .entry)) (now (names .entry)) place)
         → (now (records .exit), now (names .exit)) ≡ remaining s) ⌝ }
 {
     let size = 4 * record::module_size(&records[place..]);

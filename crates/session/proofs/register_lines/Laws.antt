@@ -18,9 +18,9 @@ use Rattle.register.specs.Encode.{flag}
 use Rattle.register.specs.Decode.{isRegister, registerOf, readRegister, slotName}
 use Rattle.register.specs.declared.read.Record.{Record}
 use Rattle.register.specs.Read.Read.{Encoded, modulesOf, moduleBytes, recordAt, recordEnd, moduleAt, recordOf}
-use Rattle.register.specs.Read.Places.{Stands, Standing, stands-end, stands-name}
+use Rattle.register.specs.Read.Places.{RecordStands, RecordsStand, stands-end, stands-name}
 use Rattle.register.specs.Read.Encoded.{modules-stand, module-count, missing-count, missing-name}
-use Rattle.register.specs.Read.Walk.{Turn, turn, unwrapped}
+use Rattle.register.specs.Read.Walk.{WalkStep, turn, unwrapped}
 use Rattle.text.specs.Text.{bytes, hexOf, decimalOf, pairsOf, put}
 use Rattle.text.specs.Laws.{put-append, put-then, put-then-two}
 use Rattle.session.specs.RegisterLines.Lines.{nameText, moduleLine, moduleLines, nameLines, missingLines}
@@ -61,7 +61,7 @@ module-pieces m o e₁ e₂ e₃ e₄ e₅ e₆ e₇ e₈ =
     let f₅ = put-then-two _ _ o f₄ _ e₅ in
     put-then _ _ o (put-then _ _ o (put-then _ _ o f₅ e₆) e₇) e₈
 
-module _ (records names : List ℕ) (place : ℕ) (m : Module) (s : Stands records names place m) {r : Record} {name : List ℕ}
+module _ (records names : List ℕ) (place : ℕ) (m : Module) (s : RecordStands records names place m) {r : Record} {name : List ℕ}
     (er : r ≡ recordAt records place) (en : name ≡ part names (r .«name_offset») (r .«name_length»)) where
   its-record : r ≡ recordOf place (s .offset) m
   its-record = er ∙ s .words
@@ -94,14 +94,14 @@ module _ (records names : List ℕ) (place : ℕ) (m : Module) (s : Stands recor
 
 -- the modules that are left: their records, and their lines
 
-pub record Left (records names : List ℕ) (o : ℕ × List ℕ) (place k : ℕ) (p : ℕ × List ℕ) : Type 0 where
+pub record ModulesLeft (records names : List ℕ) (o : ℕ × List ℕ) (place k : ℕ) (p : ℕ × List ℕ) : Type 0 where
   pub left : List Module
-  pub standing : Standing records names place left
+  pub standing : RecordsStand records names place left
   pub count : k + length left ≡ getD (wordsIn records) 0 0
   pub same : put (moduleLines left) p ≡ put (moduleLines (modulesOf records names)) o
 
 module _ (records names : List ℕ) (o : ℕ × List ℕ) where
-  pub left-starts : Encoded records names → Left records names o 32 0 o
+  pub left-starts : Encoded records names → ModulesLeft records names o 32 0 o
   left-starts e =
       record {
         left = modulesOf records names;
@@ -110,7 +110,7 @@ module _ (records names : List ℕ) (o : ℕ × List ℕ) where
         same = refl;
       }
 
-  module _ {place k : ℕ} {p : ℕ × List ℕ} (w : Left records names o place k p) where
+  module _ {place k : ℕ} {p : ℕ × List ℕ} (w : ModulesLeft records names o place k p) where
     pub left-ends : getD (wordsIn records) 0 0 ≤ k → p ≡ put (moduleLines (modulesOf records names)) o
     unfolding moduleLines put
     left-ends h = go (w .left) (w .count) (w .same)
@@ -123,16 +123,16 @@ module _ (records names : List ℕ) (o : ℕ × List ℕ) where
         go (m ∷ ms) c s = absurd (omega arith)
 
     module _ (h : k < getD (wordsIn records) 0 0) where
-      first : Turn records names place k (w .left)
+      first : WalkStep records names place k (w .left)
       first = turn records names place k (w .left) (w .standing) (w .count) h
 
-      pub left-here : (m : Module) × Stands records names place m
+      pub left-here : (m : Module) × RecordStands records names place m
       left-here = (first .here, first .stands)
 
       pub left-goes
           : {q : ℕ × List ℕ} {r : Record} {end : ℕ} → q ≡ put (moduleLine (moduleAt records names place)) p
           → r ≡ recordAt records place → end ≡ recordEnd r % 2 ^ 64 → length records < 2 ^ 64
-          → Left records names o end (k + 1) q
+          → ModulesLeft records names o end (k + 1) q
       unfolding moduleLines
       left-goes {q} {r} {end} e er ee l =
           let t = first in

@@ -1,4 +1,4 @@
-use Rattle.linker.specs.Calls.Steps.{lent}
+use Rattle.linker.specs.Calls.Steps.{buffers}
 use Rattle.session.proofs.Laws.{is-call, is-bad}
 use borrow.Author.Needs.{needs}
 use Rattle.session.proofs.run_step.Statement.{statement}
@@ -31,13 +31,13 @@ returns c =
     let p16 = p8 .before .before .before .before .before .before .before .before in
     let p22 = p16 .before .before .before .before .before .before in
     let a = p22 .args in
-    is-call (a .at) (lent (a .window .now) (a .records .now) (a .names .now) (a .missing .now)) (p16 .step .given .1) (p8 .make-call .ensures .0)
+    is-call (a .at) (buffers (a .window .now) (a .records .now) (a .names .now) (a .missing .now)) (p16 .step .given .1) (p8 .make-call .ensures .0)
 
 returns-2 : tie.Need-returns-2
 returns-2 c =
     let p6 = c .before .before .before .before .before .before in
     let a = p6 .args in
-    is-bad (a .at) (lent (a .window .now) (a .records .now) (a .names .now) (a .missing .now)) (c .enum-told .given .1)
+    is-bad (a .at) (buffers (a .window .now) (a .records .now) (a .names .now) (a .missing .now)) (c .enum-told .given .1)
 
 pub run-step-spec : {M : Type 1} → statement M
 run-step-spec =

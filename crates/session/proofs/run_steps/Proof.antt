@@ -63,7 +63,7 @@ use Rattle.session.specs.Steps.{stepAt}
 use Rattle.session.proofs.step.Reader.Laws as T′
 use Rattle.session.proofs.step.Step as S
 use Rattle.session.proofs.step.Step.Laws as S′
-use Rattle.session.proofs.step.Reading.{New, Next, Advance, after, mach, Held, Slice, slice-twice, makes-reader, asks-step, advances}
+use Rattle.session.proofs.step.Reading.{NewContract, NextContract, AdvanceContract, after, mach, ReaderOwns, Slice, slice-twice, makes-reader, asks-step, advances}
 use Rattle.session.proofs.step.new.Symbol as new-def
 use Rattle.session.proofs.step.new.Symbol.{name as #session·step·new}
 use Rattle.session.proofs.step.new.Met as new-thm
@@ -73,10 +73,10 @@ use Rattle.session.proofs.step.next_step.Met as next-thm
 use Rattle.session.proofs.step.advance.Symbol as advance-def
 use Rattle.session.proofs.step.advance.Symbol.{name as #session·step·advance}
 use Rattle.session.proofs.step.advance.Met as advance-thm
-use Rattle.session.specs.Ahead.{Placed, Turned, AllRan, Rest, rest-starts, rest-next, rest-over}
-use Rattle.session.proofs.Heads.{Count, Address, counts, addresses}
+use Rattle.session.specs.Ahead.{TextAndBuffers, StepRan, AllRan, StepsLeft, rest-starts, rest-next, rest-over}
+use Rattle.session.proofs.Heads.{CountContract, AddressContract, counts, addresses}
 use Rattle.session.proofs.Turn as F
-use Rattle.session.proofs.Turn.{Five, Alike, alike-trans, placed, Rooms, Mine, RunTurn, runs-turn}
+use Rattle.session.proofs.Turn.{Five, SameLengths, alike-trans, placed, Rooms, Mine, RunTurn, runs-turn}
 use Rattle.session.proofs.run_turn.Symbol as turn-def
 use Rattle.session.proofs.run_turn.Symbol.{name as #session·run-turn}
 use Rattle.session.proofs.run_turn.Met as turn-thm
@@ -144,7 +144,7 @@ module _ {M : Type 1} (𝓤 : URA M) (H : Heap 𝓤) (A : Atoms 𝓤) (W : Given
   abbrev first-bytes : Five (List ℕ)
   first-bytes = F.first κ q x
 
-  abbrev start : Placed
+  abbrev start : TextAndBuffers
   start = placed p first-bytes
 
   abbrev κs : Lfts 6
@@ -202,7 +202,7 @@ module _ {M : Type 1} (𝓤 : URA M) (H : Heap 𝓤) (A : Atoms 𝓤) (W : Given
       move ! (0 ∷ 6 ∷ []) $ fjoin ! $ move ! (1 ∷ 6 ∷ []) $ fjoin ! $ fjoin ! $ move ! (1 ∷ 5 ∷ []) $ fjoin ! $ fjoin ! $ move ! (1 ∷ 4 ∷ []) $ fjoin ! $
       fjoin ! $ move ! (1 ∷ 3 ∷ []) $ fjoin ! $ fjoin ! $ move ! (2 ∷ 1 ∷ 0 ∷ []) $ done !
 
-  exits : (i : ℕ) (ys : Five (List ℕ)) → i < 2 ^ 64 → Alike ys first-bytes → AllRan (now s) n start (placed i ys)
+  exits : (i : ℕ) (ys : Five (List ℕ)) → i < 2 ^ 64 → SameLengths ys first-bytes → AllRan (now s) n start (placed i ys)
       → ent 𝓤 (⋆ 𝓤 H A (‵ (flft κ₀ q₀) ∷ ‵ (Mine κ q x ys) ∷ ‵ (Slice κ₀ s) ∷ [])) (Post (vint w64 i))
   exits i ys i-fits alike all =
       qed W (‵ (flft κ₀ q₀) ∷ ‵ (Mine κ q x ys) ∷ ‵ (Slice κ₀ s) ∷ []) ∵
@@ -224,8 +224,8 @@ module _ {M : Type 1} (𝓤 : URA M) (H : Heap 𝓤) (A : Atoms 𝓤) (W : Given
     i : ℕ
     ys : Five (List ℕ)
     i-fits : i < 2 ^ 64
-    alike : Alike ys first-bytes
-    rest : Rest (now s) n k start (placed i ys)
+    alike : SameLengths ys first-bytes
+    rest : StepsLeft (now s) n k start (placed i ys)
 
   abbrev Nearer : Upto → Upto → Type 0
   Nearer j t = n - j .k < n - t .k
@@ -235,11 +235,11 @@ module _ {M : Type 1} (𝓤 : URA M) (H : Heap 𝓤) (A : Atoms 𝓤) (W : Given
 
   module _ (𝓣 : Tables 𝓤 H) (is : Is (ShrSlice (named 0) κ₀ u8) s (value s ∷ [])) (rooms : Rooms κ q x) (few : n ≤ 64)
       (valid : isRegister (now (x .records)) (now (x .names)) (now (x .missing)) ≡ true)
-      (known-count : Triple 𝓤 (𝓣 .C #session·head·step-count) (Count 𝓤 H A mem run))
-      (known-address : Triple 𝓤 (𝓣 .C #session·head·window-address) (Address 𝓤 H A mem run))
-      (known-new : Triple 𝓤 (𝓣 .C #session·step·new) (New 𝓤 H A mem run))
-      (known-next : Triple 𝓤 (𝓣 .C #session·step·next-step) (Next 𝓤 H A mem run))
-      (known-advance : Triple 𝓤 (𝓣 .C #session·step·advance) (Advance 𝓤 H A mem run))
+      (known-count : Triple 𝓤 (𝓣 .C #session·head·step-count) (CountContract 𝓤 H A mem run))
+      (known-address : Triple 𝓤 (𝓣 .C #session·head·window-address) (AddressContract 𝓤 H A mem run))
+      (known-new : Triple 𝓤 (𝓣 .C #session·step·new) (NewContract 𝓤 H A mem run))
+      (known-next : Triple 𝓤 (𝓣 .C #session·step·next-step) (NextContract 𝓤 H A mem run))
+      (known-advance : Triple 𝓤 (𝓣 .C #session·step·advance) (AdvanceContract 𝓤 H A mem run))
       (known-turn : Triple 𝓤 (𝓣 .C #session·run-turn) (RunTurn 𝓤 H A mem run)) where
     abbrev C : Calls 𝓤 H
     C = 𝓣 .C
@@ -273,8 +273,8 @@ module _ {M : Type 1} (𝓤 : URA M) (H : Heap 𝓤) (A : Atoms 𝓤) (W : Given
           ∷ ‵ (fdies (tyInt w64) l₀) ∷ []
 
       -- with room for the temporaries _27 to _12
-      abbrev Fresh : ℕ → ℕ → List (Item 𝓤)
-      Fresh k i = ‵ (froom held l₂₇ 0) ∷ ‵ (fdies held l₂₇) ∷ ‵ (froom (sliceTy anew) l₂₆ 0) ∷ ‵ (fdies (sliceTy anew) l₂₆) ∷ ‵ (froom anew l₂₅ 0)
+      abbrev WithRooms : ℕ → ℕ → List (Item 𝓤)
+      WithRooms k i = ‵ (froom held l₂₇ 0) ∷ ‵ (fdies held l₂₇) ∷ ‵ (froom (sliceTy anew) l₂₆ 0) ∷ ‵ (fdies (sliceTy anew) l₂₆) ∷ ‵ (froom anew l₂₅ 0)
           ∷ ‵ (fdies anew l₂₅) ∷ ‵ (froom (sliceTy anew) l₂₄ 0) ∷ ‵ (fdies (sliceTy anew) l₂₄) ∷ ‵ (froom anew l₂₃ 0) ∷ ‵ (fdies anew l₂₃)
           ∷ ‵ (froom (sliceTy anew) l₂₂ 0) ∷ ‵ (fdies (sliceTy anew) l₂₂) ∷ ‵ (froom anew l₂₁ 0) ∷ ‵ (fdies anew l₂₁) ∷ ‵ (froom (sliceTy anew) l₂₀ 0)
           ∷ ‵ (fdies (sliceTy anew) l₂₀) ∷ ‵ (froom anew l₁₉ 0) ∷ ‵ (fdies anew l₁₉) ∷ ‵ (froom (sliceTy anew) l₁₈ 0) ∷ ‵ (fdies (sliceTy anew) l₁₈)
@@ -283,8 +283,8 @@ module _ {M : Type 1} (𝓤 : URA M) (H : Heap 𝓤) (A : Atoms 𝓤) (W : Given
           ∷ ‵ (froom S′.mir l₁₂ 0) ∷ ‵ (fdies S′.mir l₁₂) ∷ Base k i
 
       -- with the step's machine value u in _12
-      abbrev Asked : Val → ℕ → ℕ → List (Item 𝓤)
-      Asked u k i = ‵ (froom held l₂₇ 0) ∷ ‵ (fdies held l₂₇) ∷ ‵ (froom (sliceTy anew) l₂₆ 0) ∷ ‵ (fdies (sliceTy anew) l₂₆) ∷ ‵ (froom anew l₂₅ 0)
+      abbrev WithStep : Val → ℕ → ℕ → List (Item 𝓤)
+      WithStep u k i = ‵ (froom held l₂₇ 0) ∷ ‵ (fdies held l₂₇) ∷ ‵ (froom (sliceTy anew) l₂₆ 0) ∷ ‵ (fdies (sliceTy anew) l₂₆) ∷ ‵ (froom anew l₂₅ 0)
           ∷ ‵ (fdies anew l₂₅) ∷ ‵ (froom (sliceTy anew) l₂₄ 0) ∷ ‵ (fdies (sliceTy anew) l₂₄) ∷ ‵ (froom anew l₂₃ 0) ∷ ‵ (fdies anew l₂₃)
           ∷ ‵ (froom (sliceTy anew) l₂₂ 0) ∷ ‵ (fdies (sliceTy anew) l₂₂) ∷ ‵ (froom anew l₂₁ 0) ∷ ‵ (fdies anew l₂₁) ∷ ‵ (froom (sliceTy anew) l₂₀ 0)
           ∷ ‵ (fdies (sliceTy anew) l₂₀) ∷ ‵ (froom anew l₁₉ 0) ∷ ‵ (fdies anew l₁₉) ∷ ‵ (froom (sliceTy anew) l₁₈ 0) ∷ ‵ (fdies (sliceTy anew) l₁₈)
@@ -292,8 +292,8 @@ module _ {M : Type 1} (𝓤 : URA M) (H : Heap 𝓤) (A : Atoms 𝓤) (W : Given
           ∷ ‵ (fdies held l₁₅) ∷ ‵ (froom tyBool l₁₄ 0) ∷ ‵ (fdies tyBool l₁₄) ∷ ‵ (froom (tyInt w32) l₁₃ 0) ∷ ‵ (fdies (tyInt w32) l₁₃)
           ∷ ‵ (fat fullShare S′.mir l₁₂ 0 u) ∷ ‵ (fdies S′.mir l₁₂) ∷ Base k i
 
-      abbrev Empty : List (Item 𝓤)
-      Empty = ‵ (froom held l₂₇ 0) ∷ ‵ (fdies held l₂₇) ∷ ‵ (froom (sliceTy anew) l₂₆ 0) ∷ ‵ (fdies (sliceTy anew) l₂₆) ∷ ‵ (froom anew l₂₅ 0)
+      abbrev AllRooms : List (Item 𝓤)
+      AllRooms = ‵ (froom held l₂₇ 0) ∷ ‵ (fdies held l₂₇) ∷ ‵ (froom (sliceTy anew) l₂₆ 0) ∷ ‵ (fdies (sliceTy anew) l₂₆) ∷ ‵ (froom anew l₂₅ 0)
           ∷ ‵ (fdies anew l₂₅) ∷ ‵ (froom (sliceTy anew) l₂₄ 0) ∷ ‵ (fdies (sliceTy anew) l₂₄) ∷ ‵ (froom anew l₂₃ 0) ∷ ‵ (fdies anew l₂₃)
           ∷ ‵ (froom (sliceTy anew) l₂₂ 0) ∷ ‵ (fdies (sliceTy anew) l₂₂) ∷ ‵ (froom anew l₂₁ 0) ∷ ‵ (fdies anew l₂₁) ∷ ‵ (froom (sliceTy anew) l₂₀ 0)
           ∷ ‵ (fdies (sliceTy anew) l₂₀) ∷ ‵ (froom anew l₁₉ 0) ∷ ‵ (fdies anew l₁₉) ∷ ‵ (froom (sliceTy anew) l₁₈ 0) ∷ ‵ (fdies (sliceTy anew) l₁₈)
@@ -307,8 +307,8 @@ module _ {M : Type 1} (𝓤 : URA M) (H : Heap 𝓤) (A : Atoms 𝓤) (W : Given
           ∷ ‵ (fdies (tyInt w64) l₀) ∷ []
 
       -- as the function is entered
-      abbrev Entered : List (Item 𝓤)
-      Entered = ‵ (froom held l₂₇ 0) ∷ ‵ (fdies held l₂₇) ∷ ‵ (froom (sliceTy anew) l₂₆ 0) ∷ ‵ (fdies (sliceTy anew) l₂₆) ∷ ‵ (froom anew l₂₅ 0)
+      abbrev AtEntry : List (Item 𝓤)
+      AtEntry = ‵ (froom held l₂₇ 0) ∷ ‵ (fdies held l₂₇) ∷ ‵ (froom (sliceTy anew) l₂₆ 0) ∷ ‵ (fdies (sliceTy anew) l₂₆) ∷ ‵ (froom anew l₂₅ 0)
           ∷ ‵ (fdies anew l₂₅) ∷ ‵ (froom (sliceTy anew) l₂₄ 0) ∷ ‵ (fdies (sliceTy anew) l₂₄) ∷ ‵ (froom anew l₂₃ 0) ∷ ‵ (fdies anew l₂₃)
           ∷ ‵ (froom (sliceTy anew) l₂₂ 0) ∷ ‵ (fdies (sliceTy anew) l₂₂) ∷ ‵ (froom anew l₂₁ 0) ∷ ‵ (fdies anew l₂₁) ∷ ‵ (froom (sliceTy anew) l₂₀ 0)
           ∷ ‵ (fdies (sliceTy anew) l₂₀) ∷ ‵ (froom anew l₁₉ 0) ∷ ‵ (fdies anew l₁₉) ∷ ‵ (froom (sliceTy anew) l₁₈ 0) ∷ ‵ (fdies (sliceTy anew) l₁₈)
@@ -322,16 +322,16 @@ module _ {M : Type 1} (𝓤 : URA M) (H : Heap 𝓤) (A : Atoms 𝓤) (W : Given
           ∷ ‵ (fdies (given 2) l₃) ∷ ‵ (fat fullShare (given 1) l₂ 0 (value (x .window))) ∷ ‵ (fdies (given 1) l₂)
           ∷ ‵ (fat fullShare shared l₁ 0 (value s)) ∷ ‵ (fdies shared l₁) ∷ ‵ (froom (tyInt w64) l₀ 0) ∷ ‵ (fdies (tyInt w64) l₀) ∷ []
 
-      abbrev At : Upto → List (Item 𝓤)
-      At t = ‵ (Held κ₀ s (t .k)) ∷ ‵ (flft κ₀ q₀) ∷ ‵ (Mine κ q x (t .ys)) ∷ ‵ (Slice κ₀ s) ∷ Fresh (t .k) (t .i)
+      abbrev AtStep : Upto → List (Item 𝓤)
+      AtStep t = ‵ (ReaderOwns κ₀ s (t .k)) ∷ ‵ (flft κ₀ q₀) ∷ ‵ (Mine κ q x (t .ys)) ∷ ‵ (Slice κ₀ s) ∷ WithRooms (t .k) (t .i)
 
       abbrev TurnEnds : Upto → Out → SProp 𝓤
-      TurnEnds t = afterTurn 𝓤 H (Below 𝓤 H A Nearer At t) (afterBlock 𝓤 H (afterSeq 𝓤 H (Wp 𝓤 H C Λ En body.t-6 (atReturn 𝓤 H En Post))
+      TurnEnds t = afterTurn 𝓤 H (Below 𝓤 H A Nearer AtStep t) (afterBlock 𝓤 H (afterSeq 𝓤 H (Wp 𝓤 H C Λ En body.t-6 (atReturn 𝓤 H En Post))
           (atReturn 𝓤 H En Post)))
 
       -- the locals are freed, and the function ends
-      ends : (i : ℕ) (ys : Five (List ℕ)) → i < 2 ^ 64 → Alike ys first-bytes → AllRan (now s) n start (placed i ys)
-          → Sq W (‵ (flft κ₀ q₀) ∷ ‵ (Mine κ q x ys) ∷ ‵ (Slice κ₀ s) ∷ Empty) (frees En (prop (Post (vint w64 i))))
+      ends : (i : ℕ) (ys : Five (List ℕ)) → i < 2 ^ 64 → SameLengths ys first-bytes → AllRan (now s) n start (placed i ys)
+          → Sq W (‵ (flft κ₀ q₀) ∷ ‵ (Mine κ q x ys) ∷ ‵ (Slice κ₀ s) ∷ AllRooms) (frees En (prop (Post (vint w64 i))))
       ends i ys t-fits alike all =
           move ! (57 ∷ 58 ∷ []) $ free1 ! $ move ! (55 ∷ 56 ∷ []) $ free1 ! $ move ! (53 ∷ 54 ∷ []) $ free1 ! $ move ! (51 ∷ 52 ∷ []) $ free1 ! $
           move ! (49 ∷ 50 ∷ []) $ free1 ! $ move ! (47 ∷ 48 ∷ []) $ free1 ! $ move ! (45 ∷ 46 ∷ []) $ free1 ! $ move ! (43 ∷ 44 ∷ []) $ free1 ! $
@@ -343,16 +343,16 @@ module _ {M : Type 1} (𝓤 : URA M) (H : Heap 𝓤) (A : Atoms 𝓤) (W : Given
           by ! (exits i ys t-fits alike all)
 
       -- the step has run, and the reader advances
-      advanced : (t : Upto) (r : ℕ) (zs : Five (List ℕ)) → t .k < n → r < 2 ^ 64 → Alike zs (t .ys)
-          → Turned (stepAt (now s) (t .k)) a (t .k) (placed (t .i) (t .ys)) (placed r zs)
-          → Sq W (‵ (Mine κ q x zs) ∷ ‵ (flft κ₀ q₀) ∷ ‵ (Held κ₀ s (t .k)) ∷ ‵ (Slice κ₀ s) ∷ Fresh (t .k) r) (runs C Λ En advancing (anyQ (TurnEnds t)))
+      advanced : (t : Upto) (r : ℕ) (zs : Five (List ℕ)) → t .k < n → r < 2 ^ 64 → SameLengths zs (t .ys)
+          → StepRan (stepAt (now s) (t .k)) a (t .k) (placed (t .i) (t .ys)) (placed r zs)
+          → Sq W (‵ (Mine κ q x zs) ∷ ‵ (flft κ₀ q₀) ∷ ‵ (ReaderOwns κ₀ s (t .k)) ∷ ‵ (Slice κ₀ s) ∷ WithRooms (t .k) r) (runs C Λ En advancing (anyQ (TurnEnds t)))
       unfolding afterTurn
       advanced t r zs less r-fits l ran =
           assigns ! (of-opd ! (load ! (from ! (stop !)) (look ! 36 refl)))
           (from ! (stop !)) (init ! 4 refl (typed (t .k) k-fits)) $ move ! (2 ∷ 1 ∷ []) $
           advances ! fm mem run κ₀ q₀ s (t .k) next-fits known-advance (and-then ! (load ! (from ! (stop !)) (look ! 3 refl)) (no-more !)) $
           land-last ! (from ! (stop !)) (store ! 36 refl (typed (t .k + 1) next-fits)) $ forget ! 4 refl $
-          again ! Nearer At t (record {
+          again ! Nearer AtStep t (record {
             k = t .k + 1;
             i = r;
             ys = zs;
@@ -369,8 +369,8 @@ module _ {M : Type 1} (𝓤 : URA M) (H : Heap 𝓤) (A : Atoms 𝓤) (W : Given
 
       -- the step is in _12: the slices are lent again, and it runs
       ran : (t : Upto) (u : Val) → a < 2 ^ 32 → t .k < n
-          → Sq W (‵ (S.the-row .own (stepAt (now s) (t .k)) (u ∷ [])) ∷ ‵ (flft κ₀ q₀) ∷ ‵ (Held κ₀ s (t .k)) ∷ ‵ (Mine κ q x (t .ys)) ∷ ‵ (Slice κ₀ s)
-          ∷ Asked u (t .k) (t .i)) (runs C Λ En asked (anyQ (TurnEnds t)))
+          → Sq W (‵ (S.the-row .own (stepAt (now s) (t .k)) (u ∷ [])) ∷ ‵ (flft κ₀ q₀) ∷ ‵ (ReaderOwns κ₀ s (t .k)) ∷ ‵ (Mine κ q x (t .ys)) ∷ ‵ (Slice κ₀ s)
+          ∷ WithStep u (t .k) (t .i)) (runs C Λ En asked (anyQ (TurnEnds t)))
       ran t u a-fits less =
           assigns ! (of-opd ! (load ! (from ! (fld ! refl (stop !))) (look-in ! 37 (sub ! 1 refl (whole !)))))
           (from ! (stop !)) (init ! 27 refl (tt, record { fits = k-fits })) $
@@ -418,7 +418,7 @@ module _ {M : Type 1} (𝓤 : URA M) (H : Heap 𝓤) (A : Atoms 𝓤) (W : Given
           k-fits : t .k < 2 ^ 32
           k-fits = omega (arith, less, few)
 
-      turns : a < 2 ^ 32 → (t : Upto) → Sq W (At t) (runs C Λ En body.turn-1 (anyQ (TurnEnds t)))
+      turns : a < 2 ^ 32 → (t : Upto) → Sq W (AtStep t) (runs C Λ En body.turn-1 (anyQ (TurnEnds t)))
       unfolding afterTurn
       turns a-fits t =
           assigns ! (of-opd ! (load ! (from ! (fld ! refl (stop !))) (look-in ! 36 (sub ! 1 refl (whole !)))))
@@ -454,7 +454,7 @@ module _ {M : Type 1} (𝓤 : URA M) (H : Heap 𝓤) (A : Atoms 𝓤) (W : Given
       }
 
       -- the count and the address are read, the reader is made, and the loop runs
-      begins : Sq W (‵ (flft κ₀ q₀) ∷ ‵ (Slice κ₀ s) ∷ ‵ (Mine κ q x first-bytes) ∷ Entered) (runs C Λ En body.t-1 (atRet En Post))
+      begins : Sq W (‵ (flft κ₀ q₀) ∷ ‵ (Slice κ₀ s) ∷ ‵ (Mine κ q x first-bytes) ∷ AtEntry) (runs C Λ En body.t-1 (atRet En Post))
       begins =
           slice-twice ! κ₀ q₀ s $ counts ! fm mem run κ₀ q₀ s known-count (and-then ! (load ! (from ! (stop !)) (look ! 55 refl)) (no-more !)) (λ n-fits.
           land ! (from ! (stop !)) (init ! 41 refl (tt, record { fits = n-fits })) $
@@ -463,7 +463,7 @@ module _ {M : Type 1} (𝓤 : URA M) (H : Heap 𝓤) (A : Atoms 𝓤) (W : Given
           assigns ! (of-opd ! (load ! (from ! (stop !)) (look ! 43 refl))) (from ! (stop !)) (init ! 37 refl (tt, record { fits = p-fits })) $
           slice-twice ! κ₀ q₀ s $ makes-reader ! fm mem run κ₀ q₀ s known-new (and-then ! (load ! (from ! (stop !)) (look ! 55 refl)) (no-more !)) $
           land ! (from ! (stop !)) (init ! 36 refl (typed 0 (lit< tt))) $ move ! (0 ∷ 1 ∷ 3 ∷ []) $
-          first ! $ blocks ! $ loops ! 𝓣 Nearer Nearer-wf At (turns a-fits) begun))
+          first ! $ blocks ! $ loops ! 𝓣 Nearer Nearer-wf AtStep (turns a-fits) begun))
 
     abbrev passed : List Val
     passed = value s ∷ value (x .window) ∷ value (x .records) ∷ value (x .names) ∷ value (x .missing) ∷ value (x .out) ∷ vint w64 p ∷ []
@@ -487,11 +487,11 @@ module _ {M : Type 1} (𝓤 : URA M) (H : Heap 𝓤) (A : Atoms 𝓤) (W : Given
         begins l₀ l₁ l₂ l₃ l₄ l₅ l₆ l₇ l₈ l₉ l₁₀ l₁₁ l₁₂ l₁₃ l₁₄ l₁₅ l₁₆ l₁₇ l₁₈ l₁₉ l₂₀ l₂₁ l₂₂ l₂₃ l₂₄ l₂₅ l₂₆ l₂₇))))))))))))))))))))))))))))
 
 module _ {M : Type 1} (𝓤 : URA M) (H : Heap 𝓤) (A : Atoms 𝓤) (W : Given 𝓤 H A) (mem : Memory → SProp 𝓤) (run : Routine → Fun 𝓤) (𝓣 : Tables 𝓤 H)
-    (known-count : Triple 𝓤 (𝓣 .C #session·head·step-count) (Count 𝓤 H A mem run))
-    (known-address : Triple 𝓤 (𝓣 .C #session·head·window-address) (Address 𝓤 H A mem run))
-    (known-new : Triple 𝓤 (𝓣 .C #session·step·new) (New 𝓤 H A mem run))
-    (known-next : Triple 𝓤 (𝓣 .C #session·step·next-step) (Next 𝓤 H A mem run))
-    (known-advance : Triple 𝓤 (𝓣 .C #session·step·advance) (Advance 𝓤 H A mem run))
+    (known-count : Triple 𝓤 (𝓣 .C #session·head·step-count) (CountContract 𝓤 H A mem run))
+    (known-address : Triple 𝓤 (𝓣 .C #session·head·window-address) (AddressContract 𝓤 H A mem run))
+    (known-new : Triple 𝓤 (𝓣 .C #session·step·new) (NewContract 𝓤 H A mem run))
+    (known-next : Triple 𝓤 (𝓣 .C #session·step·next-step) (NextContract 𝓤 H A mem run))
+    (known-advance : Triple 𝓤 (𝓣 .C #session·step·advance) (AdvanceContract 𝓤 H A mem run))
     (known-turn : Triple 𝓤 (𝓣 .C #session·run-turn) (RunTurn 𝓤 H A mem run)) where
   steps-walks : Walks 𝓤 H A steps.ended stayed (WpFn 𝓤 H (𝓣 .C) (𝓣 .Λ) code.function) (steps.clauses 𝓤 H A mem run)
   steps-walks = walked 𝓤 H A steps.ended stayed (steps.clauses 𝓤 H A mem run) (WpFn 𝓤 H (𝓣 .C) (𝓣 .Λ) code.function)
@@ -547,14 +547,14 @@ run-steps-spec 𝓤 H 𝓜 𝓖 𝓡 =
     entered 𝓤 H (tripleOf 𝓤 H (𝓖 .A) steps.signature (steps.spec 𝓤 H (𝓖 .A) (𝓜 .mem) (𝓡 .run)))
     (tables 𝓤 H 𝓜 𝓡 code.env .C) (tables 𝓤 H 𝓜 𝓡 code.env .Λ) #session·run-steps code.function (code.unfolded 𝓤 H 𝓜 𝓡)
     (steps-meets 𝓤 H (𝓖 .A) (givenOf 𝓤 H 𝓜 𝓖) (𝓜 .mem) (𝓡 .run) (tablesOf 𝓤 H 𝓜 (tables 𝓤 H 𝓜 𝓡 code.env))
-    (cited 𝓤 H (Count 𝓤 H (𝓖 .A) (𝓜 .mem) (𝓡 .run)) 𝓜 𝓡 code.env #session·head·step-count count-def.routine code.calls-session·head·step-count
+    (cited 𝓤 H (CountContract 𝓤 H (𝓖 .A) (𝓜 .mem) (𝓡 .run)) 𝓜 𝓡 code.env #session·head·step-count count-def.routine code.calls-session·head·step-count
     (count-thm.met 𝓤 H 𝓜 𝓖 𝓡))
-    (cited 𝓤 H (Address 𝓤 H (𝓖 .A) (𝓜 .mem) (𝓡 .run)) 𝓜 𝓡 code.env #session·head·window-address address-def.routine
+    (cited 𝓤 H (AddressContract 𝓤 H (𝓖 .A) (𝓜 .mem) (𝓡 .run)) 𝓜 𝓡 code.env #session·head·window-address address-def.routine
     code.calls-session·head·window-address (address-thm.met 𝓤 H 𝓜 𝓖 𝓡))
-    (cited 𝓤 H (New 𝓤 H (𝓖 .A) (𝓜 .mem) (𝓡 .run)) 𝓜 𝓡 code.env #session·step·new new-def.routine code.calls-session·step·new (new-thm.met 𝓤 H 𝓜 𝓖 𝓡))
-    (cited 𝓤 H (Next 𝓤 H (𝓖 .A) (𝓜 .mem) (𝓡 .run)) 𝓜 𝓡 code.env #session·step·next-step next-def.routine code.calls-session·step·next-step
+    (cited 𝓤 H (NewContract 𝓤 H (𝓖 .A) (𝓜 .mem) (𝓡 .run)) 𝓜 𝓡 code.env #session·step·new new-def.routine code.calls-session·step·new (new-thm.met 𝓤 H 𝓜 𝓖 𝓡))
+    (cited 𝓤 H (NextContract 𝓤 H (𝓖 .A) (𝓜 .mem) (𝓡 .run)) 𝓜 𝓡 code.env #session·step·next-step next-def.routine code.calls-session·step·next-step
     (next-thm.met 𝓤 H 𝓜 𝓖 𝓡))
-    (cited 𝓤 H (Advance 𝓤 H (𝓖 .A) (𝓜 .mem) (𝓡 .run)) 𝓜 𝓡 code.env #session·step·advance advance-def.routine code.calls-session·step·advance
+    (cited 𝓤 H (AdvanceContract 𝓤 H (𝓖 .A) (𝓜 .mem) (𝓡 .run)) 𝓜 𝓡 code.env #session·step·advance advance-def.routine code.calls-session·step·advance
     (advance-thm.met 𝓤 H 𝓜 𝓖 𝓡))
     (cited 𝓤 H (RunTurn 𝓤 H (𝓖 .A) (𝓜 .mem) (𝓡 .run)) 𝓜 𝓡 code.env #session·run-turn turn-def.routine code.calls-session·run-turn
     (turn-thm.met 𝓤 H 𝓜 𝓖 𝓡)))

@@ -1,4 +1,4 @@
-use Rattle.linker.specs.Calls.Steps.{lent}
+use Rattle.linker.specs.Calls.Steps.{buffers}
 use Rattle.session.proofs.Laws.{turned}
 use borrow.Author.Needs.{needs}
 use Rattle.session.proofs.run_turn.Statement.{statement}
@@ -37,7 +37,7 @@ returns c =
     let p2 = c .before .before in
     let p12 = p2 .before .before .before .before .before .before .before .before .before .before in
     let a = p12 .before .before .before .before .before .before .before .before .before .before .args in
-    turned (a .step) (a .address) (a .k) (a .at, a .out .now) (lent (a .window .now) (a .records .now) (a .names .now) (a .missing .now))
+    turned (a .step) (a .address) (a .k) (a .at, a .out .now) (buffers (a .window .now) (a .records .now) (a .names .now) (a .missing .now))
     (p12 .run-step .ensures) (p2 .put-step .ensures)
 
 pub run-turn-spec : {M : Type 1} → statement M

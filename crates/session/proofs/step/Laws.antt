@@ -7,19 +7,19 @@ use lib.Dec.{eqb}
 use borrow.Author.Tests.{ne-eqb}
 use Rattle.window.specs.Memory.{if_then_else_}
 use Rattle.register.specs.Words.{allZero}
-use Rattle.linker_spec.specs.declared.rebase.Lent.{Lent}
+use Rattle.linker_spec.specs.declared.rebase.LoadArguments.{LoadArguments}
 use Rattle.session.specs.declared.step.Step.{Step}
 use Rattle.linker_spec.specs.declared.call.Call.the-variants.{Initialize, Load, Unload}
 use Rattle.session.specs.declared.step.Step.the-variants.{Bad}
 use Rattle.session.specs.Steps.{stepOf}
 
 -- nine words as a step, six of them in l
-module _ (call : ℕ) (l : Lent) (auto level : ℕ) where
+module _ (call : ℕ) (l : LoadArguments) (auto level : ℕ) where
   abbrev rest : List ℕ
-  rest = l .«data_at» ∷ l .«data_size» ∷ l .«bss_at» ∷ l .«bss_size» ∷ auto ∷ level ∷ []
+  rest = l .«data_segment» ∷ l .«data_segment_size» ∷ l .«bss_segment» ∷ l .«bss_segment_size» ∷ auto ∷ level ∷ []
 
   abbrev step : Step
-  step = stepOf call (l .base) (l .size) (l .«data_at») (l .«data_size») (l .«bss_at») (l .«bss_size») auto level
+  step = stepOf call (l .base) (l .size) (l .«data_segment») (l .«data_segment_size») (l .«bss_segment») (l .«bss_segment_size») auto level
 
   pub is-load : call ≡ 2 → Step.Call (Load l auto level) ≡ step
   unfolding stepOf

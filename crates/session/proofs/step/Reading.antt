@@ -51,14 +51,14 @@ use Rattle.session.proofs.step.advance as advance
 
 module _ {M : Type 1} (𝓤 : URA M) (H : Heap 𝓤) (A : Atoms 𝓤) (mem : Memory → SProp 𝓤) (run : Routine → Fun 𝓤) where
   -- the three contracts
-  abbrev pub New : Contract 𝓤
-  New = tripleOf 𝓤 H A new.signature (new.spec 𝓤 H A mem run)
+  abbrev pub NewContract : Contract 𝓤
+  NewContract = tripleOf 𝓤 H A new.signature (new.spec 𝓤 H A mem run)
 
-  abbrev pub Next : Contract 𝓤
-  Next = tripleOf 𝓤 H A next.signature (next.spec 𝓤 H A mem run)
+  abbrev pub NextContract : Contract 𝓤
+  NextContract = tripleOf 𝓤 H A next.signature (next.spec 𝓤 H A mem run)
 
-  abbrev pub Advance : Contract 𝓤
-  Advance = tripleOf 𝓤 H A advance.signature (advance.spec 𝓤 H A mem run)
+  abbrev pub AdvanceContract : Contract 𝓤
+  AdvanceContract = tripleOf 𝓤 H A advance.signature (advance.spec 𝓤 H A mem run)
 
 -- what follows the first part of a sequence
 abbrev pub after : Body → Body
@@ -87,8 +87,8 @@ abbrev B : Lft → RattleType
 B κ = T.the-row (α κ)
 
 -- what the reader owns
-abbrev pub Held : Lft → RefT (List ℕ) → ℕ → Fml
-Held κ s k = B κ .own (reader s k) (mach s k ∷ [])
+abbrev pub ReaderOwns : Lft → RefT (List ℕ) → ℕ → Fml
+ReaderOwns κ s k = B κ .own (reader s k) (mach s k ∷ [])
 
 abbrev pub Slice : Lft → RefT (List ℕ) → Fml
 Slice κ s = ShrSlice (named 0) κ u8 .own s (sliceVal (s .ptr) (length (s .now)) ∷ [])
@@ -99,26 +99,26 @@ module _ {M : Type 1} (𝓤 : URA M) (H : Heap 𝓤) (A : Atoms 𝓤) (W : Given
   v = sliceVal (s .ptr) (length (s .now))
 
   -- what each call's triple binds outside
-  abbrev pub to-new : New 𝓤 H A mem run .Ghost
+  abbrev pub to-new : NewContract 𝓤 H A mem run .Ghost
   to-new = (((κ, tt), (q, tt), tt, (s, tt), (v ∷ [], tt)), tt)
 
-  abbrev pub to-next : ℕ → Next 𝓤 H A mem run .Ghost
+  abbrev pub to-next : ℕ → NextContract 𝓤 H A mem run .Ghost
   to-next k = (((κ, tt), (q, tt), tt, (reader s k, tt), (mach s k ∷ [], tt)), tt)
 
-  abbrev pub to-advance : ℕ → Advance 𝓤 H A mem run .Ghost
+  abbrev pub to-advance : ℕ → AdvanceContract 𝓤 H A mem run .Ghost
   to-advance k = (((κ, tt), (q, tt), tt, (reader s k, tt), (mach s k ∷ [], tt)), tt)
 
   -- what each call asks
-  asks-new : ent 𝓤 (sep 𝓤 (sem 𝓤 H A (Slice κ s)) (A .lft κ q)) (New 𝓤 H A mem run .pre to-new)
+  asks-new : ent 𝓤 (sep 𝓤 (sem 𝓤 H A (Slice κ s)) (A .lft κ q)) (NewContract 𝓤 H A mem run .pre to-new)
   asks-new = qed W (‵ (Slice κ s) ∷ ‵ (flft κ q) ∷ []) ∵ nothing ! $ move ! (1 ∷ 0 ∷ []) $ fjoin ! $ nothing ! $ move ! (2 ∷ 0 ∷ []) $ join ! $ join ! $
       frame ! $ done !
 
-  asks-next : (k : ℕ) → ent 𝓤 (sep 𝓤 (sem 𝓤 H A (Held κ s k)) (A .lft κ q)) (Next 𝓤 H A mem run .pre (to-next k))
-  asks-next k = qed W (‵ (Held κ s k) ∷ ‵ (flft κ q) ∷ []) ∵ nothing ! $ move ! (1 ∷ 0 ∷ []) $ fjoin ! $ nothing ! $ move ! (2 ∷ 0 ∷ []) $ join ! $
+  asks-next : (k : ℕ) → ent 𝓤 (sep 𝓤 (sem 𝓤 H A (ReaderOwns κ s k)) (A .lft κ q)) (NextContract 𝓤 H A mem run .pre (to-next k))
+  asks-next k = qed W (‵ (ReaderOwns κ s k) ∷ ‵ (flft κ q) ∷ []) ∵ nothing ! $ move ! (1 ∷ 0 ∷ []) $ fjoin ! $ nothing ! $ move ! (2 ∷ 0 ∷ []) $ join ! $
       join ! $ frame ! $ done !
 
-  asks-advance : (k : ℕ) → k + 1 < 2 ^ 32 → ent 𝓤 (sep 𝓤 (sem 𝓤 H A (Held κ s k)) (A .lft κ q)) (Advance 𝓤 H A mem run .pre (to-advance k))
-  asks-advance k ok = qed W (‵ (Held κ s k) ∷ ‵ (flft κ q) ∷ []) ∵ says ! ok $ nothing ! $ move ! (1 ∷ 0 ∷ []) $ fjoin ! $ nothing ! $
+  asks-advance : (k : ℕ) → k + 1 < 2 ^ 32 → ent 𝓤 (sep 𝓤 (sem 𝓤 H A (ReaderOwns κ s k)) (A .lft κ q)) (AdvanceContract 𝓤 H A mem run .pre (to-advance k))
+  asks-advance k ok = qed W (‵ (ReaderOwns κ s k) ∷ ‵ (flft κ q) ∷ []) ∵ says ! ok $ nothing ! $ move ! (1 ∷ 0 ∷ []) $ fjoin ! $ nothing ! $
       move ! (2 ∷ 0 ∷ []) $ join ! $ frame ! $ done !
 
   -- what each call ensures
@@ -147,13 +147,13 @@ module _ {M : Type 1} {𝓤 : URA M} {H : Heap 𝓤} {A : Atoms 𝓤} {K : Type 
 module _ {M : Type 1} {𝓤 : URA M} {H : Heap 𝓤} {A : Atoms 𝓤} {K : Type 0} {W : Given 𝓤 H A} {Γ : List (Item 𝓤)} {E : Env 𝓤 H} {C : Calls 𝓤 H}
     {Λ : Loops 𝓤 H} {f : Name} {xs : List Operand} {d : Place} {qo : Post 𝓤 H} (t : K) (fm : FmC 𝓤 H (W .laws) C) (mem : Memory → SProp 𝓤)
     (run : Routine → Fun 𝓤) (κ : Lft) (q : Share) (s : RefT (List ℕ)) where
-  pub makes-reader : {rest : Body} → Triple 𝓤 (C f) (New 𝓤 H A mem run)
-      → Opds K W (raw (New 𝓤 H A mem run .pre (to-new 𝓤 H A W mem run κ q s)) ∷ Γ) E xs (sliceVal (s .ptr) (length (s .now)) ∷ [])
-      → Step K W (‵ (Held κ s 0) ∷ ‵ (flft κ q) ∷ Γ) (lands C Λ E d (mach s 0) rest qo)
+  pub makes-reader : {rest : Body} → Triple 𝓤 (C f) (NewContract 𝓤 H A mem run)
+      → Opds K W (raw (NewContract 𝓤 H A mem run .pre (to-new 𝓤 H A W mem run κ q s)) ∷ Γ) E xs (sliceVal (s .ptr) (length (s .now)) ∷ [])
+      → Step K W (‵ (ReaderOwns κ s 0) ∷ ‵ (flft κ q) ∷ Γ) (lands C Λ E d (mach s 0) rest qo)
       (‵ (Slice κ s) ∷ ‵ (flft κ q) ∷ Γ) (runs C Λ E (seq (call f xs d) rest) qo)
   makes-reader {rest} known os = step (λ go.
-      use2 W (raw (New 𝓤 H A mem run .pre (to-new 𝓤 H A W mem run κ q s))) (asks-new 𝓤 H A W mem run κ q s) $
-      calls-at t fm (New 𝓤 H A mem run) known (to-new 𝓤 H A W mem run κ q s) os (λ u.
+      use2 W (raw (NewContract 𝓤 H A mem run .pre (to-new 𝓤 H A W mem run κ q s))) (asks-new 𝓤 H A W mem run κ q s) $
+      calls-at t fm (NewContract 𝓤 H A mem run) known (to-new 𝓤 H A W mem run κ q s) os (λ u.
       use1 W (later (some (λ (r : Reader). ((‵ (flft κ q) ⊛ ‵ ftrue) ⊛ ‵ (B κ .own r (u ∷ []))) ⊛ raw
       (ensured 𝓤 H A new.ended (new.clauses 𝓤 H A mem run) (κ, tt) (s, tt) tt r)))) (id⊢ 𝓤 _) $ await t tt $ pick t (λ r.
       split t $ move t (1 ∷ []) $ use1 W (raw (fact 𝓤 ((r .file ≡ s) × (r .next ≡ 0)))) (new-said 𝓤 H A W mem run κ q s r) $
@@ -163,29 +163,29 @@ module _ {M : Type 1} {𝓤 : URA M} {H : Heap 𝓤} {A : Atoms 𝓤} {K : Type 
       (subst (λ (x : Reader). Seq K W (‵ (B κ .own x (T′.lowered x ∷ [])) ∷ ‵ (flft κ q) ∷ Γ) (lands C Λ E d (T′.lowered x) rest qo))
       (λ i. record { file = sym (e .0) i; next = sym (e .1) i }) go))))))
 
-  pub asks-step : {rest : Body} (k : ℕ) → Triple 𝓤 (C f) (Next 𝓤 H A mem run)
-      → Opds K W (raw (Next 𝓤 H A mem run .pre (to-next 𝓤 H A W mem run κ q s k)) ∷ ‵ (Held κ s k) ∷ Γ) E xs (mach s k ∷ [])
-      → ((u : Val) → Is S.the-row (stepAt (now s) k) (u ∷ []) → Seq K W (‵ (S.the-row .own (stepAt (now s) k) (u ∷ [])) ∷ ‵ (flft κ q) ∷ ‵ (Held κ s k) ∷ Γ)
+  pub asks-step : {rest : Body} (k : ℕ) → Triple 𝓤 (C f) (NextContract 𝓤 H A mem run)
+      → Opds K W (raw (NextContract 𝓤 H A mem run .pre (to-next 𝓤 H A W mem run κ q s k)) ∷ ‵ (ReaderOwns κ s k) ∷ Γ) E xs (mach s k ∷ [])
+      → ((u : Val) → Is S.the-row (stepAt (now s) k) (u ∷ []) → Seq K W (‵ (S.the-row .own (stepAt (now s) k) (u ∷ [])) ∷ ‵ (flft κ q) ∷ ‵ (ReaderOwns κ s k) ∷ Γ)
       (lands C Λ E d u rest qo))
-      → Seq K W (‵ (Held κ s k) ∷ ‵ (flft κ q) ∷ Γ) (runs C Λ E (seq (call f xs d) rest) qo)
+      → Seq K W (‵ (ReaderOwns κ s k) ∷ ‵ (flft κ q) ∷ Γ) (runs C Λ E (seq (call f xs d) rest) qo)
   asks-step {rest} k known os go =
-      use1 W (‵ (Held κ s k) ⊛ ‵ (Held κ s k)) (LL.copy (T.the-type (α κ)) (T′.the-copy (α κ)) 𝓤 H A W .twice (reader s k) (mach s k ∷ [])) $ split t $
-      move t (0 ∷ 2 ∷ []) $ use2 W (raw (Next 𝓤 H A mem run .pre (to-next 𝓤 H A W mem run κ q s k))) (asks-next 𝓤 H A W mem run κ q s k) $
-      calls-at t fm (Next 𝓤 H A mem run) known (to-next 𝓤 H A W mem run κ q s k) os (λ u.
+      use1 W (‵ (ReaderOwns κ s k) ⊛ ‵ (ReaderOwns κ s k)) (LL.copy (T.the-type (α κ)) (T′.the-copy (α κ)) 𝓤 H A W .twice (reader s k) (mach s k ∷ [])) $ split t $
+      move t (0 ∷ 2 ∷ []) $ use2 W (raw (NextContract 𝓤 H A mem run .pre (to-next 𝓤 H A W mem run κ q s k))) (asks-next 𝓤 H A W mem run κ q s k) $
+      calls-at t fm (NextContract 𝓤 H A mem run) known (to-next 𝓤 H A W mem run κ q s k) os (λ u.
       use1 W (later (some (λ (p : Found). ((‵ (flft κ q) ⊛ ‵ ftrue) ⊛ ‵ (S.the-row .own p (u ∷ []))) ⊛ raw
       (ensured 𝓤 H A next.ended (next.clauses 𝓤 H A mem run) (κ, tt) (reader s k, tt) tt p)))) (id⊢ 𝓤 _) $ await t tt $ pick t (λ p.
       split t $ move t (1 ∷ []) $ use1 W (raw (fact 𝓤 (p ≡ stepAt (now s) k))) (next-said 𝓤 H A W mem run κ q s k p) $
       heard t (p ≡ stepAt (now s) k) (λ e. split t $ split t $ move t (1 ∷ []) $ drop t $ move t (1 ∷ []) $
-      subst (λ (x : Found). Seq K W (‵ (S.the-row .own x (u ∷ [])) ∷ ‵ (flft κ q) ∷ ‵ (Held κ s k) ∷ Γ) (lands C Λ E d u rest qo)) (sym e)
+      subst (λ (x : Found). Seq K W (‵ (S.the-row .own x (u ∷ [])) ∷ ‵ (flft κ q) ∷ ‵ (ReaderOwns κ s k) ∷ Γ) (lands C Λ E d u rest qo)) (sym e)
       (peeks t S.the-row (Is S.the-row) (shows 𝓤 H A S.the-row) (stepAt (now s) k) (u ∷ []) (λ is. go u is)))))
 
-  pub advances : (k : ℕ) → k + 1 < 2 ^ 32 → Triple 𝓤 (C f) (Advance 𝓤 H A mem run)
-      → Opds K W (raw (Advance 𝓤 H A mem run .pre (to-advance 𝓤 H A W mem run κ q s k)) ∷ Γ) E xs (mach s k ∷ [])
-      → Step K W (‵ (Held κ s (k + 1)) ∷ ‵ (flft κ q) ∷ Γ) (settles E d (mach s (k + 1)) qo)
-      (‵ (Held κ s k) ∷ ‵ (flft κ q) ∷ Γ) (runs C Λ E (call f xs d) qo)
+  pub advances : (k : ℕ) → k + 1 < 2 ^ 32 → Triple 𝓤 (C f) (AdvanceContract 𝓤 H A mem run)
+      → Opds K W (raw (AdvanceContract 𝓤 H A mem run .pre (to-advance 𝓤 H A W mem run κ q s k)) ∷ Γ) E xs (mach s k ∷ [])
+      → Step K W (‵ (ReaderOwns κ s (k + 1)) ∷ ‵ (flft κ q) ∷ Γ) (settles E d (mach s (k + 1)) qo)
+      (‵ (ReaderOwns κ s k) ∷ ‵ (flft κ q) ∷ Γ) (runs C Λ E (call f xs d) qo)
   advances k ok known os = step (λ go.
-      use2 W (raw (Advance 𝓤 H A mem run .pre (to-advance 𝓤 H A W mem run κ q s k))) (asks-advance 𝓤 H A W mem run κ q s k ok) $
-      calls-at-last t fm (Advance 𝓤 H A mem run) known (to-advance 𝓤 H A W mem run κ q s k) os (λ u.
+      use2 W (raw (AdvanceContract 𝓤 H A mem run .pre (to-advance 𝓤 H A W mem run κ q s k))) (asks-advance 𝓤 H A W mem run κ q s k ok) $
+      calls-at-last t fm (AdvanceContract 𝓤 H A mem run) known (to-advance 𝓤 H A W mem run κ q s k) os (λ u.
       use1 W (later (some (λ (r : Reader). ((‵ (flft κ q) ⊛ ‵ ftrue) ⊛ ‵ (B κ .own r (u ∷ []))) ⊛ raw
       (ensured 𝓤 H A advance.ended (advance.clauses 𝓤 H A mem run) (κ, tt) (reader s k, tt) tt r)))) (id⊢ 𝓤 _) $ await t tt $ pick t (λ r.
       split t $ move t (1 ∷ []) $ use1 W (raw (fact 𝓤 ((r .file ≡ s) × (r .next ≡ k + 1)))) (advance-said 𝓤 H A W mem run κ q s k r) $

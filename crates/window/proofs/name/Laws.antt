@@ -9,27 +9,27 @@ use lib.Seq.{drop-cons, length-take-le, take-suc-set, drop-set-lt, drop-drop}
 use borrow.Author.Tests.{eq-eqb, ne-eqb, lt-ltb, le-ltb}
 use Rattle.window.specs.Word.{wordIn}
 use Rattle.window.specs.Access.{ret, get8, run}
-use Rattle.window.specs.Trace.{S, runT}
+use Rattle.window.specs.Trace.{State, runT}
 use Rattle.window.specs.TraceRuns.{left, given, gives, on-true, on-false}
 use Rattle.window.specs.Silent.{reads-runT}
 use Rattle.window.specs.Name.{nameAt, nameFrom, nameAt-0, nameAt-reads, laidOver, orderOf}
 use Rattle.window.specs.declared.name.NameOrder.the-variants.{Before, Same, After}
 
-pub name-nothing : (at p : ℕ) (s : S) → p ≡ 0 → ([], s) ≡ runT at (nameAt p) s
+pub name-nothing : (at p : ℕ) (s : State) → p ≡ 0 → ([], s) ≡ runT at (nameAt p) s
 name-nothing at p s e = rw (e, nameAt-0) (given at [] s)
 
 -- a name of at most m bytes, k of them read
 
 -- what is read from here on, behind bytes that were read before
-abbrev pub behind : List ℕ → List ℕ × S → List ℕ × S
+abbrev pub behind : List ℕ → List ℕ × State → List ℕ × State
 behind front r = (front ++ r .0, r .1)
 
-module _ (at m k p : ℕ) (s : S) where
+module _ (at m k p : ℕ) (s : State) where
   pub name-full : m ≤ k → ([], s) ≡ runT at (nameFrom (m - k) p) s
   unfolding nameFrom
   name-full l = let z : m - k ≡ 0 = omega arith in rw z (given at [] s)
 
-  module _ {b : ℕ} {s₁ : S} (l : k < m) (h : (b, s₁) ≡ runT at (get8 p) s) where
+  module _ {b : ℕ} {s₁ : State} (l : k < m) (h : (b, s₁) ≡ runT at (get8 p) s) where
     pub name-end : b ≡ 0 → ([], s₁) ≡ runT at (nameFrom (m - k) p) s
     unfolding nameFrom
     name-end e =
@@ -59,20 +59,20 @@ laid n buffer old l e d =
     rw (← t, length-take-le n buffer l, ← d, take-append-drop)
 
 pub all-laid
-    : (n : ℕ) (buffer old : List ℕ) {rest r : List ℕ × S} {s : S} → n ≤ length buffer → behind (take n buffer) rest ≡ r
+    : (n : ℕ) (buffer old : List ℕ) {rest r : List ℕ × State} {s : State} → n ≤ length buffer → behind (take n buffer) rest ≡ r
     → ([], s) ≡ rest → drop n buffer ≡ drop n old → ((n, buffer) ≡ laidOver (r .0) old) × (s ≡ r .1)
 all-laid n buffer old {s = s} l e z d =
     let f = ap (behind (take n buffer)) z ∙ e in
-    (laid n buffer old l (ap (λ (r : List ℕ × S). r .0) f) d, ap left f)
+    (laid n buffer old l (ap (λ (r : List ℕ × State). r .0) f) d, ap left f)
 
 -- a name is what it is, whatever its trace
 pub laid-peeked
-    : (at p : ℕ) (s : S) (old : List ℕ) {r : ℕ × List ℕ} → r ≡ laidOver (runT at (nameAt p) s .0) old
+    : (at p : ℕ) (s : State) (old : List ℕ) {r : ℕ × List ℕ} → r ≡ laidOver (runT at (nameAt p) s .0) old
     → r ≡ laidOver (run at (nameAt p) (s .0) .0) old
 laid-peeked at p s old h = h ∙ ap (λ name. laidOver name old) (reads-runT at (nameAt p) s (nameAt-reads p) .0)
 
 pub laid-turn
-    : (n : ℕ) (buffer : List ℕ) (b : ℕ) (rest : List ℕ × S) → n < length buffer
+    : (n : ℕ) (buffer : List ℕ) (b : ℕ) (rest : List ℕ × State) → n < length buffer
     → behind (take (n + 1) (set buffer n b)) rest ≡ behind (take n buffer) (behind (b ∷ []) rest)
 laid-turn n buffer b rest l = rw (add-one, take-suc-set buffer n b l, append-assoc)
 

@@ -1,5 +1,5 @@
 use Rattle.call_cases.proofs.buffers.Laws.{other-window, other-records, other-names, other-missing, all-same}
-use Rattle.linker.specs.Calls.Steps.{lent}
+use Rattle.linker.specs.Calls.Steps.{buffers}
 use borrow.Author.Needs.{needs}
 use Rattle.call_cases.proofs.buffers.compare.Statement.{statement}
 use Rattle.call_cases.proofs.buffers.compare.Tie as tie
@@ -11,8 +11,8 @@ returns : tie.Need-returns
 returns c =
     let p1 = c .before in
     let a = p1 .before .before .before .before .before .before .before .before .before .args in
-    let before = lent (a .window .now) (a .records .now) (a .names .now) (a .missing .now) in
-    let after = lent (a .window-after .now) (a .records-after .now) (a .names-after .now) (a .missing-after .now) in
+    let before = buffers (a .window .now) (a .records .now) (a .names .now) (a .missing .now) in
+    let after = buffers (a .window-after .now) (a .records-after .now) (a .names-after .now) (a .missing-after .now) in
     other-window before after (p1 .same-name .ensures) (c .if1 .taken)
 
 same-name-requires-2 : tie.Need-same-name-requires-2
@@ -24,8 +24,8 @@ returns-2 c =
     let p2 = p1 .before in
     let p3 = p2 .before in
     let a = p3 .before .before .before .before .before .before .before .before .before .args in
-    let before = lent (a .window .now) (a .records .now) (a .names .now) (a .missing .now) in
-    let after = lent (a .window-after .now) (a .records-after .now) (a .names-after .now) (a .missing-after .now) in
+    let before = buffers (a .window .now) (a .records .now) (a .names .now) (a .missing .now) in
+    let after = buffers (a .window-after .now) (a .records-after .now) (a .names-after .now) (a .missing-after .now) in
     other-records before after (p3 .same-name .ensures) (p2 .if1 .left) (p1 .same-name2 .ensures) (c .if2 .taken)
 
 same-name-requires-3 : tie.Need-same-name-requires-3
@@ -39,8 +39,8 @@ returns-3 c =
     let p4 = p3 .before in
     let p5 = p4 .before in
     let a = p5 .before .before .before .before .before .before .before .before .before .args in
-    let before = lent (a .window .now) (a .records .now) (a .names .now) (a .missing .now) in
-    let after = lent (a .window-after .now) (a .records-after .now) (a .names-after .now) (a .missing-after .now) in
+    let before = buffers (a .window .now) (a .records .now) (a .names .now) (a .missing .now) in
+    let after = buffers (a .window-after .now) (a .records-after .now) (a .names-after .now) (a .missing-after .now) in
     other-names before after (p5 .same-name .ensures) (p4 .if1 .left) (p3 .same-name2 .ensures) (p2 .if2 .left) (p1 .same-name3 .ensures)
     (c .if3 .taken)
 
@@ -57,8 +57,8 @@ returns-4 c =
     let p6 = p5 .before in
     let p7 = p6 .before in
     let a = p7 .before .before .before .before .before .before .before .before .before .args in
-    let before = lent (a .window .now) (a .records .now) (a .names .now) (a .missing .now) in
-    let after = lent (a .window-after .now) (a .records-after .now) (a .names-after .now) (a .missing-after .now) in
+    let before = buffers (a .window .now) (a .records .now) (a .names .now) (a .missing .now) in
+    let after = buffers (a .window-after .now) (a .records-after .now) (a .names-after .now) (a .missing-after .now) in
     other-missing before after (p7 .same-name .ensures) (p6 .if1 .left) (p5 .same-name2 .ensures) (p4 .if2 .left) (p3 .same-name3 .ensures)
     (p2 .if3 .left) (p1 .same-name4 .ensures) (c .if4 .taken)
 
@@ -72,8 +72,8 @@ returns-5 c =
     let p6 = p5 .before in
     let p7 = p6 .before in
     let a = p7 .before .before .before .before .before .before .before .before .before .args in
-    let before = lent (a .window .now) (a .records .now) (a .names .now) (a .missing .now) in
-    let after = lent (a .window-after .now) (a .records-after .now) (a .names-after .now) (a .missing-after .now) in
+    let before = buffers (a .window .now) (a .records .now) (a .names .now) (a .missing .now) in
+    let after = buffers (a .window-after .now) (a .records-after .now) (a .names-after .now) (a .missing-after .now) in
     all-same before after (p7 .same-name .ensures) (p6 .if1 .left) (p5 .same-name2 .ensures) (p4 .if2 .left) (p3 .same-name3 .ensures)
     (p2 .if3 .left) (p1 .same-name4 .ensures) (c .if4 .left)
 

@@ -1,5 +1,5 @@
 -- By the case's call, with both clauses of the exported one: `initializes`, `loads`, `unloads`.
-use Rattle.linker.specs.Calls.Steps.{lent}
+use Rattle.linker.specs.Calls.Steps.{buffers}
 use Rattle.call_cases.proofs.call.Laws.{initializes, loads, unloads}
 use borrow.Author.Needs.{needs}
 use Rattle.call_cases.proofs.call.call.Statement.{statement}
@@ -96,7 +96,7 @@ returns c =
     let p20 = p19 .before in
     let p26 = p20 .before .before .before .before .before .before in
     let a = p26 .args in
-    let b = lent (a .window .now) (a .records .now) (a .names .now) (a .missing .now) in
+    let b = buffers (a .window .now) (a .records .now) (a .names .now) (a .missing .now) in
     initializes _ (a .at) b (p20 .word .ensures) (p19 .word2 .ensures) (p18 .word3 .ensures) (p17 .word4 .ensures) (p16 .match .keys1)
     (p8 .initialize .ensures)
 
@@ -128,7 +128,7 @@ returns-2 c =
     let p26 = p25 .before in
     let p32 = p26 .before .before .before .before .before .before in
     let a = p32 .args in
-    let b = lent (a .window .now) (a .records .now) (a .names .now) (a .missing .now) in
+    let b = buffers (a .window .now) (a .records .now) (a .names .now) (a .missing .now) in
     loads _ (a .at) b (p26 .word .ensures) (p25 .word2 .ensures) (p24 .word3 .ensures) (p23 .word4 .ensures) (p22 .match .keys2)
     (p17 .word5 .ensures) (p16 .word6 .ensures) (p15 .word7 .ensures) (p14 .word8 .ensures) (p13 .word9 .ensures) (p12 .word10 .ensures)
     (p8 .load .ensures)
@@ -155,7 +155,7 @@ returns-3 c =
     let p20 = p19 .before in
     let p26 = p20 .before .before .before .before .before .before in
     let a = p26 .args in
-    let b = lent (a .window .now) (a .records .now) (a .names .now) (a .missing .now) in
+    let b = buffers (a .window .now) (a .records .now) (a .names .now) (a .missing .now) in
     unloads _ (a .at) b (p20 .word .ensures) (p19 .word2 .ensures) (p18 .word3 .ensures) (p17 .word4 .ensures)
     (p16 .match .rest .0 .1) (p16 .match .rest .1) (p8 .unload .ensures)
 

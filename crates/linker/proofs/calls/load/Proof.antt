@@ -4,7 +4,7 @@ use lib.Dec.{eqb}
 use Rattle.linker_spec.specs.Outcome.{loadOutcome}
 use Rattle.linker_spec.specs.Touches.{upToReset, loadTouches}
 use Rattle.linker_spec.specs.Calls as calls
-use Rattle.linker.specs.Calls.Steps.{lent, toLoad}
+use Rattle.linker.specs.Calls.Steps.{buffers, loadArguments}
 use Rattle.linker.specs.Calls.Laws.{tests-pass}
 use Rattle.linker.specs.Calls.Traced.{call-refused, call-answered}
 use borrow.Author.Needs.{needs}
@@ -14,8 +14,8 @@ use Rattle.linker.proofs.calls.load.Tie as tie
 clear-requires : tie.Need-clear-requires
 clear-requires c κs = search needs
 
-tested-requires : tie.Need-tested-requires
-tested-requires c κs = search needs
+refusal-of-buffers-requires : tie.Need-refusal-of-buffers-requires
+refusal-of-buffers-requires c κs = search needs
 
 same-length : tie.Need-same-length
 same-length c = search needs
@@ -36,9 +36,9 @@ returns c =
     let p6 = p1 .before .before .before .before .before in
     let p14 = p6 .before .before .before .before .before .before .before .before in
     let a = p14 .args in
-    let b = lent (a .window .now) (a .records .now) (a .names .now) (a .missing .now) in
-    let l = toLoad (a .base) (a .size) (a .data-at) (a .data-size) (a .bss-at) (a .bss-size) in
-    call-refused (calls.load l (not (eqb (a .auto-link) 0)) (a .level)) (upToReset (calls.rebase l) (a .base)) (a .at) b (p1 .tested .ensures) (c .if1 .taken) (p6 .clear .ensures)
+    let b = buffers (a .window .now) (a .records .now) (a .names .now) (a .missing .now) in
+    let l = loadArguments (a .base) (a .size) (a .data-segment) (a .data-segment-size) (a .bss-segment) (a .bss-segment-size) in
+    call-refused (calls.load l (not (eqb (a .auto-link) 0)) (a .fix-level)) (upToReset (calls.rebase l) (a .base)) (a .at) b (p1 .refusal-of-buffers .ensures) (c .if1 .taken) (p6 .clear .ensures)
 
 slice-aggregate-load : tie.Need-slice-aggregate-load
 slice-aggregate-load c = search needs
@@ -47,7 +47,7 @@ load-requires : tie.Need-load-requires
 load-requires c κs =
     let p6 = c .before .before .before .before .before .before in
     let p7 = p6 .before in
-    tests-pass _ _ (p7 .tested .ensures) (p6 .if1 .left) .1
+    tests-pass _ _ (p7 .refusal-of-buffers .ensures) (p6 .if1 .left) .1
 
 slice-aggregate-tell : tie.Need-slice-aggregate-tell
 slice-aggregate-tell c = search needs
@@ -75,9 +75,9 @@ returns-2 c =
     let p21 = p20 .before in
     let p34 = p21 .before .before .before .before .before .before .before .before .before .before .before .before .before in
     let a = p34 .args in
-    let b = lent (a .window .now) (a .records .now) (a .names .now) (a .missing .now) in
-    let l = toLoad (a .base) (a .size) (a .data-at) (a .data-size) (a .bss-at) (a .bss-size) in
-    call-answered (calls.load l (not (eqb (a .auto-link) 0)) (a .level)) (upToReset (calls.rebase l) (a .base)) (a .at) b (p21 .tested .ensures) (p20 .if1 .left)
+    let b = buffers (a .window .now) (a .records .now) (a .names .now) (a .missing .now) in
+    let l = loadArguments (a .base) (a .size) (a .data-segment) (a .data-segment-size) (a .bss-segment) (a .bss-segment-size) in
+    call-answered (calls.load l (not (eqb (a .auto-link) 0)) (a .fix-level)) (upToReset (calls.rebase l) (a .base)) (a .at) b (p21 .refusal-of-buffers .ensures) (p20 .if1 .left)
     (p13 .load .ensures) (c .tell .ensures)
 
 pub load-spec : {M : Type 1} → statement M
@@ -85,7 +85,7 @@ load-spec =
     tie.close
     (tie.spec
     clear-requires
-    tested-requires
+    refusal-of-buffers-requires
     same-length
     same-length-2
     same-length-3

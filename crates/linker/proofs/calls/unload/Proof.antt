@@ -3,7 +3,7 @@ use Rattle.window.specs.Access.{ret}
 use Rattle.linker_spec.specs.Outcome.{unloadOutcome}
 use Rattle.linker_spec.specs.Touches.{unloadTouches}
 use Rattle.linker_spec.specs.Calls as calls
-use Rattle.linker.specs.Calls.Steps.{lent}
+use Rattle.linker.specs.Calls.Steps.{buffers}
 use Rattle.linker.specs.Calls.Laws.{tests-pass}
 use Rattle.linker.specs.Calls.Traced.{call-refused, call-answered}
 use borrow.Author.Needs.{needs}
@@ -13,8 +13,8 @@ use Rattle.linker.proofs.calls.unload.Tie as tie
 clear-requires : tie.Need-clear-requires
 clear-requires c κs = search needs
 
-tested-requires : tie.Need-tested-requires
-tested-requires c κs = search needs
+refusal-of-buffers-requires : tie.Need-refusal-of-buffers-requires
+refusal-of-buffers-requires c κs = search needs
 
 same-length : tie.Need-same-length
 same-length c = search needs
@@ -35,8 +35,8 @@ returns c =
     let p6 = p1 .before .before .before .before .before in
     let p14 = p6 .before .before .before .before .before .before .before .before in
     let a = p14 .args in
-    let b = lent (a .window .now) (a .records .now) (a .names .now) (a .missing .now) in
-    call-refused (λ records names. calls.unload (a .base)) (ret tt) (a .at) b (p1 .tested .ensures) (c .if1 .taken) (p6 .clear .ensures)
+    let b = buffers (a .window .now) (a .records .now) (a .names .now) (a .missing .now) in
+    call-refused (λ records names. calls.unload (a .base)) (ret tt) (a .at) b (p1 .refusal-of-buffers .ensures) (c .if1 .taken) (p6 .clear .ensures)
 
 slice-aggregate-unload : tie.Need-slice-aggregate-unload
 slice-aggregate-unload c = search needs
@@ -45,7 +45,7 @@ unload-requires : tie.Need-unload-requires
 unload-requires c κs =
     let p6 = c .before .before .before .before .before .before in
     let p7 = p6 .before in
-    tests-pass _ _ (p7 .tested .ensures) (p6 .if1 .left) .1
+    tests-pass _ _ (p7 .refusal-of-buffers .ensures) (p6 .if1 .left) .1
 
 slice-aggregate-tell : tie.Need-slice-aggregate-tell
 slice-aggregate-tell c = search needs
@@ -73,8 +73,8 @@ returns-2 c =
     let p21 = p20 .before in
     let p34 = p21 .before .before .before .before .before .before .before .before .before .before .before .before .before in
     let a = p34 .args in
-    let b = lent (a .window .now) (a .records .now) (a .names .now) (a .missing .now) in
-    call-answered (λ records names. calls.unload (a .base)) (ret tt) (a .at) b (p21 .tested .ensures) (p20 .if1 .left)
+    let b = buffers (a .window .now) (a .records .now) (a .names .now) (a .missing .now) in
+    call-answered (λ records names. calls.unload (a .base)) (ret tt) (a .at) b (p21 .refusal-of-buffers .ensures) (p20 .if1 .left)
     (p13 .unload .ensures) (c .tell .ensures)
 
 pub unload-spec : {M : Type 1} → statement M
@@ -82,7 +82,7 @@ unload-spec =
     tie.close
     (tie.spec
     clear-requires
-    tested-requires
+    refusal-of-buffers-requires
     same-length
     same-length-2
     same-length-3

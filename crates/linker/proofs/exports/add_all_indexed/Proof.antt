@@ -6,8 +6,8 @@ use borrow.Author.Needs.{needs}
 use Rattle.layout.specs.Header.{exportIndexedSymbolTableOffset}
 use Rattle.layout.specs.Segments.{field-word}
 use Rattle.register.specs.declared.append.draft.Drafted.the-variants.{Open}
-use Rattle.linker.specs.Exports.Modules.{Turns, Any}
-use Rattle.linker.proofs.exports.Laws.{no-turn, turn-open, turn-full, Indexeds, indexed-to, indexed-done}
+use Rattle.linker.specs.Exports.Modules.{DraftStep, AnyModule}
+use Rattle.linker.proofs.exports.Laws.{no-turn, turn-open, turn-full, WithIndexedTo, indexed-to, indexed-done}
 use Rattle.linker.proofs.exports.add_all_indexed.Statement.{statement}
 use Rattle.linker.proofs.exports.add_all_indexed.Tie as tie
 
@@ -16,7 +16,7 @@ Inv-loop at w base records₀ names₀ table count last₀ i₀ records names la
     (length records ≡ length records₀)
     × (length names ≡ length names₀)
     × (i ≤ count)
-    × Turns Any (λ m. Indexeds at w base m 0) (λ m. Indexeds at w base m i) last₀ records₀ names₀ (Open last) records names
+    × DraftStep AnyModule (λ m. WithIndexedTo at w base m 0) (λ m. WithIndexedTo at w base m i) last₀ records₀ names₀ (Open last) records names
 
 abbrev μ-loop : tie.MeasureT-loop
 μ-loop at w base records₀ names₀ table count last₀ i₀ records names last i = count - i
@@ -57,7 +57,7 @@ returns c =
     let a = b₁₆ .args in
     let l = b₈ .before .before .loop in
     indexed-done (a .at) (a .w .now) (a .base) _ _ _ _ _ _ _ (b₈ .before .before .before .field2 .ensures)
-    (turn-full Any (Indexeds (a .at) (a .w .now) (a .base)) _ _ _ _ _ _ (l .i) (l .inv .3) _ _ _
+    (turn-full AnyModule (WithIndexedTo (a .at) (a .w .now) (a .base)) _ _ _ _ _ _ (l .i) (l .inv .3) _ _ _
     (b₄ .before .before .add-indexed .ensures
     (b₁₂ .field .ensures ∙ field-word (a .at) (a .base) exportIndexedSymbolTableOffset (a .w .now))) _
     (indexed-to (a .at) (a .w .now) (a .base) (l .i + 1) _ (omega (arith, b₈ .before .loop-test .taken))) (c .enum-told .given .1))
@@ -82,7 +82,7 @@ loop-again c =
       b₄ .before .before .before .add-indexed .kept .1 .1 .1 .1 .1 .0 ∙ l .inv .0,
       b₄ .before .before .before .add-indexed .kept .1 .1 .1 .1 .1 .1 .0 ∙ l .inv .1,
       omega (arith, b₈ .before .before .loop-test .taken),
-      turn-open Any (Indexeds (a .at) (a .w .now) (a .base)) _ _ _ _ _ _ (l .i) (l .inv .3) _ _ _
+      turn-open AnyModule (WithIndexedTo (a .at) (a .w .now) (a .base)) _ _ _ _ _ _ (l .i) (l .inv .3) _ _ _
           (b₄ .before .before .before .add-indexed .ensures
           (b₁₂ .before .field .ensures ∙ field-word (a .at) (a .base) exportIndexedSymbolTableOffset (a .w .now))) _ (c .before .next .given .1),
     )

@@ -6,8 +6,8 @@ use borrow.Author.Needs.{needs}
 use Rattle.layout.specs.Header.{exportNamedSymbolTableOffset}
 use Rattle.layout.specs.Segments.{field-word}
 use Rattle.register.specs.declared.append.draft.Drafted.the-variants.{Open}
-use Rattle.linker.specs.Exports.Modules.{Turns, Unindexed}
-use Rattle.linker.proofs.exports.Laws.{no-turn, turn-open, turn-full, Nameds, named-to, named-done}
+use Rattle.linker.specs.Exports.Modules.{DraftStep, Unindexed}
+use Rattle.linker.proofs.exports.Laws.{no-turn, turn-open, turn-full, WithNamedTo, named-to, named-done}
 use Rattle.linker.proofs.exports.add_all_named.Statement.{statement}
 use Rattle.linker.proofs.exports.add_all_named.Tie as tie
 
@@ -16,7 +16,7 @@ Inv-loop at w base records₀ names₀ table count last₀ i₀ records names la
     (length records ≡ length records₀)
     × (length names ≡ length names₀)
     × (i ≤ count)
-    × Turns Unindexed (λ m. Nameds at w base m 0) (λ m. Nameds at w base m i) last₀ records₀ names₀ (Open last) records names
+    × DraftStep Unindexed (λ m. WithNamedTo at w base m 0) (λ m. WithNamedTo at w base m i) last₀ records₀ names₀ (Open last) records names
 
 abbrev μ-loop : tie.MeasureT-loop
 μ-loop at w base records₀ names₀ table count last₀ i₀ records names last i = count - i
@@ -57,7 +57,7 @@ returns c =
     let a = b₁₆ .args in
     let l = b₈ .before .before .loop in
     named-done (a .at) (a .w .now) (a .base) _ _ _ _ _ _ _ (b₈ .before .before .before .field2 .ensures)
-    (turn-full Unindexed (Nameds (a .at) (a .w .now) (a .base)) _ _ _ _ _ _ (l .i) (l .inv .3) _ _ _
+    (turn-full Unindexed (WithNamedTo (a .at) (a .w .now) (a .base)) _ _ _ _ _ _ (l .i) (l .inv .3) _ _ _
     (b₄ .before .before .add-named .ensures (b₁₂ .field .ensures ∙ field-word (a .at) (a .base) exportNamedSymbolTableOffset (a .w .now)))
     _ (named-to (a .at) (a .w .now) (a .base) (l .i + 1) _ (omega (arith, b₈ .before .loop-test .taken))) (c .enum-told .given .1))
 
@@ -81,7 +81,7 @@ loop-again c =
       b₄ .before .before .before .add-named .kept .1 .1 .1 .1 .1 .0 ∙ l .inv .0,
       b₄ .before .before .before .add-named .kept .1 .1 .1 .1 .1 .1 .0 ∙ l .inv .1,
       omega (arith, b₈ .before .before .loop-test .taken),
-      turn-open Unindexed (Nameds (a .at) (a .w .now) (a .base)) _ _ _ _ _ _ (l .i) (l .inv .3) _ _ _
+      turn-open Unindexed (WithNamedTo (a .at) (a .w .now) (a .base)) _ _ _ _ _ _ (l .i) (l .inv .3) _ _ _
           (b₄ .before .before .before .add-named .ensures
           (b₁₂ .before .field .ensures ∙ field-word (a .at) (a .base) exportNamedSymbolTableOffset (a .w .now))) _ (c .before .next .given .1),
     )

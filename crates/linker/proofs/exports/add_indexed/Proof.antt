@@ -12,8 +12,8 @@ indexed-address-requires c κs = search needs
 push-indexed-requires : tie.Need-push-indexed-requires
 push-indexed-requires c κs = search needs
 
-kept-requires : tie.Need-kept-requires
-kept-requires c κs = search needs
+keep-or-give-up-requires : tie.Need-keep-or-give-up-requires
+keep-or-give-up-requires c κs = search needs
 
 same-length : tie.Need-same-length
 same-length c = search needs
@@ -30,7 +30,7 @@ returns c =
     let a = b₁₆ .args in
     added-indexed (a .at) (a .w .now) (a .base) (a .i) (a .table) _ _ (a .before) (a .records .now) (a .names .now) _ _ _ _ _
     (b₁₂ .entry-address .ensures) (b₈ .before .before .before .indexed-address .ensures) (b₈ .before .before .before .indexed-address .ok)
-    (b₈ .before .push-indexed .ensures) (b₄ .kept .ensures)
+    (b₈ .before .push-indexed .ensures) (b₄ .keep-or-give-up .ensures)
 
 pub add-indexed-spec : {M : Type 1} → statement M
 add-indexed-spec =
@@ -39,7 +39,7 @@ add-indexed-spec =
     entry-address-requires
     indexed-address-requires
     push-indexed-requires
-    kept-requires
+    keep-or-give-up-requires
     same-length
     same-length-2
     returns)

@@ -9,8 +9,8 @@ segment-offset-requires c κs = search needs
 push-segment-requires : tie.Need-push-segment-requires
 push-segment-requires c κs = search needs
 
-kept-requires : tie.Need-kept-requires
-kept-requires c κs = search needs
+keep-or-give-up-requires : tie.Need-keep-or-give-up-requires
+keep-or-give-up-requires c κs = search needs
 
 same-length : tie.Need-same-length
 same-length c = search needs
@@ -26,7 +26,7 @@ returns c =
     let a = b₁₂ .before .before .before .args in
     added-segment (a .at) (a .w .now) (a .base) (a .i) _ (a .before) (a .records .now) (a .names .now) _ _ _ _ _
     (b₈ .before .before .before .segment-offset .ensures) (b₈ .before .before .before .segment-offset .ok)
-    (b₈ .before .push-segment .ensures) (b₄ .kept .ensures)
+    (b₈ .before .push-segment .ensures) (b₄ .keep-or-give-up .ensures)
 
 pub add-segment-spec : {M : Type 1} → statement M
 add-segment-spec =
@@ -34,7 +34,7 @@ add-segment-spec =
     (tie.spec
     segment-offset-requires
     push-segment-requires
-    kept-requires
+    keep-or-give-up-requires
     same-length
     same-length-2
     returns)

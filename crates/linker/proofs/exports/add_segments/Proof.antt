@@ -4,8 +4,8 @@ use native.Mathlib.Omega.{arith}
 use lib.ListN.{length}
 use borrow.Author.Needs.{needs}
 use Rattle.register.specs.declared.append.draft.Drafted.the-variants.{Open}
-use Rattle.linker.specs.Exports.Modules.{Turns, Bare}
-use Rattle.linker.proofs.exports.Laws.{no-turn, turn-open, turn-full, Segments, segments-to, segments-count, segments-done}
+use Rattle.linker.specs.Exports.Modules.{DraftStep, Bare}
+use Rattle.linker.proofs.exports.Laws.{no-turn, turn-open, turn-full, WithSegmentsTo, segments-to, segments-count, segments-done}
 use Rattle.linker.proofs.exports.add_segments.Statement.{statement}
 use Rattle.linker.proofs.exports.add_segments.Tie as tie
 
@@ -14,7 +14,7 @@ Inv-loop at w base records₀ names₀ count last₀ i₀ records names last i =
     (length records ≡ length records₀)
     × (length names ≡ length names₀)
     × (i ≤ count)
-    × Turns Bare (λ m. Segments at w base m 0) (λ m. Segments at w base m i) last₀ records₀ names₀ (Open last) records names
+    × DraftStep Bare (λ m. WithSegmentsTo at w base m 0) (λ m. WithSegmentsTo at w base m i) last₀ records₀ names₀ (Open last) records names
 
 abbrev μ-loop : tie.MeasureT-loop
 μ-loop at w base records₀ names₀ count last₀ i₀ records names last i = count - i
@@ -56,7 +56,7 @@ returns c =
     let l = b₈ .before .before .loop in
     segments-done (a .at) (a .w .now) (a .base) _ _ _ _ _ _ _
     (segments-count (a .at) (a .w .now) (a .base) (b₁₂ .field .ensures) (b₈ .before .before .before .at-most-16 .ensures))
-    (turn-full Bare (Segments (a .at) (a .w .now) (a .base)) _ _ _ _ _ _ (l .i) (l .inv .3) _ _ _ (b₄ .before .before .add-segment .ensures)
+    (turn-full Bare (WithSegmentsTo (a .at) (a .w .now) (a .base)) _ _ _ _ _ _ (l .i) (l .inv .3) _ _ _ (b₄ .before .before .add-segment .ensures)
     _ (segments-to (a .at) (a .w .now) (a .base) (l .i + 1) _ (omega (arith, b₈ .before .loop-test .taken))) (c .enum-told .given .1))
 
 enum-known-next : tie.Need-enum-known-next Inv-loop μ-loop
@@ -79,7 +79,7 @@ loop-again c =
       b₄ .before .before .before .add-segment .kept .1 .1 .1 .1 .0 ∙ l .inv .0,
       b₄ .before .before .before .add-segment .kept .1 .1 .1 .1 .1 .0 ∙ l .inv .1,
       omega (arith, b₈ .before .before .loop-test .taken),
-      turn-open Bare (Segments (a .at) (a .w .now) (a .base)) _ _ _ _ _ _ (l .i) (l .inv .3) _ _ _
+      turn-open Bare (WithSegmentsTo (a .at) (a .w .now) (a .base)) _ _ _ _ _ _ (l .i) (l .inv .3) _ _ _
           (b₄ .before .before .before .add-segment .ensures) _ (c .before .next .given .1),
     )
 

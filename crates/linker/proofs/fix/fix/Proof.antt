@@ -19,7 +19,7 @@ returns c =
     let p7 = p4 .before .before .before in
     let p10 = p7 .before .before .before in
     let a = p10 .args in
-    fixed-1 (a .at) (a .base) (a .size) (a .level) (a .w .now, a .trace .now) (p7 .if1 .taken) (p4 .fix-from .ensures)
+    fixed-1 (a .at) (a .base) (a .size) (a .fix-level) (a .w .now, a .trace .now) (p7 .if1 .taken) (p4 .fix-from .ensures)
 
 fix-from-requires-2 : tie.Need-fix-from-requires-2
 fix-from-requires-2 c κs = search needs
@@ -37,7 +37,7 @@ returns-2 c =
     let p8 = p7 .before in
     let p11 = p8 .before .before .before in
     let a = p11 .args in
-    fixed-2 (a .at) (a .base) (a .size) (a .level) (a .w .now, a .trace .now) (p8 .if1 .left) (p7 .if2 .taken) (p4 .fix-from2 .ensures)
+    fixed-2 (a .at) (a .base) (a .size) (a .fix-level) (a .w .now, a .trace .now) (p8 .if1 .left) (p7 .if2 .taken) (p4 .fix-from2 .ensures)
 
 fix-from-requires-3 : tie.Need-fix-from-requires-3
 fix-from-requires-3 c κs = search needs
@@ -56,7 +56,7 @@ returns-3 c =
     let p9 = p8 .before in
     let p12 = p9 .before .before .before in
     let a = p12 .args in
-    fixed-3 (a .at) (a .base) (a .size) (a .level) (a .w .now, a .trace .now) (p9 .if1 .left) (p8 .if2 .left) (p7 .if3 .taken) (p4 .fix-from3 .ensures)
+    fixed-3 (a .at) (a .base) (a .size) (a .fix-level) (a .w .now, a .trace .now) (p9 .if1 .left) (p8 .if2 .left) (p7 .if3 .taken) (p4 .fix-from3 .ensures)
 
 returns-4 : tie.Need-returns-4
 returns-4 c =
@@ -64,7 +64,7 @@ returns-4 c =
     let p2 = p1 .before in
     let p5 = p2 .before .before .before in
     let a = p5 .args in
-    fixed-no (a .at) (a .base) (a .size) (a .level) (a .w .now, a .trace .now) (p2 .if1 .left) (p1 .if2 .left) (c .if3 .left)
+    fixed-no (a .at) (a .base) (a .size) (a .fix-level) (a .w .now, a .trace .now) (p2 .if1 .left) (p1 .if2 .left) (c .if3 .left)
 
 pub fix-spec : {M : Type 1} → statement M
 fix-spec =

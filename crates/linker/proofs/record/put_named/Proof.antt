@@ -16,8 +16,8 @@ slice-aggregate-put-export c = name-taken _ _ (c .before .before .before .peek-n
 put-export-requires : tie.Need-put-export-requires
 put-export-requires c κs = search needs
 
-kept-requires : tie.Need-kept-requires
-kept-requires c κs = search needs
+keep-or-give-up-requires : tie.Need-keep-or-give-up-requires
+keep-or-give-up-requires c κs = search needs
 
 same-length : tie.Need-same-length
 same-length c = search needs
@@ -35,7 +35,7 @@ returns c =
     let a = b₂₀ .args in
     put-kept (a .before) (a .records .now) (a .names .now) _ (a .address)
     (name-is _ _ (b₁₂ .before .before .before .peek-name .ensures)) (b₈ .before .before .before .put-export .ensures)
-    (b₄ .kept .ensures)
+    (b₄ .keep-or-give-up .ensures)
 
 pub put-named-spec : {M : Type 1} → statement M
 put-named-spec =
@@ -45,7 +45,7 @@ put-named-spec =
     array-share-prefix-buffer
     slice-aggregate-put-export
     put-export-requires
-    kept-requires
+    keep-or-give-up-requires
     same-length
     same-length-2
     returns)

@@ -1,4 +1,4 @@
--- A walk over the records: `going-starts`, `reset-next`, `reset-all`.
+-- A walk over the records: `record-walk-starts`, `reset-next`, `reset-all`.
 use Prim.Native.Nat.{_-_}
 use mathlib.Core.Path.{_≡_, refl, _∙_}
 use native.Mathlib.Omega.{arith}
@@ -9,7 +9,7 @@ use Rattle.register.specs.Read.Read.{modulesOf, moduleAt}
 use Rattle.register.specs.Read.Walk.{unwrapped}
 use Rattle.linker_spec.specs.Resets.{resetImporters}
 use Rattle.linker.specs.Resets.Modules.{otherThan}
-use Rattle.linker.specs.Sources.Walks.{Going, going-starts, going-fits}
+use Rattle.linker.specs.Sources.Walks.{RecordWalk, record-walk-starts, record-walk-fits}
 use Rattle.linker.proofs.resets.Walks.{resetting, reset-next, reset-all}
 use Rattle.linker.proofs.resets.reset_importers.Statement.{statement}
 use Rattle.linker.proofs.resets.reset_importers.Tie as tie
@@ -17,7 +17,7 @@ use Rattle.linker.proofs.resets.reset_importers.Tie as tie
 abbrev Inv-loop : tie.InvT-loop
 Inv-loop at w₀ trace₀ records names place count next₀ k₀ w trace next k =
     (length w ≡ length w₀)
-    × Going (resetting at (moduleAt records names place) place) records names next k (w, trace)
+    × RecordWalk (resetting at (moduleAt records names place) place) records names next k (w, trace)
     (runT at (resetImporters (moduleAt records names place) (otherThan place 32 (modulesOf records names))) (w₀, trace₀))
     × (length trace ≡ length trace₀)
 
@@ -32,7 +32,7 @@ loop-holds c =
     let p5 = c .before .before .before .before .before in
     let a = p5 .args in
     let m = moduleAt (a .records .now) (a .names .now) (a .place) in
-    (refl, going-starts (resetting (a .at) m (a .place)) (a .records .now) (a .names .now) (a .w .now, a .trace .now) (p5 .pre), refl)
+    (refl, record-walk-starts (resetting (a .at) m (a .place)) (a .records .now) (a .names .now) (a .w .now, a .trace .now) (p5 .pre), refl)
 
 record-at-requires : tie.Need-record-at-requires Inv-loop μ-loop
 record-at-requires c κs = search needs
@@ -60,7 +60,7 @@ loop-again c =
     let a = p16 .args in
     let m = moduleAt (a .records .now) (a .names .now) (a .place) in
     let f =
-    going-fits (resetting (a .at) m (a .place)) (a .records .now) (a .names .now) (p10 .loop .next) (p10 .loop .k) (p10 .loop .w, p10 .loop .trace)
+    record-walk-fits (resetting (a .at) m (a .place)) (a .records .now) (a .names .now) (p10 .loop .next) (p10 .loop .k) (p10 .loop .w, p10 .loop .trace)
     (p10 .loop .inv .1) (omega (arith, p9 .loop-test .taken, p11 .module-count .ensures)) (p8 .record-at .ensures) in (
       p5 .reset-importer .kept .1 .0 ∙ p10 .loop .inv .0,
       reset-next (a .at) m (a .place) (a .records .now) (a .names .now) (p10 .loop .next)

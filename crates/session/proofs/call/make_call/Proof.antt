@@ -1,8 +1,8 @@
 -- The exported call that it is, with both its clauses: `is-initialize`, `is-load`, `is-unload`.
 use native.Mathlib.Omega.{arith}
 use Rattle.linker_spec.specs.Valid.{AreBytes}
-use Rattle.linker.specs.Calls.Steps.{lent}
-use Rattle.history.specs.Sessions.{Words}
+use Rattle.linker.specs.Calls.Steps.{buffers}
+use Rattle.history.specs.Sessions.{WordArguments}
 use Rattle.session.proofs.call.Laws.{is-initialize, is-load, is-unload}
 use borrow.Author.Needs.{needs}
 use Rattle.session.proofs.call.make_call.Statement.{statement}
@@ -47,7 +47,7 @@ returns c =
     let p22 = p21 .before in
     let p23 = p22 .before in
     let a = p23 .args in
-    let b = lent (a .window .now) (a .records .now) (a .names .now) (a .missing .now) in
+    let b = buffers (a .window .now) (a .records .now) (a .names .now) (a .missing .now) in
     let bytes : AreBytes b = (λ i. omega (arith, p22 .slice-known .given i), λ i. omega (arith, p21 .slice-known2 .given i)) in
     is-initialize (a .at) b bytes _ _ (p17 .call .given .1) (p16 .known-told .given .0 .1) (p16 .known-told .given .1 .0 .1) (p8 .initialize .ensures)
 
@@ -64,7 +64,7 @@ same-length-8 : tie.Need-same-length-8
 same-length-8 c = search needs
 
 returns-2 : tie.Need-returns-2
-unfolding Words
+unfolding WordArguments
 returns-2 c =
     let p8 = c .before .before .before .before .before .before .before .before in
     let p16 = p8 .before .before .before .before .before .before .before .before in
@@ -73,7 +73,7 @@ returns-2 c =
     let p22 = p21 .before in
     let p23 = p22 .before in
     let a = p23 .args in
-    let b = lent (a .window .now) (a .records .now) (a .names .now) (a .missing .now) in
+    let b = buffers (a .window .now) (a .records .now) (a .names .now) (a .missing .now) in
     let bytes : AreBytes b = (λ i. omega (arith, p22 .slice-known .given i), λ i. omega (arith, p21 .slice-known2 .given i)) in
     let l = p16 .known-told2 .given .0 .1 .1 in
     let r = p16 .known-told2 .given .1 in
@@ -101,7 +101,7 @@ returns-3 c =
     let p22 = p21 .before in
     let p23 = p22 .before in
     let a = p23 .args in
-    let b = lent (a .window .now) (a .records .now) (a .names .now) (a .missing .now) in
+    let b = buffers (a .window .now) (a .records .now) (a .names .now) (a .missing .now) in
     let bytes : AreBytes b = (λ i. omega (arith, p22 .slice-known .given i), λ i. omega (arith, p21 .slice-known2 .given i)) in
     is-unload (a .at) b bytes _ (p17 .call3 .given .1) (p16 .known-told3 .given .0 .1) (p8 .unload .ensures)
 

@@ -1,4 +1,4 @@
--- `session_file::are_steps` meets its contract: a walk of its MIR, by hand, since a local holds the reader. The reader is made before the loop and lives
+-- `session::file::are_steps` meets its contract: a walk of its MIR, by hand, since a local holds the reader. The reader is made before the loop and lives
 -- in its local over all turns; a turn asks it for its step, tests that, and advances the reader (`session::step`'s `Reading.antt`).
 --     At        the loop's invariant: the reader stands at step k, and the steps before are calls.        turns     a turn: it leaves, returns, or advances
 -- Assumes nothing.
@@ -54,7 +54,7 @@ use Rattle.session.specs.declared.step.Step.{Step}
 use Rattle.session.proofs.step.Reader.Laws as T′
 use Rattle.session.proofs.step.Step as S
 use Rattle.session.proofs.step.Step.Laws as S′
-use Rattle.session.proofs.step.Reading.{New, Next, Advance, after, mach, Held, Slice, makes-reader, asks-step, advances}
+use Rattle.session.proofs.step.Reading.{NewContract, NextContract, AdvanceContract, after, mach, ReaderOwns, Slice, makes-reader, asks-step, advances}
 use Rattle.session.proofs.step.new.Symbol as new-def
 use Rattle.session.proofs.step.new.Symbol.{name as #session·step·new}
 use Rattle.session.proofs.step.new.Met as new-thm
@@ -151,9 +151,9 @@ module _ {M : Type 1} (𝓤 : URA M) (H : Heap 𝓤) (A : Atoms 𝓤) (W : Given
   unfolding areSteps
   none-yet = refl
 
-  module _ (𝓣 : Tables 𝓤 H) (is : Is (ShrSlice (named 0) κ u8) s (v ∷ [])) (known-new : Triple 𝓤 (𝓣 .C #session·step·new) (New 𝓤 H A mem run))
-      (known-next : Triple 𝓤 (𝓣 .C #session·step·next-step) (Next 𝓤 H A mem run))
-      (known-advance : Triple 𝓤 (𝓣 .C #session·step·advance) (Advance 𝓤 H A mem run))
+  module _ (𝓣 : Tables 𝓤 H) (is : Is (ShrSlice (named 0) κ u8) s (v ∷ [])) (known-new : Triple 𝓤 (𝓣 .C #session·step·new) (NewContract 𝓤 H A mem run))
+      (known-next : Triple 𝓤 (𝓣 .C #session·step·next-step) (NextContract 𝓤 H A mem run))
+      (known-advance : Triple 𝓤 (𝓣 .C #session·step·advance) (AdvanceContract 𝓤 H A mem run))
       (known-is : Triple 𝓤 (𝓣 .C #session·file·is-step) (IsStep 𝓤 H A mem run)) where
     abbrev C : Calls 𝓤 H
     C = 𝓣 .C
@@ -178,13 +178,13 @@ module _ {M : Type 1} (𝓤 : URA M) (H : Heap 𝓤) (A : Atoms 𝓤) (W : Given
           ∷ ‵ (fdies S′.mir l₆) ∷ ‵ (fdies held l₇) ∷ ‵ (fdies tyBool l₈) ∷ ‵ (fdies held l₉) ∷ []
 
       -- [what the reader owns; the token; what the parameters own; _0 to _9; that each dies]
-      abbrev At : Upto → List (Item 𝓤)
-      At i = ‵ (Held κ s (i .0)) ∷ ‵ (flft κ q) ∷ ‵ Owns ∷ ‵ (froom tyBool l₀ 0) ∷ ‵ (fat fullShare slice l₁ 0 v) ∷ ‵ (fat fullShare (tyInt w32) l₂ 0 (vint w32 n))
+      abbrev AtStep : Upto → List (Item 𝓤)
+      AtStep i = ‵ (ReaderOwns κ s (i .0)) ∷ ‵ (flft κ q) ∷ ‵ Owns ∷ ‵ (froom tyBool l₀ 0) ∷ ‵ (fat fullShare slice l₁ 0 v) ∷ ‵ (fat fullShare (tyInt w32) l₂ 0 (vint w32 n))
           ∷ ‵ (fat fullShare held l₃ 0 (mach s (i .0))) ∷ ‵ (froom (tyInt w32) l₄ 0) ∷ ‵ (froom tyBool l₅ 0) ∷ ‵ (froom S′.mir l₆ 0) ∷ ‵ (froom held l₇ 0)
           ∷ ‵ (froom tyBool l₈ 0) ∷ ‵ (froom held l₉ 0) ∷ Dies
 
-      abbrev Turned : Upto → Out → SProp 𝓤
-      Turned i = afterTurn 𝓤 H (Below 𝓤 H A Nearer At i) (afterBlock 𝓤 H (afterSeq 𝓤 H (Wp 𝓤 H C Λ En body.t-3 (atReturn 𝓤 H En Post)) (atReturn 𝓤 H En Post)))
+      abbrev AfterStep : Upto → Out → SProp 𝓤
+      AfterStep i = afterTurn 𝓤 H (Below 𝓤 H A Nearer AtStep i) (afterBlock 𝓤 H (afterSeq 𝓤 H (Wp 𝓤 H C Λ En body.t-3 (atReturn 𝓤 H En Post)) (atReturn 𝓤 H En Post)))
 
       -- the locals are freed, and the function ends
       ends : (r : Bool) → r ≡ areSteps (now s) n
@@ -196,7 +196,7 @@ module _ {M : Type 1} (𝓤 : URA M) (H : Heap 𝓤) (A : Atoms 𝓤) (W : Given
           move ! (2 ∷ 8 ∷ []) $ free1 ! $ move ! (2 ∷ 7 ∷ []) $ free1 ! $ move ! (2 ∷ 6 ∷ []) $ free1 ! $ move ! (2 ∷ 5 ∷ []) $ free1 ! $
           move ! (2 ∷ 4 ∷ []) $ free1 ! $ move ! (2 ∷ 3 ∷ []) $ free1 ! $ free0 ! $ by ! (exits r e)
 
-      turns : (i : Upto) → Sq W (At i) (runs C Λ En body.turn-1 (anyQ (Turned i)))
+      turns : (i : Upto) → Sq W (AtStep i) (runs C Λ En body.turn-1 (anyQ (AfterStep i)))
       unfolding afterTurn
       turns i =
           assigns ! (of-opd ! (load ! (from ! (fld ! refl (stop !))) (look-in ! 6 (sub ! 1 refl (whole !))))) (from ! (stop !))
@@ -205,7 +205,7 @@ module _ {M : Type 1} (𝓤 : URA M) (H : Heap 𝓤) (A : Atoms 𝓤) (W : Given
           (from ! (stop !)) (init ! 8 refl (tt, tt)) $
           first ! $ branches ! (load ! (from ! (stop !)) (look ! 8 refl))
           -- a step is left
-          (λ less. skips ! $ exec ! C Λ En tested (anyQ (Turned i)) $
+          (λ less. skips ! $ exec ! C Λ En tested (anyQ (AfterStep i)) $
           assigns ! (of-opd ! (load ! (from ! (stop !)) (look ! 6 refl))) (from ! (stop !)) (init ! 10 refl (typed k fits)) $
           asks-step ! fm mem run κ q s k known-next (and-then ! (load ! (from ! (stop !)) (look ! 10 refl)) (no-more !)) (λ u is-u.
           land ! (from ! (stop !)) (init ! 10 refl (EL.lawful S.the-type S′.the-laws 𝓤 H A W tt .typed step _ is-u .0)) $
@@ -223,12 +223,12 @@ module _ {M : Type 1} (𝓤 : URA M) (H : Heap 𝓤) (A : Atoms 𝓤) (W : Given
           (λ bad. assigns ! (of-opd ! (false-lit !)) (from ! (stop !)) (init ! 3 refl (tt, tt)) $ returns-within ! Post refl (look ! 3 refl) $
           forget ! 3 refl $ forget ! 4 refl $ forget ! 5 refl $ forget ! 6 refl $ forget ! 7 refl $ forget ! 8 refl $ forget ! 9 refl $
           forget ! 10 refl $ forget ! 11 refl $ move ! (1 ∷ []) $ drop ! $ ends false (step-bad (now s) k n (ltb→lt k n less) e (not-so r bad)))
-          (λ good. skips ! $ exec ! C Λ En goes-on (anyQ (Turned i)) $
+          (λ good. skips ! $ exec ! C Λ En goes-on (anyQ (AfterStep i)) $
           assigns ! (of-opd ! (load ! (from ! (stop !)) (look ! 6 refl))) (from ! (stop !)) (init ! 12 refl (typed k fits)) $ move ! (1 ∷ []) $
           advances ! fm mem run κ q s k (next-fits less) known-advance (and-then ! (load ! (from ! (stop !)) (look ! 11 refl)) (no-more !)) $
           land-last ! (from ! (stop !)) (store ! 6 refl (typed (k + 1) (next-fits less))) $ forget ! 7 refl $ forget ! 8 refl $ forget ! 9 refl $
           forget ! 10 refl $ forget ! 11 refl $ forget ! 12 refl $
-          again ! Nearer At i (next less (step-on (now s) k (i .2) e (not-not r good))) (omega (arith, ltb→lt k n less)))))))))
+          again ! Nearer AtStep i (next less (step-on (now s) k (i .2) e (not-not r good))) (omega (arith, ltb→lt k n less)))))))))
           -- none is left
           (λ over. jumps ! $ exec ! C Λ En body.t-3 (atRet En Post) $
           assigns ! (of-opd ! (true-lit !)) (from ! (stop !)) (init ! 3 refl (tt, tt)) $
@@ -260,7 +260,7 @@ module _ {M : Type 1} (𝓤 : URA M) (H : Heap 𝓤) (A : Atoms 𝓤) (W : Given
       begins =
           makes-reader ! fm mem run κ q s known-new (and-then ! (load ! (from ! (stop !)) (look ! 3 refl)) (no-more !)) $
           land ! (from ! (stop !)) (init ! 6 refl (typed 0 (lit< tt))) $
-          first ! $ blocks ! $ loops ! 𝓣 Nearer Nearer-wf At turns (0, zero-le, none-yet)
+          first ! $ blocks ! $ loops ! 𝓣 Nearer Nearer-wf AtStep turns (0, zero-le, none-yet)
 
     walk : ent 𝓤 (onEntry 𝓤 H A steps.signature (κ, tt) (q, tt) (s, (n, tt)) at) (WpFn 𝓤 H C Λ code.function (v ∷ vint w32 n ∷ []) Post)
     walk =
@@ -277,9 +277,9 @@ module _ {M : Type 1} (𝓤 : URA M) (H : Heap 𝓤) (A : Atoms 𝓤) (W : Given
         begins l₀ l₁ l₂ l₃ l₄ l₅ l₆ l₇ l₈ l₉))))))))))
 
 module _ {M : Type 1} (𝓤 : URA M) (H : Heap 𝓤) (A : Atoms 𝓤) (W : Given 𝓤 H A) (mem : Memory → SProp 𝓤) (run : Routine → Fun 𝓤) (𝓣 : Tables 𝓤 H)
-    (known-new : Triple 𝓤 (𝓣 .C #session·step·new) (New 𝓤 H A mem run))
-    (known-next : Triple 𝓤 (𝓣 .C #session·step·next-step) (Next 𝓤 H A mem run))
-    (known-advance : Triple 𝓤 (𝓣 .C #session·step·advance) (Advance 𝓤 H A mem run))
+    (known-new : Triple 𝓤 (𝓣 .C #session·step·new) (NewContract 𝓤 H A mem run))
+    (known-next : Triple 𝓤 (𝓣 .C #session·step·next-step) (NextContract 𝓤 H A mem run))
+    (known-advance : Triple 𝓤 (𝓣 .C #session·step·advance) (AdvanceContract 𝓤 H A mem run))
     (known-is : Triple 𝓤 (𝓣 .C #session·file·is-step) (IsStep 𝓤 H A mem run)) where
   steps-walks : Walks 𝓤 H A steps.ended stayed (WpFn 𝓤 H (𝓣 .C) (𝓣 .Λ) code.function) (steps.clauses 𝓤 H A mem run)
   steps-walks = walked 𝓤 H A steps.ended stayed (steps.clauses 𝓤 H A mem run) (WpFn 𝓤 H (𝓣 .C) (𝓣 .Λ) code.function)
@@ -298,10 +298,10 @@ are-steps-spec 𝓤 H 𝓜 𝓖 𝓡 =
     entered 𝓤 H (tripleOf 𝓤 H (𝓖 .A) steps.signature (steps.spec 𝓤 H (𝓖 .A) (𝓜 .mem) (𝓡 .run)))
     (tables 𝓤 H 𝓜 𝓡 code.env .C) (tables 𝓤 H 𝓜 𝓡 code.env .Λ) #session·file·are-steps code.function (code.unfolded 𝓤 H 𝓜 𝓡)
     (steps-meets 𝓤 H (𝓖 .A) (givenOf 𝓤 H 𝓜 𝓖) (𝓜 .mem) (𝓡 .run) (tablesOf 𝓤 H 𝓜 (tables 𝓤 H 𝓜 𝓡 code.env))
-    (cited 𝓤 H (New 𝓤 H (𝓖 .A) (𝓜 .mem) (𝓡 .run)) 𝓜 𝓡 code.env #session·step·new new-def.routine code.calls-session·step·new (new-thm.met 𝓤 H 𝓜 𝓖 𝓡))
-    (cited 𝓤 H (Next 𝓤 H (𝓖 .A) (𝓜 .mem) (𝓡 .run)) 𝓜 𝓡 code.env #session·step·next-step next-def.routine code.calls-session·step·next-step
+    (cited 𝓤 H (NewContract 𝓤 H (𝓖 .A) (𝓜 .mem) (𝓡 .run)) 𝓜 𝓡 code.env #session·step·new new-def.routine code.calls-session·step·new (new-thm.met 𝓤 H 𝓜 𝓖 𝓡))
+    (cited 𝓤 H (NextContract 𝓤 H (𝓖 .A) (𝓜 .mem) (𝓡 .run)) 𝓜 𝓡 code.env #session·step·next-step next-def.routine code.calls-session·step·next-step
     (next-thm.met 𝓤 H 𝓜 𝓖 𝓡))
-    (cited 𝓤 H (Advance 𝓤 H (𝓖 .A) (𝓜 .mem) (𝓡 .run)) 𝓜 𝓡 code.env #session·step·advance advance-def.routine code.calls-session·step·advance
+    (cited 𝓤 H (AdvanceContract 𝓤 H (𝓖 .A) (𝓜 .mem) (𝓡 .run)) 𝓜 𝓡 code.env #session·step·advance advance-def.routine code.calls-session·step·advance
     (advance-thm.met 𝓤 H 𝓜 𝓖 𝓡))
     (cited 𝓤 H (IsStep 𝓤 H (𝓖 .A) (𝓜 .mem) (𝓡 .run)) 𝓜 𝓡 code.env #session·file·is-step is-step-def.routine code.calls-session·file·is-step
     (is-step-thm.met 𝓤 H 𝓜 𝓖 𝓡)))

@@ -3,13 +3,13 @@ use Prim.Native.Nat.{_-_}
 use mathlib.Core.Path.{_≡_, refl, _∙_}
 use native.Mathlib.Omega.{arith}
 use lib.ListN.{length}
-use Rattle.session.proofs.register_lines.Laws.{Left, left-starts, left-here, left-goes, left-ends}
+use Rattle.session.proofs.register_lines.Laws.{ModulesLeft, left-starts, left-here, left-goes, left-ends}
 use Rattle.session.proofs.register_lines.put_modules.Statement.{statement}
 use Rattle.session.proofs.register_lines.put_modules.Tie as tie
 
 abbrev Inv-loop : tie.InvT-loop
 Inv-loop out₀ at records names count i₀ place₀ k₀ out i place k =
-    (length out ≡ length out₀) × Left records names (at, out₀) place k (i, out)
+    (length out ≡ length out₀) × ModulesLeft records names (at, out₀) place k (i, out)
 
 abbrev μ-loop : tie.MeasureT-loop
 μ-loop out₀ at records names count i₀ place₀ k₀ out i place k = count - k

@@ -1,4 +1,4 @@
--- `session_step::advance` meets its contract: a walk of its MIR, by hand. A struct is made anew of the slice that the one passed holds, and the
+-- `session::step::advance` meets its contract: a walk of its MIR, by hand. A struct is made anew of the slice that the one passed holds, and the
 -- number after its own.
 -- The struct is Copy: what it owns is had twice, one copy is kept whole for the exit, and the other, with the facts of the new number in the place
 -- of next's, is what the result owns.

@@ -1,4 +1,4 @@
--- `session_step::new` meets its contract: a walk of its MIR, by hand. A `Reader` is made of the slice passed and 0, in the result's local.
+-- `session::step::new` meets its contract: a walk of its MIR, by hand. A `Reader` is made of the slice passed and 0, in the result's local.
 -- A `&[u8]` is Copy, so what it owns is had twice: once for file at exit, and once inside the result, beside the facts of next.
 -- Assumes nothing.
 use mathlib.Core.Path.{refl}

@@ -1,4 +1,4 @@
--- `session_step::next_step` meets its contract: a walk of its MIR, by hand. The struct is taken apart, and `step_at` is called on the slice and the
+-- `session::step::next_step` meets its contract: a walk of its MIR, by hand. The struct is taken apart, and `step_at` is called on the slice and the
 -- number. All that the proof knows of `step_at` is that it meets its contract.
 -- The struct is Copy: what it owns is had twice, one copy is kept whole for the exit, and of the other what file owns goes to the callee, beside the
 -- lifetime's token, which comes back.

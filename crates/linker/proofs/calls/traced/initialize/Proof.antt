@@ -1,6 +1,6 @@
--- By whether the module has its record: `initialize-hindered`, `initialize-done`.
-use Rattle.linker.specs.Calls.Steps.{lent}
-use Rattle.linker.proofs.calls.Calls.{initialize-hindered, initialize-done}
+-- By whether the module has its record: `initialize-refused`, `initialize-done`.
+use Rattle.linker.specs.Calls.Steps.{buffers}
+use Rattle.linker.proofs.calls.Calls.{initialize-refused, initialize-done}
 use borrow.Author.Needs.{needs}
 use Rattle.linker.proofs.calls.traced.initialize.Statement.{statement}
 use Rattle.linker.proofs.calls.traced.initialize.Tie as tie
@@ -8,8 +8,8 @@ use Rattle.linker.proofs.calls.traced.initialize.Tie as tie
 rebase-static-requires : tie.Need-rebase-static-requires
 rebase-static-requires c κs = search needs
 
-enter-requires : tie.Need-enter-requires
-enter-requires c κs = search needs
+add-record-requires : tie.Need-add-record-requires
+add-record-requires c κs = search needs
 
 same-length : tie.Need-same-length
 same-length c = search needs
@@ -29,11 +29,11 @@ returns c =
     let p18 = p9 .before .before .before .before .before .before .before .before .before in
     let p26 = p18 .before .before .before .before .before .before .before .before in
     let a = p26 .args in
-    let b = lent (a .w .now) (a .records .now) (a .names .now) (a .missing .now) in
-    initialize-hindered (a .at) (a .base) (a .size) b (a .trace .now) (p18 .rebase-static .ensures) (p9 .enter .ensures) (c .if1 .taken)
+    let b = buffers (a .w .now) (a .records .now) (a .names .now) (a .missing .now) in
+    initialize-refused (a .at) (a .base) (a .size) b (a .trace .now) (p18 .rebase-static .ensures) (p9 .add-record .ensures) (c .if1 .taken)
 
-unhang-requires : tie.Need-unhang-requires
-unhang-requires c κs = search needs
+clear-list-fields-requires : tie.Need-clear-list-fields-requires
+clear-list-fields-requires c κs = search needs
 
 set-crs-requires : tie.Need-set-crs-requires
 set-crs-requires c κs = search needs
@@ -59,22 +59,22 @@ returns-2 c =
     let p29 = p20 .before .before .before .before .before .before .before .before .before in
     let p37 = p29 .before .before .before .before .before .before .before .before in
     let a = p37 .args in
-    let b = lent (a .w .now) (a .records .now) (a .names .now) (a .missing .now) in
-    initialize-done (a .at) (a .base) (a .size) b (a .trace .now) (p29 .rebase-static .ensures) (p20 .enter .ensures) (p37 .pre) (p11 .if1 .left)
-    (p8 .unhang .ensures) (p2 .set-crs .ensures)
+    let b = buffers (a .w .now) (a .records .now) (a .names .now) (a .missing .now) in
+    initialize-done (a .at) (a .base) (a .size) b (a .trace .now) (p29 .rebase-static .ensures) (p20 .add-record .ensures) (p37 .pre) (p11 .if1 .left)
+    (p8 .clear-list-fields .ensures) (p2 .set-crs .ensures)
 
 pub initialize-spec : {M : Type 1} → statement M
 initialize-spec =
     tie.close
     (tie.spec
     rebase-static-requires
-    enter-requires
+    add-record-requires
     same-length
     same-length-2
     same-length-3
     same-length-4
     returns
-    unhang-requires
+    clear-list-fields-requires
     set-crs-requires
     same-length-5
     same-length-6

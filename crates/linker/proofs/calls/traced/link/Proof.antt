@@ -17,7 +17,7 @@ apply-module-imports-requires c κs =
     let p20 = p11 .before .before .before .before .before .before .before .before .before in
     let p29 = p20 .before .before .before .before .before .before .before .before .before in
     let a = p29 .args in
-    still-encoded (a .at) (a .records .now) (a .names .now) (a .missing .now) (a .given) (a .auto-link) (a .level) (a .w .now, a .trace .now) (p20 .list .ensures) _ _
+    still-encoded (a .at) (a .records .now) (a .names .now) (a .missing .now) (a .given) (a .auto-link) (a .fix-level) (a .w .now, a .trace .now) (p20 .list .ensures) _ _
     (p11 .apply-import-named-symbols .ensures)
 
 apply-exports-to-loaded-requires : tie.Need-apply-exports-to-loaded-requires
@@ -26,7 +26,7 @@ apply-exports-to-loaded-requires c κs =
     let p28 = p19 .before .before .before .before .before .before .before .before .before in
     let p37 = p28 .before .before .before .before .before .before .before .before .before in
     let a = p37 .args in
-    still-encoded (a .at) (a .records .now) (a .names .now) (a .missing .now) (a .given) (a .auto-link) (a .level) (a .w .now, a .trace .now) (p28 .list .ensures) _ _
+    still-encoded (a .at) (a .records .now) (a .names .now) (a .missing .now) (a .given) (a .auto-link) (a .fix-level) (a .w .now, a .trace .now) (p28 .list .ensures) _ _
     (p19 .apply-import-named-symbols .ensures)
 
 fix-requires : tie.Need-fix-requires
@@ -67,7 +67,7 @@ returns c =
     let p40 = p31 .before .before .before .before .before .before .before .before .before in
     let p49 = p40 .before .before .before .before .before .before .before .before .before in
     let a = p49 .args in
-    links (a .at) (a .records .now) (a .names .now) (a .missing .now) (a .given) (a .auto-link) (a .level) (a .w .now, a .trace .now) (p40 .list .ensures) _ _
+    links (a .at) (a .records .now) (a .names .now) (a .missing .now) (a .given) (a .auto-link) (a .fix-level) (a .w .now, a .trace .now) (p40 .list .ensures) _ _
     (p31 .apply-import-named-symbols .ensures) (p19 .apply-module-imports .ensures) (a .place) (p11 .apply-exports-to-loaded .ensures) (p4 .fix .ensures)
 
 pub link-spec : {M : Type 1} → statement M

@@ -1,8 +1,8 @@
--- By whether the module has its record: `load-hindered`, `load-done`.
+-- By whether the module has its record: `load-refused`, `load-done`.
 use mathlib.Core.Path.{_∙_}
 use native.Mathlib.Omega.{arith}
-use Rattle.linker.specs.Calls.Steps.{lent}
-use Rattle.linker.proofs.calls.Calls.{load-hindered, load-linkable, load-done}
+use Rattle.linker.specs.Calls.Steps.{buffers}
+use Rattle.linker.proofs.calls.Calls.{load-refused, load-linkable, load-done}
 use borrow.Author.Needs.{needs}
 use Rattle.linker.proofs.calls.traced.load.Statement.{statement}
 use Rattle.linker.proofs.calls.traced.load.Tie as tie
@@ -16,8 +16,8 @@ cast-place c = search needs
 rebase-requires : tie.Need-rebase-requires
 rebase-requires c κs = search needs
 
-enter-requires : tie.Need-enter-requires
-enter-requires c κs = search needs
+add-record-requires : tie.Need-add-record-requires
+add-record-requires c κs = search needs
 
 same-length : tie.Need-same-length
 same-length c = search needs
@@ -37,8 +37,8 @@ returns c =
     let p18 = p9 .before .before .before .before .before .before .before .before .before in
     let p28 = p18 .before .before .before .before .before .before .before .before .before .before in
     let a = p28 .args in
-    let b = lent (a .w .now) (a .records .now) (a .names .now) (a .missing .now) in
-    load-hindered (a .at) (a .given) (a .auto-link) (a .level) b (a .trace .now) (p18 .rebase .ensures) (p9 .enter .ensures) (c .if1 .taken)
+    let b = buffers (a .w .now) (a .records .now) (a .names .now) (a .missing .now) in
+    load-refused (a .at) (a .given) (a .auto-link) (a .fix-level) b (a .trace .now) (p18 .rebase .ensures) (p9 .add-record .ensures) (c .if1 .taken)
 
 link-requires : tie.Need-link-requires
 link-requires c κs =
@@ -49,9 +49,9 @@ link-requires c κs =
     let p30 = p23 .before .before .before .before .before .before .before in
     let p33 = p30 .before .before .before in
     let a = p33 .args in
-    let b = lent (a .w .now) (a .records .now) (a .names .now) (a .missing .now) in
+    let b = buffers (a .w .now) (a .records .now) (a .names .now) (a .missing .now) in
     let g = p33 .good .1 .1 .1 .1 .1 .1 .0 in
-    load-linkable (a .at) (a .given) (a .auto-link) (a .level) b (a .trace .now) (p23 .rebase .ensures) (p14 .enter .ensures) (p33 .pre) (p5 .if1 .left)
+    load-linkable (a .at) (a .given) (a .auto-link) (a .fix-level) b (a .trace .now) (p23 .rebase .ensures) (p14 .add-record .ensures) (p33 .pre) (p5 .if1 .left)
     (λ i. omega (arith, p12 .slice-known8 .given i)) (λ i. omega (arith, p30 .slice-known3 .given i)) (omega (arith, g .1 .1 .0 .1)) (omega (arith, g .1 .1 .1 .0 .1))
 
 same-length-5 : tie.Need-same-length-5
@@ -81,11 +81,11 @@ returns-2 c =
     let p39 = p35 .before .before .before .before in
     let p42 = p39 .before .before .before in
     let a = p42 .args in
-    let b = lent (a .w .now) (a .records .now) (a .names .now) (a .missing .now) in
+    let b = buffers (a .w .now) (a .records .now) (a .names .now) (a .missing .now) in
     let g = p42 .good .1 .1 .1 .1 .1 .1 .0 in
-    load-done (a .at) (a .given) (a .auto-link) (a .level) b (a .trace .now) (p32 .rebase .ensures) (p23 .enter .ensures) (p42 .pre) (p14 .if1 .left)
+    load-done (a .at) (a .given) (a .auto-link) (a .fix-level) b (a .trace .now) (p32 .rebase .ensures) (p23 .add-record .ensures) (p42 .pre) (p14 .if1 .left)
     (λ i. omega (arith, p21 .slice-known8 .given i)) (λ i. omega (arith, p39 .slice-known3 .given i)) (omega (arith, g .1 .1 .0 .1)) (omega (arith, g .1 .1 .1 .0 .1))
-    (p35 .used-bytes .ensures) (p8 .link .ensures) (λ i. omega (arith, p2 .slice-known14 .given i)) (p8 .link .kept .1 .1 .1 .0 ∙ p23 .enter .kept .1 .1 .1 .0)
+    (p35 .used-bytes .ensures) (p8 .link .ensures) (λ i. omega (arith, p2 .slice-known14 .given i)) (p8 .link .kept .1 .1 .1 .0 ∙ p23 .add-record .kept .1 .1 .1 .0)
 
 pub load-spec : {M : Type 1} → statement M
 load-spec =
@@ -94,7 +94,7 @@ load-spec =
     used-bytes-requires
     cast-place
     rebase-requires
-    enter-requires
+    add-record-requires
     same-length
     same-length-2
     same-length-3

@@ -1,5 +1,5 @@
 -- By whether a module has the base: `unload-none`, `unload-done`.
-use Rattle.linker.specs.Calls.Steps.{lent}
+use Rattle.linker.specs.Calls.Steps.{buffers}
 use Rattle.linker.proofs.calls.Calls.{unload-none, unload-stands, unload-done}
 use borrow.Author.Needs.{needs}
 use Rattle.linker.proofs.calls.traced.unload.Statement.{statement}
@@ -24,7 +24,7 @@ returns c =
     let p2 = c .before .before in
     let p9 = p2 .before .before .before .before .before .before .before in
     let a = p9 .args in
-    let b = lent (a .w .now) (a .records .now) (a .names .now) (a .missing .now) in
+    let b = buffers (a .w .now) (a .records .now) (a .names .now) (a .missing .now) in
     unload-none (a .at) (a .base) b (a .trace .now) (p9 .pre) (p2 .first-with-base .ensures) (c .enum-told .given .1)
 
 reset-importers-requires : tie.Need-reset-importers-requires
@@ -42,7 +42,7 @@ remove-record-requires c κs =
     let p29 = p27 .before .before in
     let p36 = p29 .before .before .before .before .before .before .before in
     let a = p36 .args in
-    let b = lent (a .w .now) (a .records .now) (a .names .now) (a .missing .now) in
+    let b = buffers (a .w .now) (a .records .now) (a .names .now) (a .missing .now) in
     unload-stands (a .at) (a .base) b (a .trace .now) (p36 .pre) (p29 .first-with-base .ensures) _ (p27 .place .given .1)
 
 same-length-2 : tie.Need-same-length-2
@@ -67,7 +67,7 @@ returns-2 c =
     let p34 = p32 .before .before in
     let p41 = p34 .before .before .before .before .before .before .before in
     let a = p41 .args in
-    let b = lent (a .w .now) (a .records .now) (a .names .now) (a .missing .now) in
+    let b = buffers (a .w .now) (a .records .now) (a .names .now) (a .missing .now) in
     unload-done (a .at) (a .base) b (a .trace .now) (p41 .pre) (p34 .first-with-base .ensures) _ (p32 .place .given .1)
     (p26 .reset-importers .ensures) (p18 .unlist .ensures) (p11 .unrebase .ensures) (p4 .remove-record .ensures)
 

@@ -1,4 +1,4 @@
--- A walk over the records: `going-starts`, `served-turn`, `served-all`.
+-- A walk over the records: `record-walk-starts`, `served-turn`, `served-all`.
 use Prim.Native.Nat.{_-_, _≤_}
 use mathlib.Core.Path.{_≡_, refl, _∙_}
 use native.Mathlib.Omega.{arith}
@@ -10,7 +10,7 @@ use Rattle.register.specs.Read.Walk.{unwrapped}
 use Rattle.linker_spec.specs.Imports.{applyExportsToLoaded}
 use Rattle.linker.specs.Imports.Modules.{butLast}
 use Rattle.linker.proofs.imports.Walks.{serving, served-turn, served-all}
-use Rattle.linker.specs.Sources.Walks.{Going, going-starts, going-fits}
+use Rattle.linker.specs.Sources.Walks.{RecordWalk, record-walk-starts, record-walk-fits}
 use Rattle.linker.proofs.imports.others.apply_exports_to_loaded.Statement.{statement}
 use Rattle.linker.proofs.imports.others.apply_exports_to_loaded.Tie as tie
 
@@ -18,7 +18,7 @@ abbrev Inv-loop : tie.InvT-loop
 Inv-loop at w₀ trace₀ records names place count next₀ k₀ w trace next k =
     (1 ≤ k)
     × (length w ≡ length w₀)
-    × Going (serving at (moduleAt records names place)) records names next (k - 1) (w, trace)
+    × RecordWalk (serving at (moduleAt records names place)) records names next (k - 1) (w, trace)
     (runT at (applyExportsToLoaded (moduleAt records names place) (butLast (modulesOf records names))) (w₀, trace₀))
     × (length trace ≡ length trace₀)
 
@@ -33,7 +33,7 @@ loop-holds c =
     let p5 = c .before .before .before .before .before in
     let a = p5 .args in
     let m = moduleAt (a .records .now) (a .names .now) (a .place) in
-    (omega arith, refl, going-starts (serving (a .at) m) (a .records .now) (a .names .now) (a .w .now, a .trace .now) (p5 .pre), refl)
+    (omega arith, refl, record-walk-starts (serving (a .at) m) (a .records .now) (a .names .now) (a .w .now, a .trace .now) (p5 .pre), refl)
 
 record-at-requires : tie.Need-record-at-requires Inv-loop μ-loop
 record-at-requires c κs = search needs
@@ -62,7 +62,7 @@ loop-again c =
     let m = moduleAt (a .records .now) (a .names .now) (a .place) in
     let end = runT (a .at) (applyExportsToLoaded m (butLast (modulesOf (a .records .now) (a .names .now)))) (a .w .now, a .trace .now) in
     let f =
-    going-fits (serving (a .at) m) (a .records .now) (a .names .now) (p10 .loop .next) (p10 .loop .k - 1) (p10 .loop .w, p10 .loop .trace)
+    record-walk-fits (serving (a .at) m) (a .records .now) (a .names .now) (p10 .loop .next) (p10 .loop .k - 1) (p10 .loop .w, p10 .loop .trace)
     {end = end} (p10 .loop .inv .2) (omega (arith, p9 .loop-test .taken, p10 .loop .inv .0, p11 .module-count .ensures)) (p8 .record-at .ensures) in (
       omega arith,
       p5 .serve .kept .1 .0 ∙ p10 .loop .inv .1,

@@ -5,14 +5,14 @@ use lib.ListN.{length}
 use borrow.Author.Needs.{needs}
 use Rattle.register.specs.Words.{flat}
 use Rattle.register.specs.Encode.{recordWords}
-use Rattle.register.specs.Change.Lower.{Records, Walked, walk-start, walk-next, walk-end}
+use Rattle.register.specs.Change.Lower.{RecordsFrom, Walked, walk-start, walk-next, walk-end}
 use Rattle.register.proofs.change.Laws.{size-part}
 use Rattle.register.proofs.change.lower.lower_records.Statement.{statement}
 use Rattle.register.proofs.change.lower.lower_records.Tie as tie
 
 abbrev Inv-loop : tie.InvT-loop
 Inv-loop bytes₀ d place₀ bytes place =
-    (length bytes ≡ length bytes₀) × ((s : Records d bytes₀) → Walked d place bytes (flat (recordWords (s .from - d) (s .modules))))
+    (length bytes ≡ length bytes₀) × ((s : RecordsFrom d bytes₀) → Walked d place bytes (flat (recordWords (s .from - d) (s .modules))))
 
 abbrev μ-loop : tie.MeasureT-loop
 μ-loop bytes₀ d place₀ bytes place = length bytes₀ - place
