@@ -4,9 +4,8 @@ use mathlib.Core.List.{List}
 use lib.ListN.{getD}
 use lib.Dec.{eqb}
 use Rattle.window.specs.Memory.{if_then_else_}
-use Rattle.linker_spec.specs.Outcome.{Buffers, Outcome, initializeOutcome, loadOutcome, unloadOutcome}
+use Rattle.linker_spec.specs.Outcome.{Buffers, Outcome, initializeOutcome, loadOutcome, unloadOutcome, loadArguments}
 use Rattle.linker_spec.specs.Touches.{initializeTouches, loadTouches, unloadTouches}
-use Rattle.linker.specs.Calls.Steps.{loadArguments}
 
 -- the call of the case at a place, and its arguments
 unfoldable pub called : List ℕ → ℕ → Buffers → Outcome

@@ -1,6 +1,6 @@
 // The buffers of a stored call: laid out before it, and compared after it. The program call_cases says how a case is stored.
 ghost use mathlib.Core.Path.{_≡_};
-ghost use Rattle.linker.specs.Calls.Steps.{buffers};
+ghost use Rattle.linker_spec.specs.Outcome.{buffers};
 ghost use Rattle.call_cases.specs.Buffers.{laid, compared};
 use case_reader::append::NextPlace;
 use case_reader::put_pieces;

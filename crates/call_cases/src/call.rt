@@ -3,11 +3,11 @@ ghost use mathlib.Core.Path.{_≡_};
 ghost use Prim.Native.Nat.{_/_, _≤_};
 ghost use lib.ListN.{length};
 ghost use Rattle.register.specs.Words.{wordsIn};
-ghost use Rattle.linker.specs.Calls.Steps.{buffers, outcome};
+ghost use Rattle.linker_spec.specs.Outcome.{buffers, outcome};
 ghost use Rattle.call_cases.specs.Case.{called, touchedBy};
-use linker::calls::initialize;
-use linker::calls::load;
-use linker::calls::unload;
+use fillqhano::initialize;
+use fillqhano::load;
+use fillqhano::unload;
 use register::words::word;
 
 // The call that the case at place `at` stores, with its arguments.

@@ -1,34 +1,12 @@
-// How a call begins: the two tests that all have, and a module's entry into the register.
+// A module's entry into the register.
 ghost use mathlib.Core.Path.{_≡_};
-ghost use Rattle.window.specs.Memory.{goodWindow};
-ghost use Rattle.register.specs.Decode.{isRegister};
 ghost use Rattle.register.specs.Read.Read.{Encoded};
-ghost use Rattle.linker.specs.Entry.Entry.{refusalOfBuffers, recordAdded};
+ghost use Rattle.linker.specs.Entry.Entry.{recordAdded};
 use crate::exports::IndexResult;
 use crate::exports::index_exports;
 use crate::relocation::reset_external_relocations;
 use crate::touches::touch_module;
 use linker_spec::rebase::Rebased;
-use register_test::is_register;
-
-// The tests that come first: 3 where the window breaks its rule, then 4 where the buffers are no register.
-pub(crate) fn refusal_of_buffers(
-    at: u32,
-    w: &[u8],
-    records: &[u8],
-    names: &[u8],
-    missing: &[u8],
-) -> u32
-    ensures { λ r. ⌜ r ≡ refusalOfBuffers (goodWindow at (now (w .entry))) (isRegister (now (records .entry)) (now (names .entry)) (now (missing .entry))) ⌝ }
-{
-    if !window::good_window(at, w) {
-        return 3;
-    }
-    if !is_register(records, names, missing) {
-        return 4;
-    }
-    0
-}
 
 // Gives a rebased module its record: 0, or the number of what hinders it. What the Rust reads for a record is touched in
 // its order once the record stands: with 5 nothing of it counts.

@@ -33,9 +33,9 @@ abbrev pub readAfter : (at base size : ℕ) → Bool → List ℕ → Module
 readAfter at base size auto w = run at (readModule base size auto) (run at (resetExternalRelocations base) w .1) .0
 
 -- the number after a good magic: 2 for a refused segment, else 0 or 5 as the record fits or not
-abbrev pub entered : Moved → Bool → ℕ
-entered Bad f = 2
-entered (OldPlace old) f = if f then 0 else 5
+abbrev pub entryNumber : Moved → Bool → ℕ
+entryNumber Bad f = 2
+entryNumber (OldPlace old) f = if f then 0 else 5
 
 abbrev Zero : Answer → Type 0
 Zero a = number a ≡ 0
@@ -79,14 +79,14 @@ module _ (base size : ℕ) (auto : Bool) (segments : Prog Moved) (next : Module 
 
   pub entry-number
       : number (run at call w .0)
-      ≡ (if isMagic (wordAt at w (base ⊕ magic)) then entered (run at segments (run at (moveHeader true base) w .1) .0) fitting else 1)
+      ≡ (if isMagic (wordAt at w (base ⊕ magic)) then entryNumber (run at segments (run at (moveHeader true base) w .1) .0) fitting else 1)
   unfolding number
   entry-number = go (isMagic (wordAt at w (base ⊕ magic))) refl (run at segments (run at (moveHeader true base) w .1)) refl
     where
       go
           : (t : Bool) → isMagic (wordAt at w (base ⊕ magic)) ≡ t → (x : Moved × List ℕ)
           → run at segments (run at (moveHeader true base) w .1) ≡ x
-          → number (run at call w .0) ≡ (if t then entered (x .0) fitting else 1)
+          → number (run at call w .0) ≡ (if t then entryNumber (x .0) fitting else 1)
       go false e x s = ap (λ (y : Answer × List ℕ). number (y .0)) (enters-1 base size auto segments next records names r at w e)
       go true e (Bad, v) s = ap (λ (y : Answer × List ℕ). number (y .0)) (enters-2 base size auto segments next records names r at w e s)
       go true e (OldPlace old, v) s =
@@ -141,7 +141,7 @@ module _ (at : ℕ) (b : Buffers) where
       → loadOutcome l auto level at b .number
       ≡ (if goodWindow at (b .window) then (if isRegister (b .records) (b .names) (b .missing)
       then (if isMagic (wordAt at (b .window) (l .base ⊕ magic))
-      then entered (run at (moveSegments l) (run at (moveHeader true (l .base)) (b .window) .1) .0)
+      then entryNumber (run at (moveSegments l) (run at (moveHeader true (l .base)) (b .window) .1) .0)
       (fitsIn (loadedModule at l (not (eqb auto 0)) (b .window)))
       else 1) else 4) else 3)
   unfolding loadOutcome load rebase
@@ -167,7 +167,7 @@ module _ (at : ℕ) (b : Buffers) where
       outcome-number (initialize base size) at b
       ∙ ap (λ n. if goodWindow at (b .window) then (if isRegister (b .records) (b .names) (b .missing) then n else 4) else 3)
       (entry-number base size true _ _ (initialized-0 (lentRegister b) base) (length (b .records)) (length (b .names)) (lentRegister b) at (b .window)
-      ∙ ap (λ x. if isMagic (wordAt at (b .window) (base ⊕ magic)) then entered x (fitsIn (initializedModule at base size (b .window))) else 1)
+      ∙ ap (λ x. if isMagic (wordAt at (b .window) (base ⊕ magic)) then entryNumber x (fitsIn (initializedModule at base size (b .window))) else 1)
       (looked base (run at (moveHeader true base) (b .window) .1)))
 
   -- a load that passes 1 and 2 answers 0 if its record fits, and 5 exactly if not

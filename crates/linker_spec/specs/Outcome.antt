@@ -24,6 +24,18 @@ pub record Outcome : Type 0 where
   pub value : ℕ
   pub left : Buffers
 
+-- both from their parts, as the contracts of the exported calls have them
+abbrev pub buffers : List ℕ → List ℕ → List ℕ → List ℕ → Buffers
+buffers window records names missing = record { window = window; records = records; names = names; missing = missing }
+
+abbrev pub outcome : ℕ → ℕ → Buffers → Outcome
+outcome number value b = record { number = number; value = value; left = b }
+
+-- what a load is lent beside the bytes
+abbrev pub loadArguments : (base size dataSegment dataSegmentSize bssSegment bssSegmentSize : ℕ) → LoadArguments
+loadArguments base size dataSegment dataSegmentSize bssSegment bssSegmentSize =
+    record { base = base; size = size; «data_segment» = dataSegment; «data_segment_size» = dataSegmentSize; «bss_segment» = bssSegment; «bss_segment_size» = bssSegmentSize }
+
 abbrev pub refused : Answer → Buffers → Outcome
 refused a b = record { number = number a; value = value a; left = b }
 

@@ -3,11 +3,10 @@ use Prim.Native.Nat.{ℕ, _+_}
 use mathlib.Core.Path.{_≡_, refl, ap, _∙_}
 use mathlib.Core.List.{List}
 use Rattle.linker_spec.specs.declared.call.Call.{Call}
-use Rattle.linker_spec.specs.Outcome.{Buffers, Outcome}
+use Rattle.linker_spec.specs.Outcome.{Buffers, Outcome, outcome}
 use Rattle.history.specs.Windows.{given-valid}
 use Rattle.history.specs.Theorem.Demand3.{promised-given}
 use Rattle.session.specs.Continues.{turn, Continues}
-use Rattle.linker.specs.Calls.Steps.{outcome}
 use Rattle.session.specs.declared.step.Step.{Step}
 use Rattle.session.specs.declared.step.Step.the-variants.{Bad}
 use Rattle.session.specs.Lines.{stepLine}

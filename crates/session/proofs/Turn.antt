@@ -36,7 +36,7 @@ use denote.Triple.Clauses.{ensured, lasts}
 use denote.Triple.Entry.{Args, Vals}
 use denote.Triple.Spec.{tripleOf}
 use denote.Triple.Walked.{says}
-use Rattle.linker.specs.Calls.Steps.{buffers}
+use Rattle.linker_spec.specs.Outcome.{buffers}
 use Rattle.session.specs.declared.step.Step.{Step}
 use Rattle.session.proofs.step.Step as S
 use Rattle.session.specs.Ahead.{TextAndBuffers, StepRan}

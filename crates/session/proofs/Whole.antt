@@ -10,9 +10,8 @@ use Rattle.register.specs.Words.{part}
 use Rattle.register.specs.Module.{proper}
 use Rattle.register.specs.Decode.{registerOf}
 use Rattle.register.specs.CheckIs.{register-parts}
-use Rattle.linker_spec.specs.Outcome.{Buffers}
+use Rattle.linker_spec.specs.Outcome.{Buffers, buffers}
 use Rattle.linker_spec.specs.Refusals.{lentRegister}
-use Rattle.linker.specs.Calls.Steps.{buffers}
 use Rattle.text.specs.Text.{bytes, decimalOf, put}
 use Rattle.text.specs.Laws.{put-append, put-whole}
 use Rattle.session.specs.Head.{stepCount, windowLength, windowOffset}

@@ -1,11 +1,11 @@
 // A call of a session: any of the three exported calls, by value, with demand 3 in its contract.
 ghost use mathlib.Core.Path.{_≡_};
 ghost use Rattle.linker_spec.specs.Touches.{touchesOf};
-ghost use Rattle.linker.specs.Calls.Steps.{buffers, outcome};
+ghost use Rattle.linker_spec.specs.Outcome.{buffers, outcome};
 ghost use Rattle.session.specs.Continues.{turn, Continues};
-use linker::calls::initialize;
-use linker::calls::load;
-use linker::calls::unload;
+use fillqhano::initialize;
+use fillqhano::load;
+use fillqhano::unload;
 use linker_spec::call::Call;
 
 // What a call answered.

@@ -12,7 +12,7 @@ ghost use Prim.Native.Nat.{_<_, _≤_};
 ghost use lib.ListN.{length};
 ghost use Rattle.register.specs.Decode.{isRegister};
 ghost use Rattle.text.specs.Text.{put};
-ghost use Rattle.linker.specs.Calls.Steps.{buffers, outcome};
+ghost use Rattle.linker_spec.specs.Outcome.{buffers, outcome};
 ghost use Rattle.session.specs.Head.{stepCount};
 ghost use Rattle.session.specs.Run.{StepPromise};
 ghost use Rattle.session.specs.Session.{sessionText};

@@ -8,6 +8,7 @@ use lib.ListN.{length, take, getD, replicate}
 use lib.Seq.{length-take-le}
 use lib.Dec.{leb}
 use borrow.Author.Tests.{le-leb, lt-leb}
+use Rattle.window.specs.Memory.{if_then_else_}
 use Rattle.register.specs.Words.{wordsIn}
 use Rattle.case_reader.specs.declared.append.NextPlace.{NextPlace}
 use Rattle.case_reader.specs.declared.append.NextPlace.the-variants.{At, Full}

@@ -4,9 +4,8 @@ use mathlib.Core.Path.{_≡_}
 use mathlib.Core.List.{List}
 use lib.ListN.{getD}
 use borrow.Author.Tests.{ne-eqb}
-use Rattle.linker_spec.specs.Outcome.{Buffers, Outcome, initializeOutcome, loadOutcome, unloadOutcome}
+use Rattle.linker_spec.specs.Outcome.{Buffers, Outcome, initializeOutcome, loadOutcome, unloadOutcome, loadArguments}
 use Rattle.linker_spec.specs.Touches.{initializeTouches, loadTouches, unloadTouches}
-use Rattle.linker.specs.Calls.Steps.{loadArguments}
 use Rattle.call_cases.specs.Case.{called, touchedBy}
 
 module _ (ws : List ℕ) (at : ℕ) (b : Buffers) {a base size k : ℕ} (ea : a ≡ getD ws (at + 2) 0) (eb : base ≡ getD ws (at + 7) 0)

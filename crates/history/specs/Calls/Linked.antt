@@ -43,8 +43,8 @@ recorded-more x [] k h g = (g, tt)
 recorded-more x (m ∷ ms) k h g = (h .0, recorded-more (λ j. x (suc j)) ms k (h .1) g)
 
 -- the same cast with number n fixed at that level
-abbrev pub fixedCast : Modules → ℕ → ℕ → Modules
-fixedCast E n level =
+abbrev pub fixedModules : Modules → ℕ → ℕ → Modules
+fixedModules E n level =
     record { number = E .number; image = E .image; rest = put (E .rest) n (fixedAt (E .image n) level (E .rest n)) }
 
 module _ (E : Modules) (sound : Sound E) where
@@ -68,7 +68,7 @@ module _ (E : Modules) (sound : Sound E) where
   -- module n is fixed
   fixes-modules-show
       : {φ : ℕ → Links} {x y : ℕ → ℕ} {M : Memory} (n : ℕ) → n < E .number → (level : ℕ) → level ≢ 2 → level ≢ 3 → AllModulesShow E φ x y M
-      → Does S (fix (b n) (sizeOf (E .image n .loadCall)) level) (λ _ N. AllModulesShow (fixedCast E n level) φ x y N) M
+      → Does S (fix (b n) (sizeOf (E .image n .loadCall)) level) (λ _ N. AllModulesShow (fixedModules E n level) φ x y N) M
   fixes-modules-show {φ} {x} {y} {M} n l level c d w =
       does-mono S
       (does-wider (Area (E .image n)) S (λ q s. (n, l, s))
@@ -171,7 +171,7 @@ module _ (E : Modules) (sound : Sound E) where
     -- all that follows the record; Q is asked of the call
     pub links-in
         : (l : LoadArguments) → l .base ≡ b n → l .size ≡ sizeOf (E .image n .loadCall) → (level : ℕ) → level ≢ 2 → level ≢ 3 → {Q : Answer → Memory → Type 0}
-        → ((fixed : ℕ) (missing : List (List ℕ)) (N : Memory) (φ : ℕ → Links) (x y : ℕ → ℕ) → AllModulesShow (fixedCast E n level) φ x y N
+        → ((fixed : ℕ) (missing : List (List ℕ)) (N : Memory) (φ : ℕ → Links) (x y : ℕ → ℕ) → AllModulesShow (fixedModules E n level) φ x y N
         → ListWords b (suc n) x y → AllResolved φ → Q (Done fixed (missingNow (appended r k) missing)) N)
         → {φ : ℕ → Links} {x y : ℕ → ℕ} {M : Memory} → φ n ≡ (λ _. none) → ((j : ℕ) → j < n → LinksResolved n (E .image) (E .image j) (φ j))
         → AllModulesShow E φ x y M → ListWords b n x y → Does S (linked r l true level k) Q M

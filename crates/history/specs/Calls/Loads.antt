@@ -38,7 +38,7 @@ use Rattle.history.specs.Rebase.Header.{AsInFile}
 use Rattle.history.specs.Rebase.Rebased.{rebased}
 use Rattle.history.specs.Rebase.Arrives.{Arrived, Refuses, recorded}
 use Rattle.history.specs.Calls.LinkedState.{baseIn, LinkedState, RegisterMatches, AtRest, extended, image-new, image-old, rest-new, each, more-sound, listed-same, resolved-same, recorded-same}
-use Rattle.history.specs.Calls.Linked.{recorded-more, fixedCast, links-in}
+use Rattle.history.specs.Calls.Linked.{recorded-more, fixedModules, links-in}
 use Rattle.history.specs.Calls.Bringing.{brought, Brought, brings}
 
 -- the bytes at rest of a module that is loaded over the memory B
@@ -140,14 +140,14 @@ module _ (C : Modules) (m : Image) (laid : WellLaid m) (low : Low (Area m))
 
   -- the new one fixed, said of the cast
   modules-again
-      : (level : ℕ) (N : Memory) {ψ : ℕ → Links} {u v : ℕ → ℕ} {L : Memory} → AllModulesShow (fixedCast (extended C m N) n level) ψ u v L
+      : (level : ℕ) (N : Memory) {ψ : ℕ → Links} {u v : ℕ → ℕ} {L : Memory} → AllModulesShow (fixedModules (extended C m N) n level) ψ u v L
       → AllModulesShow (extended C m (fixedAt m level N)) ψ u v L
   modules-again level N w = record { stands = λ k l. rw (← same k (ℕ-discrete k n)) (w .stands k l) }
     where
       E : Modules
       E = extended C m N
 
-      same : (k : ℕ) → Dec (k ≡ n) → fixedCast E n level .rest k ≡ extended C m (fixedAt m level N) .rest k
+      same : (k : ℕ) → Dec (k ≡ n) → fixedModules E n level .rest k ≡ extended C m (fixedAt m level N) .rest k
       same k (yes e) =
           rw e
           (put-same (E .rest) n (fixedAt (E .image n) level (E .rest n))
@@ -193,7 +193,7 @@ module _ (C : Modules) (l : LoadArguments) (auto : Bool) (level : ℕ) (f : ℕ 
 
       came
           : (N : Memory) → Brought m (rebase l) B N → (k : Module) → Recorded m k → (missing : List (List ℕ)) (L : Memory)
-          (ψ : ℕ → Links) (u v : ℕ → ℕ) → AllModulesShow (fixedCast (extended C m N) (C .number) level) ψ u v L
+          (ψ : ℕ → Links) (u v : ℕ → ℕ) → AllModulesShow (fixedModules (extended C m N) (C .number) level) ψ u v L
           → ListWords (baseIn (extended C m N)) (suc (C .number)) u v
           → ((j : ℕ) → j < suc (C .number) → LinksResolved (suc (C .number)) images (images j) (ψ j))
           → LoadSucceeded C l m level B (missingNow (appended r k) missing) L

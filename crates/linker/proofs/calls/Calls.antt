@@ -28,7 +28,7 @@ use Rattle.linker_spec.specs.Exports.{readModule, readModule-reads}
 use Rattle.linker_spec.specs.Resets.{resetImporters}
 use Rattle.linker_spec.specs.Unrebase.{unrebase}
 use Rattle.linker_spec.specs.Calls.{Answer, Done, number, value, rebase, rebaseStatic, addRecord, initialized, initialize, missingNow, linked, load, FirstWithBase, unknown, firstWithBase, leave, unlisted, unload}
-use Rattle.linker_spec.specs.Outcome.{Buffers, Outcome, registerAfter, outcomeOf}
+use Rattle.linker_spec.specs.Outcome.{Buffers, Outcome, registerAfter, outcomeOf, buffers, outcome}
 use Rattle.linker_spec.specs.Touches.{resetRebased, upToReset, counted}
 use Rattle.linker_spec.specs.Refusals.{lentRegister}
 use Rattle.linker_spec.specs.Room.{fits-means}
@@ -36,8 +36,7 @@ use Rattle.linker_spec.specs.Reads.{readModule-yields}
 use Rattle.linker.specs.Imports.Modules.{modules-are}
 use Rattle.linker.specs.Resets.Modules.{otherThan}
 use Rattle.linker.specs.Entry.Entry.{EntryResult, recordAdded}
-use Rattle.linker.specs.Calls.Steps.{buffers, clearListFields}
-use Rattle.linker.specs.Calls.Steps as steps
+use Rattle.linker.specs.Calls.Steps.{clearListFields}
 use Rattle.linker.specs.Calls.Laws.{RecordAdded, in-now, not-now}
 use Rattle.linker.specs.Calls.Stored.{crs-stored, missing-stored, used-place, register-exact, appended-kept}
 use Rattle.linker.specs.Calls.Linked.{headerCrs, LinkLeaves, one-more}
@@ -49,7 +48,7 @@ abbrev OutcomeAndTrace : Type 0
 OutcomeAndTrace = Outcome × List ℕ
 
 abbrev leaves : ℕ → ℕ → State → List ℕ → List ℕ → List ℕ → OutcomeAndTrace
-leaves n v s records names missing = (steps.outcome n v (buffers (s .0) records names missing), s .1)
+leaves n v s records names missing = (outcome n v (buffers (s .0) records names missing), s .1)
 
 -- a call that is done leaves the register that it says
 finishes

@@ -2,7 +2,7 @@
 use Prim.Native.Nat.{ℕ}
 use mathlib.Core.Path.{_≡_, sym, ap, _∙_, subst}
 use mathlib.Core.List.{List}
-use mathlib.Core.Bool.{Bool, true, false}
+use mathlib.Core.Bool.{Bool}
 use Rattle.window.specs.Access.{Prog, run}
 use Rattle.window.specs.Trace.{State, runT}
 use Rattle.window.specs.Silent.{reads-runT}
@@ -17,21 +17,7 @@ use Rattle.linker_spec.specs.Touches.{counted}
 use Rattle.linker.specs.declared.exports.IndexResult.{IndexResult}
 use Rattle.linker.specs.declared.exports.IndexResult.the-variants as indexed
 use Rattle.linker.specs.Exports.Exported.{registerIn, entryAnswer, exported}
-use Rattle.linker.specs.Entry.Entry.{EntryResult, refusalOfBuffers, recordAdded, record-added-done}
-
--- the tests
-
-pub refusal-3 : {g : Bool} (v : Bool) → g ≡ false → 3 ≡ refusalOfBuffers g v
-unfolding refusalOfBuffers number
-refusal-3 v e = rw e
-
-pub refusal-4 : {g v : Bool} → g ≡ true → v ≡ false → 4 ≡ refusalOfBuffers g v
-unfolding refusalOfBuffers number
-refusal-4 e f = rw (e, f)
-
-pub refusal-0 : {g v : Bool} → g ≡ true → v ≡ true → 0 ≡ refusalOfBuffers g v
-unfolding refusalOfBuffers number
-refusal-0 e f = rw (e, f)
+use Rattle.linker.specs.Entry.Entry.{EntryResult, recordAdded, record-added-done}
 
 -- the entry of a module, as its parts give it
 

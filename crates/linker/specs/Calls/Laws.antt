@@ -5,7 +5,6 @@ use mathlib.Core.List.{List}
 use mathlib.Core.Bool.{Bool, true, false}
 use native.Mathlib.Omega.{arith}
 use lib.ListN.{length}
-use Rattle.window.specs.Memory.{goodWindow}
 use Rattle.window.specs.Access.{Prog}
 use Rattle.window.specs.Trace.{State, runT}
 use Rattle.window.specs.TraceRuns.{two}
@@ -13,41 +12,18 @@ use Rattle.window.specs.Silent.{reads-runT}
 use Rattle.layout.specs.Header.{nextCro, previousCro}
 use Rattle.layout.specs.Segments.{setField}
 use Rattle.register.specs.Module.{Module, Register}
-use Rattle.register.specs.Decode.{isRegister}
 use Rattle.register.specs.Change.{appended}
 use Rattle.register.specs.Buffers.{encodeRecords, encodeNames}
 use Rattle.linker_spec.specs.declared.rebase.Rebased.{Rebased}
 use Rattle.linker_spec.specs.Relocation.{resetExternalRelocations}
 use Rattle.linker_spec.specs.Exports.{readModule, readModule-reads}
 use Rattle.linker_spec.specs.Calls.{Answer, number, value, fits, addRecord}
-use Rattle.linker_spec.specs.Outcome.{Buffers, Outcome, registerAfter, outcomeOf, callOutcome}
+use Rattle.linker_spec.specs.Outcome.{Buffers, Outcome, registerAfter, outcomeOf, buffers, outcome}
 use Rattle.linker_spec.specs.Touches.{resetRebased, counted}
-use Rattle.linker_spec.specs.Refusals.{lentRegister, refuses-3, refuses-4}
+use Rattle.linker_spec.specs.Refusals.{lentRegister}
 use Rattle.linker.specs.Exports.Exported.{registerIn, exported, fits-in, records-in, names-in}
-use Rattle.linker.specs.Entry.Entry.{EntryResult, refusalOfBuffers, recordAdded, add-record-done, record-added-done}
-use Rattle.linker.specs.Calls.Steps.{buffers, outcome, clearListFields}
-
--- the tests
-
-pub tests-pass : (g v : Bool) {n : ℕ} → n ≡ refusalOfBuffers g v → n ≡ 0 → (g ≡ true) × (v ≡ true)
-unfolding refusalOfBuffers number
-tests-pass true true e z = (refl, refl)
-tests-pass true false e z = absurd (omega arith)
-tests-pass false v e z = absurd (omega arith)
-
-pub tests-refuse
-    : (call : ℕ → ℕ → Register → Prog Answer) (at : ℕ) (b : Buffers) {n : ℕ}
-    → n ≡ refusalOfBuffers (goodWindow at (b .window)) (isRegister (b .records) (b .names) (b .missing)) → (n ≡ 0 → ⊥) → outcome n 0 b ≡ callOutcome call at b
-unfolding refusalOfBuffers number value
-tests-refuse call at b {n} e k =
-    go (goodWindow at (b .window)) (isRegister (b .records) (b .names) (b .missing)) refl refl e
-  where
-    go
-        : (g v : Bool) → goodWindow at (b .window) ≡ g → isRegister (b .records) (b .names) (b .missing) ≡ v → n ≡ refusalOfBuffers g v
-        → outcome n 0 b ≡ callOutcome call at b
-    go true true eg ev e = absurd (k e)
-    go true false eg ev e = rw e (sym (refuses-4 call at b eg ev))
-    go false v eg ev e = rw e (sym (refuses-3 call at b eg))
+use Rattle.linker.specs.Entry.Entry.{EntryResult, recordAdded, add-record-done, record-added-done}
+use Rattle.linker.specs.Calls.Steps.{clearListFields}
 
 -- the entry of a module
 

@@ -1,23 +1,14 @@
--- A call over a lent trace, its tests passed: what it leaves, and what an exported call makes of that.
+-- A call over a lent trace, its tests passed: what it leaves.
 use Prim.Native.Nat.{ℕ}
-use mathlib.Core.Path.{_≡_, refl, sym, ap, _∙_}
 use mathlib.Core.List.{List}
-use mathlib.Core.Bool.{Bool, true, false, _&&_}
 use lib.ListN.{length}
-use lib.Dec.{eqb}
-use Rattle.window.specs.Memory.{if_then_else_, goodWindow}
-use Rattle.window.specs.Access.{Prog, run}
-use Rattle.window.specs.Trace.{runT, touchOf}
-use Rattle.window.specs.Silent.{erase}
+use Rattle.window.specs.Access.{Prog}
+use Rattle.window.specs.Trace.{runT}
 use Rattle.register.specs.Module.{Register}
-use Rattle.register.specs.Decode.{isRegister}
-use Rattle.linker_spec.specs.Calls.{Answer, NoRoom, number}
-use Rattle.linker_spec.specs.Outcome.{Buffers, Outcome, outcomeOf, callOutcome}
-use Rattle.linker_spec.specs.Touches.{noTouch, no-log, touchIn, counted, touches}
-use Rattle.linker_spec.specs.Refusals.{lentRegister, answers}
-use Rattle.linker.specs.Entry.Entry.{refusalOfBuffers}
-use Rattle.linker.specs.Calls.Steps.{outcome}
-use Rattle.linker.specs.Calls.Laws.{tests-pass, tests-refuse}
+use Rattle.linker_spec.specs.Calls.{Answer}
+use Rattle.linker_spec.specs.Outcome.{Buffers, Outcome, outcomeOf, outcome}
+use Rattle.linker_spec.specs.Touches.{counted}
+use Rattle.linker_spec.specs.Refusals.{lentRegister}
 
 -- the call as its buffers' lengths and its register make it
 abbrev pub callOf : (ℕ → ℕ → Register → Prog Answer) → Buffers → Prog Answer
@@ -28,68 +19,3 @@ unfoldable pub traced : (ℕ → ℕ → Register → Prog Answer) → Prog (Uni
 traced call beginning at b t =
     let x = runT at (callOf call b) (b .window, t) in
     (outcomeOf b (x .0, x .1 .0), counted (x .0) (runT at beginning (b .window, t) .1 .1) (x .1 .1))
-
-counted-ap : {A B : Type 0} (f : A → B) (a : Answer) (x y : A) → f (counted a x y) ≡ counted a (f x) (f y)
-unfolding counted
-counted-ap f a x y = go (eqb (number a) (number NoRoom))
-  where
-    go : (t : Bool) → f (if t then x else y) ≡ (if t then f x else f y)
-    go true = refl
-    go false = refl
-
--- a call that its tests refuse makes no access
-refused-touches
-    : (call : ℕ → ℕ → Register → Prog Answer) (beginning : Prog (Unit {0})) (at : ℕ) (b : Buffers) {n : ℕ}
-    → n ≡ refusalOfBuffers (goodWindow at (b .window)) (isRegister (b .records) (b .names) (b .missing)) → (n ≡ 0 → ⊥)
-    → _≡_ {A = ℕ × ℕ} (0, 0) (touches call beginning at b)
-unfolding touches refusalOfBuffers
-refused-touches call beginning at b {n} e k = go (goodWindow at (b .window)) (isRegister (b .records) (b .names) (b .missing)) e
-  where
-    go
-        : (g v : Bool) → n ≡ refusalOfBuffers g v
-        → _≡_ {A = ℕ × ℕ} (0, 0) (if g && v then counted (run at (callOf call b) (b .window) .0) (touchIn at beginning (b .window)) (touchIn at (callOf call b) (b .window)) else (0, 0))
-    go true true e = absurd (k e)
-    go true false e = refl
-    go false v e = refl
-
--- an exported call that passes its tests lends a trace of which nothing is said
-module _ (call : ℕ → ℕ → Register → Prog Answer) (beginning : Prog (Unit {0})) (at : ℕ) (b : Buffers) (g : goodWindow at (b .window) ≡ true)
-    (v : isRegister (b .records) (b .names) (b .missing) ≡ true) where
-  same : let x = runT at (callOf call b) (b .window, noTouch) in _≡_ {A = Answer × List ℕ} (x .0, x .1 .0) (run at (callOf call b) (b .window))
-  same = erase at (callOf call b) (b .window) noTouch no-log .0
-
-  exported-left : {o : Outcome} {t : List ℕ} → (o, t) ≡ traced call beginning at b noTouch → o ≡ callOutcome call at b
-  unfolding traced
-  exported-left e =
-      ap (λ (y : Outcome × List ℕ). y .0) e
-      ∙ ap (outcomeOf b) same
-      ∙ sym (answers call at b g v refl)
-
-  exported-touches
-      : {o : Outcome} {t : List ℕ} {touch : ℕ × ℕ} → (o, t) ≡ traced call beginning at b noTouch → touch ≡ touchOf t
-      → touch ≡ touches call beginning at b
-  unfolding traced touches touchIn
-  exported-touches e h =
-      let x = runT at (callOf call b) (b .window, noTouch) in
-      rw (h, g, v)
-      (ap (λ (y : Outcome × List ℕ). touchOf (y .1)) e
-      ∙ counted-ap touchOf (x .0) _ _
-      ∙ ap (λ (y : Answer × List ℕ). counted (y .0) (touchIn at beginning (b .window)) (touchIn at (callOf call b) (b .window))) same)
-
-pub told : (t : List ℕ) {touched first : ℕ} → touched ≡ touchOf t .0 → first ≡ touchOf t .1 → _≡_ {A = ℕ × ℕ} (touched, first) (touchOf t)
-told t e f = rw (e, f)
-
--- both clauses of an exported call: the tests refuse it, or it is made
-module _ (call : ℕ → ℕ → Register → Prog Answer) (beginning : Prog (Unit {0})) (at : ℕ) (b : Buffers) {n : ℕ}
-    (e : n ≡ refusalOfBuffers (goodWindow at (b .window)) (isRegister (b .records) (b .names) (b .missing))) where
-  pub call-refused
-      : (n ≡ 0 → ⊥) → {v touched first : ℕ} → (v ≡ 0) × (touched ≡ 0) × (first ≡ 0)
-      → (outcome n v b ≡ callOutcome call at b) × _≡_ {A = ℕ × ℕ} (touched, first) (touches call beginning at b)
-  call-refused k h = (rw (h .0) (tests-refuse call at b e k), rw (h .1, h .2) (refused-touches call beginning at b e k))
-
-  pub call-answered
-      : n ≡ 0 → {o : Outcome} {t : List ℕ} {touch : ℕ × ℕ} → (o, t) ≡ traced call beginning at b noTouch → touch ≡ touchOf t
-      → (o ≡ callOutcome call at b) × (touch ≡ touches call beginning at b)
-  call-answered z h g =
-      let passed = tests-pass _ _ e z in
-      (exported-left call beginning at b (passed .0) (passed .1) h, exported-touches call beginning at b (passed .0) (passed .1) h g)

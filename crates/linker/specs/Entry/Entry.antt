@@ -13,13 +13,9 @@ use Rattle.register.specs.Change.{appended}
 use Rattle.linker_spec.specs.declared.rebase.Rebased.{Rebased}
 use Rattle.linker_spec.specs.Relocation.{resetExternalRelocations}
 use Rattle.linker_spec.specs.Exports.{readModule, readModule-reads}
-use Rattle.linker_spec.specs.Calls.{Answer, BadWindow, NoRegister, NoRoom, Done, number, fits, addRecord}
+use Rattle.linker_spec.specs.Calls.{Answer, NoRoom, Done, number, fits, addRecord}
 use Rattle.linker_spec.specs.Touches.{resetRebased, counted}
 use Rattle.linker.specs.Exports.Exported.{registerIn, leftBy, exported}
-
--- the number of the first two tests: the window's, then the register's, 0 where both pass
-unfoldable pub refusalOfBuffers : Bool → Bool → ℕ
-refusalOfBuffers goodWindow isRegister = if goodWindow then (if isRegister then 0 else number NoRegister) else number BadWindow
 
 -- the module has its record, and nothing more is done with it yet
 unfoldable pub recorded : Register → Module → Prog Answer

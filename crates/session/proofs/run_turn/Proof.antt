@@ -1,4 +1,4 @@
-use Rattle.linker.specs.Calls.Steps.{buffers}
+use Rattle.linker_spec.specs.Outcome.{buffers}
 use Rattle.session.proofs.Laws.{turned}
 use borrow.Author.Needs.{needs}
 use Rattle.session.proofs.run_turn.Statement.{statement}

@@ -1,5 +1,5 @@
 use Rattle.call_cases.proofs.buffers.Laws.{other-window, other-records, other-names, other-missing, all-same}
-use Rattle.linker.specs.Calls.Steps.{buffers}
+use Rattle.linker_spec.specs.Outcome.{buffers}
 use borrow.Author.Needs.{needs}
 use Rattle.call_cases.proofs.buffers.compare.Statement.{statement}
 use Rattle.call_cases.proofs.buffers.compare.Tie as tie

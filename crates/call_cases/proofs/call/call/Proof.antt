@@ -1,5 +1,5 @@
 -- By the case's call, with both clauses of the exported one: `initializes`, `loads`, `unloads`.
-use Rattle.linker.specs.Calls.Steps.{buffers}
+use Rattle.linker_spec.specs.Outcome.{buffers}
 use Rattle.call_cases.proofs.call.Laws.{initializes, loads, unloads}
 use borrow.Author.Needs.{needs}
 use Rattle.call_cases.proofs.call.call.Statement.{statement}

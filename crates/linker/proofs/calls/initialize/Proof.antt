@@ -1,19 +1,15 @@
--- The tests refuse, or the call over a trace of which nothing is said: `call-refused`, `call-answered`.
-use Rattle.linker_spec.specs.Outcome.{initializeOutcome}
-use Rattle.linker_spec.specs.Touches.{upToReset, initializeTouches}
-use Rattle.linker_spec.specs.Calls as calls
-use Rattle.linker.specs.Calls.Steps.{buffers}
-use Rattle.linker.specs.Calls.Laws.{tests-pass}
-use Rattle.linker.specs.Calls.Traced.{call-refused, call-answered}
+-- By whether the module has its record: `initialize-refused`, `initialize-done`.
+use Rattle.linker_spec.specs.Outcome.{buffers}
+use Rattle.linker.proofs.calls.Calls.{initialize-refused, initialize-done}
 use borrow.Author.Needs.{needs}
 use Rattle.linker.proofs.calls.initialize.Statement.{statement}
 use Rattle.linker.proofs.calls.initialize.Tie as tie
 
-clear-requires : tie.Need-clear-requires
-clear-requires c κs = search needs
+rebase-static-requires : tie.Need-rebase-static-requires
+rebase-static-requires c κs = search needs
 
-refusal-of-buffers-requires : tie.Need-refusal-of-buffers-requires
-refusal-of-buffers-requires c κs = search needs
+add-record-requires : tie.Need-add-record-requires
+add-record-requires c κs = search needs
 
 same-length : tie.Need-same-length
 same-length c = search needs
@@ -28,29 +24,19 @@ same-length-4 : tie.Need-same-length-4
 same-length-4 c = search needs
 
 returns : tie.Need-returns
-unfolding initializeOutcome initializeTouches
 returns c =
-    let p1 = c .before in
-    let p6 = p1 .before .before .before .before .before in
-    let p14 = p6 .before .before .before .before .before .before .before .before in
-    let a = p14 .args in
-    let b = buffers (a .window .now) (a .records .now) (a .names .now) (a .missing .now) in
-    call-refused (calls.initialize (a .base) (a .size)) (upToReset (calls.rebaseStatic (a .base)) (a .base)) (a .at) b (p1 .refusal-of-buffers .ensures) (c .if1 .taken) (p6 .clear .ensures)
+    let p9 = c .before .before .before .before .before .before .before .before .before in
+    let p18 = p9 .before .before .before .before .before .before .before .before .before in
+    let p26 = p18 .before .before .before .before .before .before .before .before in
+    let a = p26 .args in
+    let b = buffers (a .w .now) (a .records .now) (a .names .now) (a .missing .now) in
+    initialize-refused (a .at) (a .base) (a .size) b (a .trace .now) (p18 .rebase-static .ensures) (p9 .add-record .ensures) (c .if1 .taken)
 
-slice-aggregate-initialize : tie.Need-slice-aggregate-initialize
-slice-aggregate-initialize c = search needs
+clear-list-fields-requires : tie.Need-clear-list-fields-requires
+clear-list-fields-requires c κs = search needs
 
-initialize-requires : tie.Need-initialize-requires
-initialize-requires c κs =
-    let p6 = c .before .before .before .before .before .before in
-    let p7 = p6 .before in
-    tests-pass _ _ (p7 .refusal-of-buffers .ensures) (p6 .if1 .left) .1
-
-slice-aggregate-tell : tie.Need-slice-aggregate-tell
-slice-aggregate-tell c = search needs
-
-tell-requires : tie.Need-tell-requires
-tell-requires c κs = search needs
+set-crs-requires : tie.Need-set-crs-requires
+set-crs-requires c κs = search needs
 
 same-length-5 : tie.Need-same-length-5
 same-length-5 c = search needs
@@ -65,32 +51,31 @@ same-length-8 : tie.Need-same-length-8
 same-length-8 c = search needs
 
 returns-2 : tie.Need-returns-2
-unfolding initializeOutcome initializeTouches
 returns-2 c =
-    let p13 = c .before .before .before .before .before .before .before .before .before .before .before .before .before in
-    let p20 = p13 .before .before .before .before .before .before .before in
-    let p21 = p20 .before in
-    let p34 = p21 .before .before .before .before .before .before .before .before .before .before .before .before .before in
-    let a = p34 .args in
-    let b = buffers (a .window .now) (a .records .now) (a .names .now) (a .missing .now) in
-    call-answered (calls.initialize (a .base) (a .size)) (upToReset (calls.rebaseStatic (a .base)) (a .base)) (a .at) b (p21 .refusal-of-buffers .ensures) (p20 .if1 .left)
-    (p13 .initialize .ensures) (c .tell .ensures)
+    let p2 = c .before .before in
+    let p8 = p2 .before .before .before .before .before .before in
+    let p11 = p8 .before .before .before in
+    let p20 = p11 .before .before .before .before .before .before .before .before .before in
+    let p29 = p20 .before .before .before .before .before .before .before .before .before in
+    let p37 = p29 .before .before .before .before .before .before .before .before in
+    let a = p37 .args in
+    let b = buffers (a .w .now) (a .records .now) (a .names .now) (a .missing .now) in
+    initialize-done (a .at) (a .base) (a .size) b (a .trace .now) (p29 .rebase-static .ensures) (p20 .add-record .ensures) (p37 .pre) (p11 .if1 .left)
+    (p8 .clear-list-fields .ensures) (p2 .set-crs .ensures)
 
 pub initialize-spec : {M : Type 1} → statement M
 initialize-spec =
     tie.close
     (tie.spec
-    clear-requires
-    refusal-of-buffers-requires
+    rebase-static-requires
+    add-record-requires
     same-length
     same-length-2
     same-length-3
     same-length-4
     returns
-    slice-aggregate-initialize
-    initialize-requires
-    slice-aggregate-tell
-    tell-requires
+    clear-list-fields-requires
+    set-crs-requires
     same-length-5
     same-length-6
     same-length-7

@@ -1,21 +1,23 @@
--- The tests refuse, or the call over a trace of which nothing is said: `call-refused`, `call-answered`.
-use mathlib.Core.Bool.{not}
-use lib.Dec.{eqb}
-use Rattle.linker_spec.specs.Outcome.{loadOutcome}
-use Rattle.linker_spec.specs.Touches.{upToReset, loadTouches}
-use Rattle.linker_spec.specs.Calls as calls
-use Rattle.linker.specs.Calls.Steps.{buffers, loadArguments}
-use Rattle.linker.specs.Calls.Laws.{tests-pass}
-use Rattle.linker.specs.Calls.Traced.{call-refused, call-answered}
+-- By whether the module has its record: `load-refused`, `load-done`.
+use mathlib.Core.Path.{_∙_}
+use native.Mathlib.Omega.{arith}
+use Rattle.linker_spec.specs.Outcome.{buffers}
+use Rattle.linker.proofs.calls.Calls.{load-refused, load-linkable, load-done}
 use borrow.Author.Needs.{needs}
 use Rattle.linker.proofs.calls.load.Statement.{statement}
 use Rattle.linker.proofs.calls.load.Tie as tie
 
-clear-requires : tie.Need-clear-requires
-clear-requires c κs = search needs
+used-bytes-requires : tie.Need-used-bytes-requires
+used-bytes-requires c κs = search needs
 
-refusal-of-buffers-requires : tie.Need-refusal-of-buffers-requires
-refusal-of-buffers-requires c κs = search needs
+cast-place : tie.Need-cast-place
+cast-place c = search needs
+
+rebase-requires : tie.Need-rebase-requires
+rebase-requires c κs = search needs
+
+add-record-requires : tie.Need-add-record-requires
+add-record-requires c κs = search needs
 
 same-length : tie.Need-same-length
 same-length c = search needs
@@ -30,30 +32,27 @@ same-length-4 : tie.Need-same-length-4
 same-length-4 c = search needs
 
 returns : tie.Need-returns
-unfolding loadOutcome loadTouches
 returns c =
-    let p1 = c .before in
-    let p6 = p1 .before .before .before .before .before in
-    let p14 = p6 .before .before .before .before .before .before .before .before in
-    let a = p14 .args in
-    let b = buffers (a .window .now) (a .records .now) (a .names .now) (a .missing .now) in
-    let l = loadArguments (a .base) (a .size) (a .data-segment) (a .data-segment-size) (a .bss-segment) (a .bss-segment-size) in
-    call-refused (calls.load l (not (eqb (a .auto-link) 0)) (a .fix-level)) (upToReset (calls.rebase l) (a .base)) (a .at) b (p1 .refusal-of-buffers .ensures) (c .if1 .taken) (p6 .clear .ensures)
+    let p9 = c .before .before .before .before .before .before .before .before .before in
+    let p18 = p9 .before .before .before .before .before .before .before .before .before in
+    let p28 = p18 .before .before .before .before .before .before .before .before .before .before in
+    let a = p28 .args in
+    let b = buffers (a .w .now) (a .records .now) (a .names .now) (a .missing .now) in
+    load-refused (a .at) (a .given) (a .auto-link) (a .fix-level) b (a .trace .now) (p18 .rebase .ensures) (p9 .add-record .ensures) (c .if1 .taken)
 
-slice-aggregate-load : tie.Need-slice-aggregate-load
-slice-aggregate-load c = search needs
-
-load-requires : tie.Need-load-requires
-load-requires c κs =
-    let p6 = c .before .before .before .before .before .before in
-    let p7 = p6 .before in
-    tests-pass _ _ (p7 .refusal-of-buffers .ensures) (p6 .if1 .left) .1
-
-slice-aggregate-tell : tie.Need-slice-aggregate-tell
-slice-aggregate-tell c = search needs
-
-tell-requires : tie.Need-tell-requires
-tell-requires c κs = search needs
+link-requires : tie.Need-link-requires
+link-requires c κs =
+    let p5 = c .before .before .before .before .before in
+    let p12 = p5 .before .before .before .before .before .before .before in
+    let p14 = p12 .before .before in
+    let p23 = p14 .before .before .before .before .before .before .before .before .before in
+    let p30 = p23 .before .before .before .before .before .before .before in
+    let p33 = p30 .before .before .before in
+    let a = p33 .args in
+    let b = buffers (a .w .now) (a .records .now) (a .names .now) (a .missing .now) in
+    let g = p33 .good .1 .1 .1 .1 .1 .1 .0 in
+    load-linkable (a .at) (a .given) (a .auto-link) (a .fix-level) b (a .trace .now) (p23 .rebase .ensures) (p14 .add-record .ensures) (p33 .pre) (p5 .if1 .left)
+    (λ i. omega (arith, p12 .slice-known8 .given i)) (λ i. omega (arith, p30 .slice-known3 .given i)) (omega (arith, g .1 .1 .0 .1)) (omega (arith, g .1 .1 .1 .0 .1))
 
 same-length-5 : tie.Need-same-length-5
 same-length-5 c = search needs
@@ -67,36 +66,44 @@ same-length-7 c = search needs
 same-length-8 : tie.Need-same-length-8
 same-length-8 c = search needs
 
+same-length-9 : tie.Need-same-length-9
+same-length-9 c = search needs
+
 returns-2 : tie.Need-returns-2
-unfolding loadOutcome loadTouches
 returns-2 c =
-    let p13 = c .before .before .before .before .before .before .before .before .before .before .before .before .before in
-    let p20 = p13 .before .before .before .before .before .before .before in
-    let p21 = p20 .before in
-    let p34 = p21 .before .before .before .before .before .before .before .before .before .before .before .before .before in
-    let a = p34 .args in
-    let b = buffers (a .window .now) (a .records .now) (a .names .now) (a .missing .now) in
-    let l = loadArguments (a .base) (a .size) (a .data-segment) (a .data-segment-size) (a .bss-segment) (a .bss-segment-size) in
-    call-answered (calls.load l (not (eqb (a .auto-link) 0)) (a .fix-level)) (upToReset (calls.rebase l) (a .base)) (a .at) b (p21 .refusal-of-buffers .ensures) (p20 .if1 .left)
-    (p13 .load .ensures) (c .tell .ensures)
+    let p2 = c .before .before in
+    let p8 = p2 .before .before .before .before .before .before in
+    let p14 = p8 .before .before .before .before .before .before in
+    let p21 = p14 .before .before .before .before .before .before .before in
+    let p23 = p21 .before .before in
+    let p32 = p23 .before .before .before .before .before .before .before .before .before in
+    let p35 = p32 .before .before .before in
+    let p39 = p35 .before .before .before .before in
+    let p42 = p39 .before .before .before in
+    let a = p42 .args in
+    let b = buffers (a .w .now) (a .records .now) (a .names .now) (a .missing .now) in
+    let g = p42 .good .1 .1 .1 .1 .1 .1 .0 in
+    load-done (a .at) (a .given) (a .auto-link) (a .fix-level) b (a .trace .now) (p32 .rebase .ensures) (p23 .add-record .ensures) (p42 .pre) (p14 .if1 .left)
+    (λ i. omega (arith, p21 .slice-known8 .given i)) (λ i. omega (arith, p39 .slice-known3 .given i)) (omega (arith, g .1 .1 .0 .1)) (omega (arith, g .1 .1 .1 .0 .1))
+    (p35 .used-bytes .ensures) (p8 .link .ensures) (λ i. omega (arith, p2 .slice-known14 .given i)) (p8 .link .kept .1 .1 .1 .0 ∙ p23 .add-record .kept .1 .1 .1 .0)
 
 pub load-spec : {M : Type 1} → statement M
 load-spec =
     tie.close
     (tie.spec
-    clear-requires
-    refusal-of-buffers-requires
+    used-bytes-requires
+    cast-place
+    rebase-requires
+    add-record-requires
     same-length
     same-length-2
     same-length-3
     same-length-4
     returns
-    slice-aggregate-load
-    load-requires
-    slice-aggregate-tell
-    tell-requires
+    link-requires
     same-length-5
     same-length-6
     same-length-7
     same-length-8
+    same-length-9
     returns-2)

@@ -1,7 +1,7 @@
 -- The exported call that it is, with both its clauses: `is-initialize`, `is-load`, `is-unload`.
 use native.Mathlib.Omega.{arith}
 use Rattle.linker_spec.specs.Valid.{AreBytes}
-use Rattle.linker.specs.Calls.Steps.{buffers}
+use Rattle.linker_spec.specs.Outcome.{buffers}
 use Rattle.history.specs.Sessions.{WordArguments}
 use Rattle.session.proofs.call.Laws.{is-initialize, is-load, is-unload}
 use borrow.Author.Needs.{needs}

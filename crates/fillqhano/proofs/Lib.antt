@@ -1,0 +1,2 @@
+-- What the proofs of `fillqhano` share.
+pub mod Laws

@@ -1,0 +1,183 @@
+// The exported calls, the library that a host links: `initialize`, `load` and `unload` of the title's loader, for any bytes lent.
+// Each answers a number, and lends its value through `value`; a call that answers 1 to 5 leaves the register as it was.
+// `touched` becomes 1 where an access had a byte outside the window, and `first` where the first such access started.
+ghost use mathlib.Core.Path.{_≡_};
+ghost use Rattle.window.specs.Memory.{goodWindow};
+ghost use Rattle.window.specs.Trace.{touchOf};
+ghost use Rattle.register.specs.Decode.{isRegister};
+ghost use Rattle.linker_spec.specs.Outcome.{buffers, outcome, loadArguments, initializeOutcome, loadOutcome, unloadOutcome};
+ghost use Rattle.linker_spec.specs.Touches.{initializeTouches, loadTouches, unloadTouches};
+ghost use Rattle.fillqhano.specs.Refusal.{refusalOfBuffers};
+use linker::calls;
+use linker_spec::rebase::LoadArguments;
+use register_test::is_register;
+
+// The tests that come first: 3 where the window breaks its rule, then 4 where the buffers are no register.
+fn refusal_of_buffers(at: u32, w: &[u8], records: &[u8], names: &[u8], missing: &[u8]) -> u32
+    ensures { λ r. ⌜ r ≡ refusalOfBuffers (goodWindow at (now (w .entry))) (isRegister (now (records .entry)) (now (names .entry)) (now (missing .entry))) ⌝ }
+{
+    if !window::good_window(at, w) {
+        return 3;
+    }
+    if !is_register(records, names, missing) {
+        return 4;
+    }
+    0
+}
+
+// No value and no touch, whatever the call before left in their places.
+fn clear(value: &mut u32, touched: &mut u32, first: &mut u32)
+    ensures { λ _. ⌜ (now (value .exit) ≡ 0) × (now (touched .exit) ≡ 0) × (now (first .exit) ≡ 0) ⌝ }
+{
+    *value = 0;
+    *touched = 0;
+    *first = 0;
+}
+
+// Gives what the trace says.
+fn tell(trace: &[u8], touched: &mut u32, first: &mut u32)
+    ensures { λ _. ⌜ (now (touched .exit), now (first .exit)) ≡ touchOf (now (trace .entry)) ⌝ }
+{
+    *touched = window::touched(trace);
+    *first = window::first(trace);
+}
+
+// Takes in the static module, whose base the register keeps from then on.
+#[no_mangle]
+pub extern "C" fn initialize(
+    at: u32,
+    window: &mut [u8],
+    records: &mut [u8],
+    names: &mut [u8],
+    missing: &mut [u8],
+    base: u32,
+    size: u32,
+    value: &mut u32,
+    touched: &mut u32,
+    first: &mut u32,
+) -> u32
+    ensures { λ r. ⌜ outcome r (now (value .exit)) (buffers (now (window .exit)) (now (records .exit)) (now (names .exit)) (now (missing .exit)))
+        ≡ initializeOutcome base size at
+        (buffers (now (window .entry)) (now (records .entry)) (now (names .entry)) (now (missing .entry))) ⌝ }
+    ensures touches { λ _. ⌜ (now (touched .exit), now (first .exit))
+        ≡ initializeTouches base size at
+        (buffers (now (window .entry)) (now (records .entry)) (now (names .entry)) (now (missing .entry))) ⌝ }
+{
+    clear(value, touched, first);
+    let refused = refusal_of_buffers(at, window, records, names, missing);
+    if refused != 0 {
+        return refused;
+    }
+    let mut trace = [0u8; 16];
+    let initialized = calls::initialize(
+        at,
+        window,
+        &mut trace[..],
+        records,
+        names,
+        missing,
+        base,
+        size,
+        value,
+    );
+    tell(&trace[..], touched, first);
+    initialized
+}
+
+// Loads a module: links it, and gives as value how much of it is left.
+#[no_mangle]
+pub extern "C" fn load(
+    at: u32,
+    window: &mut [u8],
+    records: &mut [u8],
+    names: &mut [u8],
+    missing: &mut [u8],
+    base: u32,
+    size: u32,
+    data_segment: u32,
+    data_segment_size: u32,
+    bss_segment: u32,
+    bss_segment_size: u32,
+    auto_link: u32,
+    fix_level: u32,
+    value: &mut u32,
+    touched: &mut u32,
+    first: &mut u32,
+) -> u32
+    ensures { λ r. ⌜ outcome r (now (value .exit)) (buffers (now (window .exit)) (now (records .exit)) (now (names .exit)) (now (missing .exit)))
+        ≡ loadOutcome (loadArguments base size «data_segment» «data_segment_size» «bss_segment» «bss_segment_size») «auto_link» «fix_level» at
+        (buffers (now (window .entry)) (now (records .entry)) (now (names .entry)) (now (missing .entry))) ⌝ }
+    ensures touches { λ _. ⌜ (now (touched .exit), now (first .exit))
+        ≡ loadTouches (loadArguments base size «data_segment» «data_segment_size» «bss_segment» «bss_segment_size») «auto_link» «fix_level» at
+        (buffers (now (window .entry)) (now (records .entry)) (now (names .entry)) (now (missing .entry))) ⌝ }
+{
+    clear(value, touched, first);
+    let refused = refusal_of_buffers(at, window, records, names, missing);
+    if refused != 0 {
+        return refused;
+    }
+    let mut trace = [0u8; 16];
+    let given = LoadArguments {
+        base,
+        size,
+        data_segment,
+        data_segment_size,
+        bss_segment,
+        bss_segment_size,
+    };
+    let loaded = calls::load(
+        at,
+        window,
+        &mut trace[..],
+        records,
+        names,
+        missing,
+        given,
+        auto_link,
+        fix_level,
+        value,
+    );
+    tell(&trace[..], touched, first);
+    loaded
+}
+
+// Unloads the first module with that base: the modules that linked on their own no longer use it, and its record is gone.
+// The value is 1 where a module left, 0 where none has that base.
+#[no_mangle]
+pub extern "C" fn unload(
+    at: u32,
+    window: &mut [u8],
+    records: &mut [u8],
+    names: &mut [u8],
+    missing: &mut [u8],
+    base: u32,
+    value: &mut u32,
+    touched: &mut u32,
+    first: &mut u32,
+) -> u32
+    ensures { λ r. ⌜ outcome r (now (value .exit)) (buffers (now (window .exit)) (now (records .exit)) (now (names .exit)) (now (missing .exit)))
+        ≡ unloadOutcome base at
+        (buffers (now (window .entry)) (now (records .entry)) (now (names .entry)) (now (missing .entry))) ⌝ }
+    ensures touches { λ _. ⌜ (now (touched .exit), now (first .exit))
+        ≡ unloadTouches base at
+        (buffers (now (window .entry)) (now (records .entry)) (now (names .entry)) (now (missing .entry))) ⌝ }
+{
+    clear(value, touched, first);
+    let refused = refusal_of_buffers(at, window, records, names, missing);
+    if refused != 0 {
+        return refused;
+    }
+    let mut trace = [0u8; 16];
+    let unloaded = calls::unload(
+        at,
+        window,
+        &mut trace[..],
+        records,
+        names,
+        missing,
+        base,
+        value,
+    );
+    tell(&trace[..], touched, first);
+    unloaded
+}
