@@ -36,6 +36,9 @@ pub record CallRecord : Type 0 where
   pub before : Buffers
   pub gave : Outcome
 
+abbrev pub callRecord : Call → ℕ → Buffers → Outcome → CallRecord
+callRecord c at b o = record { call = c; at = at; before = b; gave = o }
+
 abbrev pub after : CallRecord → Buffers
 after t = t .gave .left
 

@@ -8,7 +8,7 @@ pub mod Reading
 pub mod Batch
 pub mod Links
 pub mod Changes
-pub mod Turns
+pub mod OneImport
 pub mod Records
 pub mod Runs
 pub mod Entries

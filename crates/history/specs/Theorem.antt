@@ -2,7 +2,7 @@
 pub mod Invariant
 pub mod Calls
 pub mod Back
-pub mod Turns
+pub mod CallRecords
 pub mod Fine
 pub mod Step
 pub mod Theorem

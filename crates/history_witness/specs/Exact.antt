@@ -1,5 +1,5 @@
--- Sessions whose turns gave what the definition gives (`Exact`): there the session's own calls, what came and what stands are read from
--- what the turns gave.
+-- Sessions whose calls gave what the definition gives (`Exact`): there the session's own calls, what came and what stands are read from
+-- what the calls gave.
 use Prim.Native.Nat.{ℕ, zero, suc}
 use mathlib.Core.Path.{_≡_, refl, sym, ap, _∙_, subst}
 use mathlib.Core.List.{List, [], _∷_, _++_}
@@ -24,7 +24,7 @@ use Rattle.history.specs.Outcomes.{Made, Promised}
 use Rattle.history.specs.Below.{Each, Pairs}
 use Rattle.history.specs.Demand3.{Harmless, InOrder, CrsFirst, AutoLinked, ImportsKept, BaseNot0, InWindow, Apart, OtherName, OtherExports, ExportsOnce, Premises, images}
 
--- each turn gave what the definition gives
+-- each call gave what the definition gives
 abbrev pub Exact : List CallRecord → Type 0
 Exact ts = Each (λ t. expected t ≡ t .gave) ts
 

@@ -14,9 +14,8 @@ use Rattle.window.specs.Within.{In}
 use Rattle.register.specs.Words.{flat}
 use Rattle.linker_spec.specs.declared.call.Call.{Call}
 use Rattle.linker_spec.specs.declared.call.Call.the-variants.{Initialize, Load, Unload}
-use Rattle.linker_spec.specs.Outcome.{Buffers, Outcome}
 use Rattle.history.specs.LoadedModule.{LoadCall, initialized, loaded, LoadedModule, Image, cut, imageOf, baseOf, sizeOf, Area, LentArea}
-use Rattle.history.specs.Sessions.{CallRecord, comes, loadedModules, others, stay, standing}
+use Rattle.history.specs.Sessions.{CallRecord, callRecord, comes, loadedModules, others, stay, standing}
 use Rattle.history.specs.Below.{Each}
 use Rattle.history.specs.Demand3.{SameStanding, images}
 use Rattle.history_witness.specs.Image.{zeros, cro, c-words, m-words, n-words}
@@ -27,53 +26,50 @@ use Rattle.history_witness.specs.Exact.{Exact, came, stood, brings, came
 use Rattle.history_witness.specs.PageBefore.{at, bt, pageBefore, lentPageBefore}
 use Rattle.history_witness.specs.Computed.{page₀, page₁, page₄, small, large, b₀, b₁, b₂, b₃, d₀, d₁, d₂, d₃, d₄, short, wrong, done, shown, o₁, o₂, o₃, o₄, o₅, o₆, o₇, o₈, o₉, q₁, q₂, q₃, q₄, refused}
 
-abbrev turn : Call → ℕ → Buffers → Outcome → CallRecord
-turn c at b o = record { call = c; at = at; before = b; gave = o }
-
 -- before the CRS: a load of `m` while it has no magic word, and two calls that are lent what breaks a rule
 abbrev pub t₁ : CallRecord
-t₁ = turn (Load large 1 1) at b₀ (refused 1 b₀)
+t₁ = callRecord (Load large 1 1) at b₀ (refused 1 b₀)
 
 abbrev pub t₂ : CallRecord
-t₂ = turn (Unload 0x100420) at short (refused 3 short)
+t₂ = callRecord (Unload 0x100420) at short (refused 3 short)
 
 abbrev pub t₃ : CallRecord
-t₃ = turn (Initialize 0x100000 0x178) at wrong (refused 4 wrong)
+t₃ = callRecord (Initialize 0x100000 0x178) at wrong (refused 4 wrong)
 
 -- the CRS comes; others write the magic word; `m` comes; `n` comes; a load finds no room; `n` leaves, and an unload of its base then removes nothing
 abbrev pub t₄ : CallRecord
-t₄ = turn (Initialize 0x100000 0x178) at b₀ (done 0 (b₁ 0))
+t₄ = callRecord (Initialize 0x100000 0x178) at b₀ (done 0 (b₁ 0))
 
 abbrev pub t₅ : CallRecord
-t₅ = turn (Load large 1 1) at (b₁ cro) (done 0x210 b₂)
+t₅ = callRecord (Load large 1 1) at (b₁ cro) (done 0x210 b₂)
 
 abbrev pub t₆ : CallRecord
-t₆ = turn (Load (small 0x100420 0x168) 1 0) at b₂ (done 0 b₃)
+t₆ = callRecord (Load (small 0x100420 0x168) 1 0) at b₂ (done 0 b₃)
 
 abbrev pub t₇ : CallRecord
-t₇ = turn (Load (small 0x100560 0x138) 1 0) at b₃ (refused 5 b₃)
+t₇ = callRecord (Load (small 0x100560 0x138) 1 0) at b₃ (refused 5 b₃)
 
 abbrev pub t₈ : CallRecord
-t₈ = turn (Unload 0x100420) at b₃ (done 1 b₂)
+t₈ = callRecord (Unload 0x100420) at b₃ (done 1 b₂)
 
 abbrev pub t₉ : CallRecord
-t₉ = turn (Unload 0x100420) at b₂ (done 0 b₂)
+t₉ = callRecord (Unload 0x100420) at b₂ (done 0 b₂)
 
 abbrev pub A : List CallRecord
 A = t₉ ∷ t₈ ∷ t₇ ∷ t₆ ∷ t₅ ∷ t₄ ∷ t₃ ∷ t₂ ∷ t₁ ∷ []
 
 -- on another window, in larger buffers: the CRS, `n` and `m` come, `m` with another auto-link parameter; `n` leaves
 abbrev pub u₁ : CallRecord
-u₁ = turn (Initialize 0x100000 0x178) bt (lentPageBefore d₀) (done 0 (lentPageBefore d₁))
+u₁ = callRecord (Initialize 0x100000 0x178) bt (lentPageBefore d₀) (done 0 (lentPageBefore d₁))
 
 abbrev pub u₂ : CallRecord
-u₂ = turn (Load (small 0x100420 0x168) 1 0) bt (lentPageBefore d₁) (done 0 (lentPageBefore d₂))
+u₂ = callRecord (Load (small 0x100420 0x168) 1 0) bt (lentPageBefore d₁) (done 0 (lentPageBefore d₂))
 
 abbrev pub u₃ : CallRecord
-u₃ = turn (Load large 2 1) bt (lentPageBefore d₂) (done 0x210 (lentPageBefore d₃))
+u₃ = callRecord (Load large 2 1) bt (lentPageBefore d₂) (done 0x210 (lentPageBefore d₃))
 
 abbrev pub u₄ : CallRecord
-u₄ = turn (Unload 0x100420) bt (lentPageBefore d₃) (done 1 (lentPageBefore d₄))
+u₄ = callRecord (Unload 0x100420) bt (lentPageBefore d₃) (done 1 (lentPageBefore d₄))
 
 abbrev pub B : List CallRecord
 B = u₄ ∷ u₃ ∷ u₂ ∷ u₁ ∷ []

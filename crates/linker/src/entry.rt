@@ -8,7 +8,7 @@ use crate::relocation::reset_external_relocations;
 use crate::touches::touch_module;
 use linker_spec::rebase::Rebased;
 
-// Gives a rebased module its record: 0, or the number of what hinders it. What the Rust reads for a record is touched in
+// Gives a rebased module its record: 0, or the number of what refuses it. What the Rust reads for a record is touched in
 // its order once the record stands: with 5 nothing of it counts.
 pub(crate) fn add_record(
     at: u32,

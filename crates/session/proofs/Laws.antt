@@ -6,7 +6,8 @@ use Rattle.linker_spec.specs.declared.call.Call.{Call}
 use Rattle.linker_spec.specs.Outcome.{Buffers, Outcome, outcome}
 use Rattle.history.specs.Windows.{given-valid}
 use Rattle.history.specs.Theorem.Demand3.{promised-given}
-use Rattle.session.specs.Continues.{turn, Continues}
+use Rattle.session.specs.Continues.{Continues}
+use Rattle.history.specs.Sessions.{callRecord}
 use Rattle.session.specs.declared.step.Step.{Step}
 use Rattle.session.specs.declared.step.Step.the-variants.{Bad}
 use Rattle.session.specs.Lines.{stepLine}
@@ -16,7 +17,7 @@ use Rattle.session.specs.Ahead.{StepRan}
 
 -- a call: what its contract says, and that a register stays one
 pub is-call
-    : {step : Step} {call : Call} (at : ℕ) (b : Buffers) {o : Outcome} → step ≡ Step.Call call → Continues (turn call at b o) → StepPromise step at b o
+    : {step : Step} {call : Call} (at : ℕ) (b : Buffers) {o : Outcome} → step ≡ Step.Call call → Continues (callRecord call at b o) → StepPromise step at b o
 unfolding stepOutcome
 is-call {step} {call} at b e h =
     let given-so = promised-given call at b _ (h .promised) in (

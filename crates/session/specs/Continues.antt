@@ -1,16 +1,11 @@
 -- What a call promises of the session that it goes on: demand 3, of the code that runs.
 use Prim.Native.Nat.{ℕ}
 use mathlib.Core.List.{List, [], _∷_}
-use Rattle.linker_spec.specs.declared.call.Call.{Call}
-use Rattle.linker_spec.specs.Outcome.{Buffers, Outcome}
 use Rattle.history.specs.Below.{Each}
 use Rattle.history.specs.Sessions.{CallRecord, Typed, standing, Next, Trace}
 use Rattle.history.specs.Outcomes.{Gave, Made, Promised, Follows}
 use Rattle.history.specs.Demand3.{Demand3, Premises, Linked, SameStanding, NoByteDiffers}
 use Rattle.history.specs.Theorem.Demand3.{demand3, promised-follows}
-
-abbrev pub turn : Call → ℕ → Buffers → Outcome → CallRecord
-turn c at b o = record { call = c; at = at; before = b; gave = o }
 
 -- a session of the exported calls
 unfoldable pub Session : ℕ → List CallRecord → Type 0
@@ -23,7 +18,7 @@ pub record Continues (t : CallRecord) : Type 0 where
   pub follows : Gave Follows t
   -- the arguments are 32-bit numbers, the window and the records bytes
   pub typed : Typed t
-  -- a session with this turn added is again a session
+  -- a session with this call added is again a session
   pub goes-on : (at : ℕ) (ts : List CallRecord) → Session at ts → Next at ts t → Session at (t ∷ ts)
   -- under the premises every import holds its address after it, and after each call before it
   pub linked : (at : ℕ) (ts : List CallRecord) → Session at ts → Next at ts t → Premises (t ∷ ts) → Linked (t ∷ ts)

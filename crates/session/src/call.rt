@@ -2,7 +2,8 @@
 ghost use mathlib.Core.Path.{_≡_};
 ghost use Rattle.linker_spec.specs.Touches.{touchesOf};
 ghost use Rattle.linker_spec.specs.Outcome.{buffers, outcome};
-ghost use Rattle.session.specs.Continues.{turn, Continues};
+ghost use Rattle.session.specs.Continues.{Continues};
+ghost use Rattle.history.specs.Sessions.{callRecord};
 use fillqhano::initialize;
 use fillqhano::load;
 use fillqhano::unload;
@@ -26,7 +27,7 @@ pub(crate) fn make_call(
     touched: &mut u32,
     first: &mut u32,
 ) -> Answered
-    ensures { λ r. ⌜ Continues (turn call at
+    ensures { λ r. ⌜ Continues (callRecord call at
         (buffers (now (window .entry)) (now (records .entry)) (now (names .entry)) (now (missing .entry)))
         (outcome (r .number) (r .value) (buffers (now (window .exit)) (now (records .exit)) (now (names .exit)) (now (missing .exit))))) ⌝ }
     ensures touches { λ _. ⌜ (now (touched .exit), now (first .exit))

@@ -17,7 +17,7 @@ use Rattle.history.specs.Steps.Wp.{Memory, ReadsValue, reads-get32}
 use Rattle.history.specs.Steps.View.{View, import-name}
 use Rattle.history.specs.Steps.Parts.{part-inside, entry-in-table}
 use Rattle.history.specs.Steps.Reading.{four-at, entry-at}
-use Rattle.history.specs.Steps.Turns.{import-inside}
+use Rattle.history.specs.Steps.OneImport.{import-inside}
 use Rattle.history.specs.Steps.Records.{ImportsFrom}
 use Rattle.history.specs.Steps.Runs.{Begins, EntryBegins}
 use Rattle.history.specs.Steps.Entries.{no-run}

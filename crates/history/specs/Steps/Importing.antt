@@ -29,7 +29,7 @@ use Rattle.history.specs.Steps.ModuleBytes.{shows-view}
 use Rattle.history.specs.Steps.Reading.{reads-start, reads-count, reads-name}
 use Rattle.history.specs.Steps.Links.{Links, isSome, relink, Stands}
 use Rattle.history.specs.Steps.Changes.{Change, Changed, changes-loop}
-use Rattle.history.specs.Steps.Turns.{linkTo, reads-batch, reads-unresolved, resolves}
+use Rattle.history.specs.Steps.OneImport.{linkTo, reads-batch, reads-unresolved, resolves}
 use Rattle.history.specs.Steps.Runs.{Begins, EntryBegins, Linking, relinked}
 use Rattle.history.specs.Steps.Asking.{reads-import-name, import-pointer, named-apart, named-at, entry-start, runs-other}
 use Rattle.history.specs.Steps.Entries.{reads-entry-pointer, reads-runs, links-entry}

@@ -17,7 +17,7 @@ use Rattle.history.specs.Imports.{Import, named, indexed, anonymous, IsI
 use Rattle.history.specs.WellLaid.{WellLaid}
 use Rattle.history.specs.Steps.Links.{Links, symbolFor, markFor}
 use Rattle.history.specs.Steps.Changes.{Change}
-use Rattle.history.specs.Steps.Turns.{linkTo}
+use Rattle.history.specs.Steps.OneImport.{linkTo}
 use Rattle.history.specs.Steps.Records.{asSymbol, exportFor, ImportsFrom}
 use Rattle.history.specs.Steps.Runs.{Begins, Linking}
 use Rattle.history.specs.Steps.Asking.{true-false}

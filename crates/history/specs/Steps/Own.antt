@@ -27,7 +27,7 @@ use Rattle.history.specs.Steps.Wp.{Memory}
 use Rattle.history.specs.Steps.View.{View}
 use Rattle.history.specs.Steps.Links.{Links}
 use Rattle.history.specs.Steps.Changes.{Change}
-use Rattle.history.specs.Steps.Turns.{linkTo}
+use Rattle.history.specs.Steps.OneImport.{linkTo}
 use Rattle.history.specs.Steps.Records.{Recorded, asSymbol, exportFor, ImportsFrom}
 use Rattle.history.specs.Steps.Runs.{Begins, Linking}
 use Rattle.history.specs.Steps.Entries.{no-run}

@@ -29,7 +29,7 @@ use Rattle.history.specs.Steps.ModuleBytes.{shows-view}
 use Rattle.history.specs.Steps.Reading.{reads-start, reads-count, reads-handler, reads-name}
 use Rattle.history.specs.Steps.Links.{Links, relink, Stands}
 use Rattle.history.specs.Steps.Changes.{change-none, change-then, change-iff, Changed, changes-loop}
-use Rattle.history.specs.Steps.Turns.{resets-at}
+use Rattle.history.specs.Steps.OneImport.{resets-at}
 use Rattle.history.specs.Steps.Records.{Recorded, exportFor, ImportsFrom}
 use Rattle.history.specs.Steps.Runs.{Begins, unlinked}
 use Rattle.history.specs.Steps.Asking.{true-false, reads-import-name, import-pointer, named-apart, named-at, entry-start, EntryAsks, entries-apart, ByEntry, kinds-apart, asks-entry}

@@ -26,7 +26,7 @@ use Rattle.history.specs.Steps.ModuleBytes.{shows-view}
 use Rattle.history.specs.Steps.Reading.{plain-sum, four-at, moved-sum}
 use Rattle.history.specs.Steps.Links.{Links, relink, relink-same, relink-other, isSome, Stands}
 use Rattle.history.specs.Steps.Changes.{Change, change-iff, Changed, changes-loop}
-use Rattle.history.specs.Steps.Turns.{linkTo, import-inside, reads-batch, reads-unresolved, resolves, resets-at}
+use Rattle.history.specs.Steps.OneImport.{linkTo, import-inside, reads-batch, reads-unresolved, resolves, resets-at}
 
 -- entry e begins the batch of import i
 abbrev pub Begins : (ℕ → ℕ) → Import → ℕ → Type 0

@@ -28,7 +28,7 @@ use Rattle.history.specs.Steps.ModuleBytes.{shows-view}
 use Rattle.history.specs.Steps.Reading.{reads-start, reads-count, reads-name}
 use Rattle.history.specs.Steps.Links.{Links, isSome, relink, Stands}
 use Rattle.history.specs.Steps.Changes.{change-none, change-then, change-iff, Changed, changes-loop}
-use Rattle.history.specs.Steps.Turns.{linkTo, reads-batch, reads-unresolved, resolves}
+use Rattle.history.specs.Steps.OneImport.{linkTo, reads-batch, reads-unresolved, resolves}
 use Rattle.history.specs.Steps.Records.{Recorded, exportFor, ImportsFrom}
 use Rattle.history.specs.Steps.Runs.{Begins, Linking, relinked}
 use Rattle.history.specs.Steps.Asking.{true-false, reads-import-name, import-pointer, named-apart, named-at, entry-start, EntryAsks, entries-apart, ByName, ByEntry, kinds-apart, asks-entry}

@@ -21,7 +21,7 @@ use Rattle.history.specs.Sessions.Lists.{standing-among}
 use Rattle.history.specs.Sessions.Unique.{noModule, imageAt, laid-at}
 use Rattle.history.specs.Sessions.Conclude.{same-count, same-loaded, same-images, no-byte-differs}
 use Rattle.history.specs.Theorem.Invariant.{restFor, restOfModule, standingModules, Resting}
-use Rattle.history.specs.Theorem.Turns.{RestingIn}
+use Rattle.history.specs.Theorem.CallRecords.{RestingIn}
 use Rattle.history.specs.Theorem.Step.{none-came, some-came, among-none}
 use Rattle.history.specs.Theorem.Theorem.{OwnCalls, own-all, HoldsAfter, session}
 use Rattle.history.specs.Theorem.Own.{trace-own, premises-own, stands-own, linked-own}

@@ -1,4 +1,4 @@
--- One turn more: what holds before it holds after it.
+-- One call more: what holds before it holds after it.
 use Prim.Native.Nat.{ℕ, zero, suc, _+_, _<_}
 use mathlib.Core.Path.{_≡_, refl, sym, ap, _∙_, subst}
 use mathlib.Core.Logic.{_≢_}
@@ -25,7 +25,7 @@ use Rattle.history.specs.Sessions.Lists.{lacking, lacking-at, OtherBase,
 use Rattle.history.specs.Sessions.Unique.{noModule, imageAt, auto-at, kept-at, other-bases}
 use Rattle.history.specs.Sessions.Registers.{Registered, UnloadFinds, goes, none, found, last-at}
 use Rattle.history.specs.Sessions.Answers.{Performed, performed, done-zero, unload-unknown}
-use Rattle.history.specs.Theorem.Turns.{RestingIn, follows-rests, between-rests, initialize-turn, load-turn, unload-turn}
+use Rattle.history.specs.Theorem.CallRecords.{RestingIn, follows-rests, between-rests, initialize-call, load-call, unload-call}
 use Rattle.history.specs.Theorem.Fine.{fine}
 
 -- nothing came and the register is as at the start, or the CRS came and all that stand are at rest
@@ -115,7 +115,7 @@ module _ (t : CallRecord) (ts : List CallRecord) where
         let w = words (Initialize base size) e in
         some-came (came-some (loadedModules ts) a (x .0)) (subst (λ S. isCrs (imageAt S 0 .loadCall) ≡ true) (sym s) refl)
         (follow (Initialize base size) e (a ∷ []) s
-        (initialize-turn at b (typed .1) base size (w .0) (w .1) p (g .0)
+        (initialize-call at b (typed .1) base size (w .0) (w .1) p (g .0)
         (fine t ts mine h (a ∷ []) (among (a ∷ []) s) (good-end at (b .window) (p .good)))))
 
     load-step : (l : LoadArguments) (auto level : ℕ) → t .call ≡ Load l auto level → Holding at ts b → Holding at (t ∷ ts) (after t)
@@ -137,7 +137,7 @@ module _ (t : CallRecord) (ts : List CallRecord) where
         (subst (λ T. isCrs (imageAt T 0 .loadCall) ≡ true) (sym (x .1))
         (subst (λ y. isCrs (y .loadCall) ≡ true) (sym (List·getD-append S (a ∷ []) noModule 0 (g .rest .linkedState .some))) c))
         (follow (Load l auto level) e (S ++ (a ∷ [])) (x .1)
-        (load-turn at b (typed .1) S l auto level (w .0) (w .1) (w .2) (w .4) auto-linked (kept .0) (kept .1) p g
+        (load-call at b (typed .1) S l auto level (w .0) (w .1) (w .2) (w .4) auto-linked (kept .0) (kept .1) p g
         (fine t ts mine h (S ++ (a ∷ [])) m (good-end at (b .window) (p .good)))))
 
     unload-step : (base : ℕ) → t .call ≡ Unload base → Holding at ts b → Holding at (t ∷ ts) (after t)
@@ -192,7 +192,7 @@ module _ (t : CallRecord) (ts : List CallRecord) where
             (subst (λ T. isCrs (imageAt T 0 .loadCall) ≡ true) (sym s)
             (subst (λ a. isCrs (a .loadCall) ≡ true) (sym (lacking-at S k noModule 0 ∙ ap (λ j. getD S j noModule) (skip-low k 0 u))) c))
             (follow (Unload base) e (lacking S k) s
-            (unload-turn at b (typed .1) S base k u l y p g (fine t ts mine h S m (good-end at (b .window) (p .good))) r z))
+            (unload-call at b (typed .1) S base k u l y p g (fine t ts mine h S m (good-end at (b .window) (p .good))) r z))
 
   pub step : Gave Follows t → Typed t → own (t ∷ ts) ≡ t ∷ ts → Premises (t ∷ ts) → Holding at ts b → Holding at (t ∷ ts) (after t)
   unfolding Each Harmless

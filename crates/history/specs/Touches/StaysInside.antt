@@ -143,9 +143,9 @@ module _ (t : CallRecord) (ts : List CallRecord) (typed : Typed t) (mine : own (
       call (Load l auto level) e = load-done l auto level e g
       call (Unload base) e = unload-done base e g
 
-turn-inside : (t : CallRecord) (ts : List CallRecord) → Typed t → own (t ∷ ts) ≡ t ∷ ts → Premises (t ∷ ts) → Holding (t .at) ts (t .before) → StaysInside t
+call-inside : (t : CallRecord) (ts : List CallRecord) → Typed t → own (t ∷ ts) ≡ t ∷ ts → Premises (t ∷ ts) → Holding (t .at) ts (t .before) → StaysInside t
 unfolding StaysInside
-turn-inside t ts typed mine h g = go (done t) refl
+call-inside t ts typed mine h g = go (done t) refl
   where
     go : (x : Bool) → done t ≡ x → (x || unfit t) ≡ true → touchesOf (t .call) (t .at) (t .before) ≡ (0, 0)
     go true d u = done-inside t ts typed mine h d g
@@ -160,7 +160,7 @@ own-inside : (at : ℕ) (ts : List CallRecord) → OwnCalls at ts → Premises t
 unfolding Each HoldsAfter loadedModules
 own-inside at ts none h = tt
 own-inside at ts (first t f e typed fresh g) h =
-    (turn-inside t [] typed (own-all at (t ∷ []) (first t f e typed fresh g)) h (none-came refl fresh), tt)
+    (call-inside t [] typed (own-all at (t ∷ []) (first t f e typed fresh g)) h (none-came refl fresh), tt)
 own-inside at ts (next t u us s f e typed b g) h =
     let mine = own-all at (t ∷ u ∷ us) (next t u us s f e typed b g) in
     let last = last-own at u us s in
@@ -169,7 +169,7 @@ own-inside at ts (next t u us s f e typed b g) h =
     let held =
     between-holds (t .at) (u ∷ us) (after u) (t .before) (subst (λ a. Between a (u ∷ us) (after u) (t .before)) (sym e) b)
     (subst (λ a. Holding a (u ∷ us) (after u)) (last .0 ∙ sym e) (session at (u ∷ us) s less .0)) in
-    (turn-inside t (u ∷ us) typed mine h held, own-inside at (u ∷ us) s less)
+    (call-inside t (u ∷ us) typed mine h held, own-inside at (u ∷ us) s less)
 
 -- and those lent what breaks a rule
 all-inside : (ts : List CallRecord) → Each StaysInside (own ts) → Each StaysInside ts

@@ -1,4 +1,4 @@
--- A turn of a session: what its call leaves at rest, in the bytes that it gave, and in those that the next call gets.
+-- A call of a session: what it leaves at rest, in the bytes that it gave, and in those that the next call gets.
 use Prim.Native.Nat.{ℕ, zero, suc, _^_, _<_}
 use mathlib.Core.Path.{_≡_, refl, sym, subst}
 use mathlib.Core.Logic.{_≢_, _⊎_, inl, inr}
@@ -89,12 +89,12 @@ module _ (at : ℕ) (b : Buffers) (bytes : AreBytes b) where
       (p .0, encoded-small (b .records) (b .names) (b .missing) (lentRegister b) (bytes .1) (p .1))
 
   -- `initialize` was done
-  pub initialize-turn
+  pub initialize-call
       : (base size : ℕ) → base < 2 ^ 32 → size < 2 ^ 32 → Performed (Initialize base size) at b → lentRegister b .modules ≡ []
       → Fine at (length (b .window)) (record { loadCall = initialized base size; bytes = byteAt at (b .window) } ∷ [])
       → RestingIn at (record { loadCall = initialized base size; bytes = byteAt at (b .window) } ∷ []) (given (Initialize base size) at b .left)
   unfolding program
-  initialize-turn base size hb hs p none-yet f =
+  initialize-call base size hb hs p none-yet f =
       let g = brings-initialize base size at b p in
       let x = parts (p .valid) in
       let n = length (b .records) in
@@ -104,13 +104,13 @@ module _ (at : ℕ) (b : Buffers) (bytes : AreBytes b) where
       (initialize-rests at (b .window) (lentRegister b) none-yet base size f (bytes .0) n m (g .0) (g .1) (g .2 .answered))
 
   -- `load` was done
-  pub load-turn
+  pub load-call
       : (S : List LoadedModule) (l : LoadArguments) (auto level : ℕ) → l .base < 2 ^ 32 → l .size < 2 ^ 32 → l .«data_segment» < 2 ^ 32 → l .«bss_segment» < 2 ^ 32
       → not (eqb auto 0) ≡ true → level ≢ 2 → level ≢ 3 → Performed (Load l auto level) at b → RestingIn at S b
       → Fine at (length (b .window)) (S ++ (record { loadCall = loaded l (not (eqb auto 0)) level; bytes = byteAt at (b .window) } ∷ []))
       → RestingIn at (S ++ (record { loadCall = loaded l (not (eqb auto 0)) level; bytes = byteAt at (b .window) } ∷ [])) (given (Load l auto level) at b .left)
   unfolding program
-  load-turn S l auto level hb hs hd hx e c d p h f =
+  load-call S l auto level hb hs hd hx e c d p h f =
       let g = brings-load l auto level at b p in
       let x = parts (p .valid) in
       let n = length (b .records) in
@@ -127,12 +127,12 @@ module _ (at : ℕ) (b : Buffers) (bytes : AreBytes b) where
       (sym e) q (g .2 .answered))
 
   -- `unload` of number d was done
-  pub unload-turn
+  pub unload-call
       : (S : List LoadedModule) (base d : ℕ) → 0 < d → d < length S → baseOf (imageAt S d .loadCall) ≡ base → Performed (Unload base) at b
       → RestingIn at S b → Fine at (length (b .window)) S → (r : Module) → firstWithBase base (lentRegister b .modules) 0 ≡ stands r d
       → RestingIn at (lacking S d) (given (Unload base) at b .left)
   unfolding program
-  unload-turn S base d above below e p h f r z =
+  unload-call S base d above below e p h f r z =
       let g = unload-known base at b p r d z in
       left-rests (Unload base) at b 1 (removed (lentRegister b) d) (lacking S d) g
       (unload-back (b .records) (b .names) (b .missing) (p .valid) (bytes .1) d (rw (h .rest .registerMatches .many) below))
