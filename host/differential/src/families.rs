@@ -1,7 +1,7 @@
 //! The five families of sessions. Counts are capped so that runs stay fast: a header's count stays below some thousands,
 //! unless the session itself changes it; a call that then needs too many accesses is cut.
 
-use sessions::cast::Cast;
+use sessions::modules::Modules;
 use sessions::image::{COUNTS, HEADER};
 use sessions::{Call, Random, Session, Step};
 
@@ -47,17 +47,17 @@ impl Family {
 
 fn well_laid(random: &mut Random) -> Session {
     let count = random.from_to(2, 12);
-    let cast = Cast::new(random, count);
+    let modules = Modules::new(random, count);
     let steps = random.from_to(1, 24);
-    let steps = (0..steps).map(|index| any_step(random, &cast, index)).collect();
-    cast.session(steps)
+    let steps = (0..steps).map(|index| any_step(random, &modules, index)).collect();
+    modules.session(steps)
 }
 
 /// A call on a member, mostly the static module first.
-fn any_step(random: &mut Random, cast: &Cast, index: u32) -> Step {
+fn any_step(random: &mut Random, modules: &Modules, index: u32) -> Step {
     let first = index == 0 && !random.once_in(8);
-    let number = if first { 0 } else { random.below(cast.members.len() as u32) };
-    let mut step = cast.members[number as usize].step;
+    let number = if first { 0 } else { random.below(modules.members.len() as u32) };
+    let mut step = modules.members[number as usize].step;
     if step.call == Call::Initialize && !first && random.once_in(2) {
         // the static module loaded like any other
         step = Step { call: Call::Load, auto_link: 1, ..step };
@@ -358,14 +358,14 @@ fn soup_step(random: &mut Random, session: &Session, base: u32, index: u32) -> S
 
 fn filling(random: &mut Random) -> Session {
     let count = random.from_to(2, 10);
-    let cast = Cast::new(random, count);
+    let modules = Modules::new(random, count);
     let long = random.once_in(6);
     let steps = if long { 120 } else { random.pick(&[6, 12, 30]) };
-    let loads = (0..steps).map(|index| any_step(random, &cast, index));
+    let loads = (0..steps).map(|index| any_step(random, &modules, index));
     let loads = loads.filter(|step| step.call != Call::Unload).collect();
-    let mut session = cast.session(loads);
+    let mut session = modules.session(loads);
     if session.steps.is_empty() {
-        session.steps.push(cast.members[0].step);
+        session.steps.push(modules.members[0].step);
     }
     for _ in 0..random.below(6) {
         grow(random, &mut session);

@@ -6,7 +6,7 @@
 use crate::faults;
 use crate::under_test::Buffers;
 use fillqhano::calls::Answer;
-use sessions::cast::{Cast, Placed};
+use sessions::modules::{Modules, Placed};
 use sessions::image::Relocation;
 use sessions::{Call, Random, Step};
 use std::ops::Range;
@@ -31,9 +31,9 @@ pub struct Seen {
 pub fn run_pair(seed: u64, number: u64, seen: &mut Seen) -> Result<(), String> {
     let mut random = Random::new(seed, 100, number);
     let count = random.from_to(3, 14);
-    let cast = Cast::new(&mut random, count);
-    let (stay, pass) = parts(&mut random, &cast);
-    let mut plain = Run::new(&mut random, &cast);
+    let modules = Modules::new(&mut random, count);
+    let (stay, pass) = parts(&mut random, &modules);
+    let mut plain = Run::new(&mut random, &modules);
     for member in &pass {
         plain.fill(&mut random, &image_area(member));
     }
@@ -42,7 +42,7 @@ pub fn run_pair(seed: u64, number: u64, seen: &mut Seen) -> Result<(), String> {
         plain.take_in(member, seen)?;
     }
     plain.lend_badly(&mut random, seen)?;
-    let mut long = Run::new(&mut random, &cast);
+    let mut long = Run::new(&mut random, &modules);
     long.wander(&mut random, &stay, &pass, seen)?;
     for area in stay.iter().flat_map(|member| areas(member)) {
         if plain.bytes(&area) != long.bytes(&area) {
@@ -55,8 +55,8 @@ pub fn run_pair(seed: u64, number: u64, seen: &mut Seen) -> Result<(), String> {
 }
 
 /// Those that stand at the end, the static module first, and those that come and go.
-fn parts<'a>(random: &mut Random, cast: &'a Cast) -> (Vec<&'a Placed>, Vec<&'a Placed>) {
-    let (first, others) = cast.members.split_first().expect("the static module has room");
+fn parts<'a>(random: &mut Random, modules: &'a Modules) -> (Vec<&'a Placed>, Vec<&'a Placed>) {
+    let (first, others) = modules.members.split_first().expect("the static module has room");
     let (mut stay, mut pass): (Vec<_>, Vec<_>) = others.iter().partition(|_| random.once_in(2));
     random.shuffle(&mut stay);
     random.shuffle(&mut pass);
@@ -78,16 +78,16 @@ fn areas(member: &Placed) -> impl Iterator<Item = Range<u32>> {
 /// A session as it goes on.
 struct Run<'a> {
     buffers: Buffers,
-    cast: &'a Cast,
+    modules: &'a Modules,
     standing: Vec<&'a Placed>,
 }
 
 impl<'a> Run<'a> {
     /// A window with every image at its place and other bytes elsewhere, and a register of any sufficient size.
-    fn new(random: &mut Random, cast: &'a Cast) -> Run<'a> {
+    fn new(random: &mut Random, modules: &'a Modules) -> Run<'a> {
         let room = 0x4000 + random.below(0x1000) as usize;
-        let buffers = Buffers::new(cast.at, cast.window(), room, room);
-        let mut run = Run { buffers, cast, standing: Vec::new() };
+        let buffers = Buffers::new(modules.at, modules.window(), room, room);
+        let mut run = Run { buffers, modules, standing: Vec::new() };
         run.write_between(random);
         run
     }
@@ -112,8 +112,8 @@ impl<'a> Run<'a> {
     /// Others write bytes outside all areas.
     fn write_between(&mut self, random: &mut Random) {
         for _ in 0..random.below(40) {
-            let address = self.buffers.at + random.below(self.cast.length);
-            if !self.cast.members.iter().flat_map(areas).any(|area| area.contains(&address)) {
+            let address = self.buffers.at + random.below(self.modules.length);
+            if !self.modules.members.iter().flat_map(areas).any(|area| area.contains(&address)) {
                 let place = self.place(address);
                 self.buffers.window[place] = random.word() as u8;
             }
@@ -172,7 +172,7 @@ impl<'a> Run<'a> {
     /// the last call left stands.
     fn lend_badly(&self, random: &mut Random, seen: &mut Seen) -> Result<(), String> {
         for _ in 0..random.below(3) {
-            let mut step = self.cast.members[random.below(self.cast.members.len() as u32) as usize].step;
+            let mut step = self.modules.members[random.below(self.modules.members.len() as u32) as usize].step;
             if random.once_in(3) {
                 step = Step::unload(step.base);
             }

@@ -1,8 +1,8 @@
 //! Sessions of calls, for the runs that compare and time the linker: images of modules, sessions, and what stands after a
 //! call in a form that both sides can give.
 
-pub mod cast;
 pub mod image;
+pub mod modules;
 mod random;
 mod session;
 mod state;

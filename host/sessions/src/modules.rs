@@ -13,7 +13,7 @@ pub struct Placed {
 
 /// The first is the static module. No module's and no export's name comes twice.
 #[derive(Debug, Clone)]
-pub struct Cast {
+pub struct Modules {
     pub at: u32,
     pub length: u32,
     pub members: Vec<Placed>,
@@ -26,9 +26,9 @@ struct Offer {
     exports: Vec<Vec<u8>>,
 }
 
-impl Cast {
+impl Modules {
     /// At most `count` members in a window of at most 32 KiB: as many as have room.
-    pub fn new(random: &mut Random, count: u32) -> Cast {
+    pub fn new(random: &mut Random, count: u32) -> Modules {
         let length = 0x1000 * random.from_to(2, 8);
         // some stand so high that the addresses of batches come close to 2^32, and some have address 0
         let anywhere = 0x1000 * random.from_to(1, 0xF_0000);
@@ -38,7 +38,7 @@ impl Cast {
             _ => anywhere,
         };
         let offers: Vec<Offer> = (0..count).map(|number| Offer::new(random, number)).collect();
-        let mut cast = Cast { at, length, members: Vec::new() };
+        let mut modules = Modules { at, length, members: Vec::new() };
         let mut next = at + 4 * random.from_to(1, 16);
         for number in 0..count {
             let image = image(random, &offers, number as usize);
@@ -46,9 +46,9 @@ impl Cast {
             if next.wrapping_sub(at) > length {
                 break;
             }
-            cast.members.push(placed);
+            modules.members.push(placed);
         }
-        cast
+        modules
     }
 
     /// The window with every image at its place, and something that is no name at its beginning.
