@@ -333,6 +333,36 @@ load('A batch without an end mark ends after 0x1001 entries; those outside the w
      importing(ONE, {EXTERNAL: [0xF00, 1], 0x380: [0x400, 0xF00], 0xF00: relocation(tag(0, 0), 2, 0, 4)}), register(FOO), {
          'window': {**IMPORT_MOVED, B + EXTERNAL: B + 0xF00, B + 0x384: B + 0xF00, B + 0x800: FAR + 0x14, B + 0xF06: b'\1'},
          'records': AFTER_FOO}, auto=1, touch=B + 0x1000)  # the kind of the entry at 0xFFC
+# A batch of an import of the module's own export, in a window of 14 pages or 13; entry k is at batch + 12 (k - 1).
+def long_batch(batch, entries=None):
+    return at(B, {SEGMENTS: [0x200, 1], NAMED: [0x240, 1], IMPORT_NAMED: [0x380, 1], 0x200: [0x800, 0x100, 0], 0x240: [0x400, tag(0, 0x20)],
+                  0x380: [0x400, batch], 0x400: b'foo', **(entries or {})})
+
+
+def from_4096(*ends):
+    """Entries 4,096 to 4,098 of a batch at 0x1000, by their end marks; each has a word of its own."""
+    return {0x1000 + 12 * (4095 + k): relocation(tag(0, 4 * k), 2, end, k) for k, end in enumerate(ends)}
+
+
+def long_batch_done(batch, applied=0):
+    """What the load changes; of the entries with a word `applied` are reached."""
+    return {'window': {B + SEGMENTS: B + 0x200, B + NAMED: B + 0x240, B + IMPORT_NAMED: B + 0x380, B + 0x200: B + 0x800, B + 0x240: B + 0x400,
+                       B + 0x380: [B + 0x400, B + batch], B + batch + 6: b'\1',
+                       **{B + 0x800 + 4 * k: B + 0x820 + k for k in range(applied)}},
+            'records': {0: [1, 0, 0, 80, 3], 32: [B, 0x1000, 1, 0, 0, 1, 1, 0, B + 0x800, 0, 3, B + 0x820]}, 'names': {0: b'foo'}}
+
+
+PAGES_13, PAGES_14 = (0xD000, 256, 64, MISSING_BYTES), (0xE000, 256, 64, MISSING_BYTES)
+load('A batch whose 4,096th entry has the end mark ends there: the 4,097th is not applied', 0, 0,
+     long_batch(0x1000, from_4096(1, 1, 1)), None, long_batch_done(0x1000, 1), lengths=PAGES_14, auto=1)
+load('A batch whose 4,097th entry has the end mark ends there: the 4,098th is not applied', 0, 0,
+     long_batch(0x1000, from_4096(0, 1, 1)), None, long_batch_done(0x1000, 2), lengths=PAGES_14, auto=1)
+load('A batch without an end mark ends after the 4,097th entry too: the 4,098th is not applied', 0, 0,
+     long_batch(0x1000, from_4096(0, 0, 0)), None, long_batch_done(0x1000, 2), lengths=PAGES_14, auto=1)
+load('The 4,097th entry of a batch without an end mark is read: at the window\'s end it is a touch', 0, 0,
+     long_batch(0x1000), None, long_batch_done(0x1000), lengths=PAGES_13, auto=1, touch=B + 0xD000)
+load('A 4,098th entry is not read: at the window\'s end it is none', 0, 0,
+     long_batch(0xFF4), None, long_batch_done(0xFF4), lengths=PAGES_13, auto=1)
 load('An import whose batch is 0 is passed over, and is not missing', 0, 0, importing(ONE, {0x380: [0x400, 0]}), None, {
     'window': {**EXTERNAL_MOVED, B + IMPORT_NAMED: B + 0x380, B + 0x380: B + 0x400, B + 0x800: B + 0x844}, 'records': CODE_RECORD}, auto=1)
 load('64 missing names stand: another is not kept', 0, 0, importing(ONE), register(missing=[b'm'] * 64), {

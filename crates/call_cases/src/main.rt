@@ -55,11 +55,11 @@ fn tally(verdict: Verdict) -> u32
 fn run_case(file: &[u8], at: usize) -> Verdict
     requires { ⌜ at ≤ length (now file) / 4 ⌝ }
 {
-    let mut window = [0u8; 16384];
+    let mut window = [0u8; 65536];
     let mut records = [0u8; 8192];
     let mut names = [0u8; 8192];
     let mut missing = [0u8; 32900];
-    let mut window_after = [0u8; 16384];
+    let mut window_after = [0u8; 65536];
     let mut records_after = [0u8; 8192];
     let mut names_after = [0u8; 8192];
     let mut missing_after = [0u8; 32900];
