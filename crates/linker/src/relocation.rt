@@ -71,7 +71,7 @@ pub(crate) fn apply_relocation_batch(
     ensures { λ r. ⌜ (r, (now (w .exit), now (trace .exit))) ≡ runT at (applyRelocationBatch base batch symbol resolved) (now (w .entry), now (trace .entry)) ⌝ }
 {
     let mut entry = batch;
-    let mut walked: u32 = 0;
+    let mut walked: u16 = 0;
     loop {
         let end = walk_entry(at, w, trace, base, symbol, entry);
         walked += 1;
@@ -90,7 +90,7 @@ pub(crate) fn apply_relocation_batch(
         std::num::wrapping_add_u32(batch, 6),
         resolved as u8,
     );
-    walked
+    walked as u32
 }
 
 // Whether the first entry's mark says that the batch is resolved.

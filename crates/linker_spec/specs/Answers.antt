@@ -1,11 +1,13 @@
 -- What the steps and calls may answer: how far a batch walk counts, which numbers a call has.
-use Prim.Native.Nat.{ℕ, zero, suc, _+_, _≤_}
-use mathlib.Core.Path.{_≡_, refl, sym, subst}
-use mathlib.Core.Bool.{true, false}
+use Prim.Native.Nat.{ℕ, zero, suc, _+_, _^_, _≤_, _<_}
+use mathlib.Core.Path.{_≡_, refl, sym, ap, subst, _∙_}
+use mathlib.Core.List.{List}
+use mathlib.Core.Bool.{Bool, true, false}
 use native.Mathlib.Omega.{arith}
 use lib.Dec.{eqb}
-use Rattle.window.specs.Memory.{_⊕_}
-use Rattle.window.specs.Access.{ret, _>>=_, _>>_}
+use borrow.Author.Tests.{eq-eqb, ne-eqb}
+use Rattle.window.specs.Memory.{if_then_else_, _⊕_, byteAt, wordAt}
+use Rattle.window.specs.Access.{Prog, ret, _>>=_, _>>_, run, run-bind}
 use Rattle.layout.specs.Header.{relocationEntrySize}
 use Rattle.layout.specs.Tables.{pointerTables}
 use Rattle.layout.specs.Segments.{setField, tagToAddress}
@@ -19,7 +21,7 @@ use Rattle.register.specs.Change.{without}
 use Rattle.linker_spec.specs.Resets.{resetImporters}
 use Rattle.linker_spec.specs.Unrebase.{unrebase}
 use Rattle.linker_spec.specs.Calls.{Answer, number, unlisted, relocate, rebaseWith, rebaseStatic, fits, addRecord, initialized, initialize, FirstWithBase, unknown, stands, leave, unload, firstWithBase}
-use Rattle.linker_spec.specs.AnyResult.{AnyResult, gives-bind, gives-then, gives-if}
+use Rattle.linker_spec.specs.AnyResult.{AnyResult, gives-run, gives-bind, gives-then, gives-if}
 
 -- a walk of a batch counts at least the first entry and at most 0x1001
 abbrev pub Counted : (least most k : ℕ) → Type 0
@@ -47,6 +49,93 @@ pub batch-counts : (base symbol batch : ℕ) → AnyResult (Counted 1 0x1001) (w
 batch-counts base symbol batch =
     walk-step 1 0x1001 base symbol 0x1000 batch 0 (omega arith, omega arith)
     (walk-counts 1 0x1001 base symbol 0x1000 (batch ⊕ relocationEntrySize) 1 (omega arith) (omega arith))
+
+-- so every count fits 16 bits
+pub counts-fit : (at base symbol batch : ℕ) (w : List ℕ) → run at (walk batchLimit base symbol batch 0) w .0 < 2 ^ 16
+counts-fit at base symbol batch w =
+    let c = gives-run (Counted 1 0x1001) at (walk batchLimit base symbol batch 0) w (batch-counts base symbol batch) in
+    omega (arith, c .1)
+
+-- What a walk yields in any window, by its end marks as they are read: each after the entries before it were applied.
+module _ (at base symbol : ℕ) where
+  abbrev pub afterEntry : List ℕ → (entry : ℕ) → List ℕ
+  afterEntry w entry = run at (walk 1 base symbol entry 0) w .1
+
+  -- none of the n entries from `entry` on has an end mark
+  unfoldable pub Unmarked : (n : ℕ) → List ℕ → (entry : ℕ) → Type 0
+  Unmarked zero w entry = Unit {0}
+  Unmarked (suc n) w entry = (byteAt at w (entry ⊕ 5) ≡ 0) × Unmarked n (afterEntry w entry) (entry ⊕ relocationEntrySize)
+
+  -- the entry after n others is the first with an end mark
+  unfoldable pub MarkedAfter : (n : ℕ) → List ℕ → (entry : ℕ) → Type 0
+  MarkedAfter zero w entry = byteAt at w (entry ⊕ 5) ≡ 0 → ⊥
+  MarkedAfter (suc n) w entry = (byteAt at w (entry ⊕ 5) ≡ 0) × MarkedAfter n (afterEntry w entry) (entry ⊕ relocationEntrySize)
+
+  applied
+      : (tag kind addend : ℕ) (next : Prog ℕ) (w : List ℕ)
+      → run at (tagToAddress base tag >>= λ target. relocateAt target kind addend symbol >> next) w
+      ≡ run at next (run at (tagToAddress base tag >>= λ target. relocateAt target kind addend symbol) w .1)
+  applied tag kind addend next w =
+      let t = run at (tagToAddress base tag) w in
+      run-bind at (tagToAddress base tag) _ w
+      ∙ run-bind at (relocateAt (t .0) kind addend symbol) (λ _. next) (t .1)
+      ∙ ap (λ (r : Unit {0} × List ℕ). run at next (r .1))
+      (sym (run-bind at (tagToAddress base tag) (λ target. relocateAt target kind addend symbol) w))
+
+  ends-either-way : (b : Bool) (n : ℕ) (w : List ℕ) → run at (if b then ret n else ret n) w .1 ≡ w
+  unfolding run
+  ends-either-way true n w = refl
+  ends-either-way false n w = refl
+
+  -- a turn: the entry, then by its end mark the rest of the walk or its end
+  turn
+      : (f entry n : ℕ) (w : List ℕ)
+      → run at (walk (suc f) base symbol entry n) w
+      ≡ run at (if eqb (byteAt at w (entry ⊕ 5)) 0 then walk f base symbol (entry ⊕ relocationEntrySize) (suc n) else ret (suc n))
+      (afterEntry w entry)
+  unfolding walk run _>>=_
+  turn f entry n w =
+      let unmarked = eqb (byteAt at w (entry ⊕ 5)) 0 in
+      let next : Prog ℕ = if unmarked then walk f base symbol (entry ⊕ relocationEntrySize) (suc n) else ret (suc n) in
+      let then-next = applied (wordAt at w entry) (byteAt at w (entry ⊕ 4)) (wordAt at w (entry ⊕ 8)) in
+      then-next next w
+      ∙ sym (ap (run at next) (ap (λ (r : ℕ × List ℕ). r .1) (then-next (if unmarked then ret 1 else ret 1) w) ∙ ends-either-way unmarked 1 _))
+
+  goes-on
+      : (f entry n : ℕ) (w : List ℕ) → byteAt at w (entry ⊕ 5) ≡ 0
+      → run at (walk (suc f) base symbol entry n) w
+      ≡ run at (walk f base symbol (entry ⊕ relocationEntrySize) (suc n)) (afterEntry w entry)
+  goes-on f entry n w e = turn f entry n w ∙ rw (eq-eqb _ 0 e)
+
+  yields-unmarked : (f entry n : ℕ) (w : List ℕ) → Unmarked f w entry → run at (walk f base symbol entry n) w .0 ≡ n + f
+  unfolding Unmarked walk run
+  yields-unmarked zero entry n w h = omega arith
+  yields-unmarked (suc f) entry n w h =
+      let e : suc n + f ≡ n + suc f = omega arith in
+      ap (λ (r : ℕ × List ℕ). r .0) (goes-on f entry n w (h .0)) ∙ yields-unmarked f (entry ⊕ relocationEntrySize) (suc n) _ (h .1) ∙ e
+
+  -- document 02, ask 4: "a walk of 0x1001 entries without an end mark still yields 0x1001"
+  pub unmarked-yields
+      : (batch : ℕ) (w : List ℕ) → Unmarked 0x1001 w batch → run at (walk batchLimit base symbol batch 0) w .0 ≡ 0x1001
+  unmarked-yields batch w h = yields-unmarked batchLimit batch 0 w h
+
+  yields-marked
+      : (k f entry n : ℕ) (w : List ℕ) → k < f → MarkedAfter k w entry → run at (walk f base symbol entry n) w .0 ≡ n + suc k
+  unfolding MarkedAfter run
+  yields-marked k zero entry n w l h = absurd (omega (arith, l))
+  yields-marked zero (suc f) entry n w l h =
+      let e : suc n ≡ n + 1 = omega arith in
+      ap (λ (r : ℕ × List ℕ). r .0) (turn f entry n w) ∙ rw (ne-eqb _ 0 h, run) e
+  yields-marked (suc k) (suc f) entry n w l h =
+      let e : suc n + suc k ≡ n + suc (suc k) = omega arith in
+      ap (λ (r : ℕ × List ℕ). r .0) (goes-on f entry n w (h .0))
+      ∙ yields-marked k f (entry ⊕ relocationEntrySize) (suc n) _ (omega (arith, l)) (h .1)
+      ∙ e
+
+  -- and one that meets an end mark yields the entries up to it, the last of 0x1001 included
+  pub marked-yields
+      : (k batch : ℕ) (w : List ℕ) → k < 0x1001 → MarkedAfter k w batch → run at (walk batchLimit base symbol batch 0) w .0 ≡ suc k
+  marked-yields k batch w l h = let e : 0 + suc k ≡ suc k = omega arith in yields-marked k batchLimit batch 0 w l h ∙ e
 
 -- "`initialize` neither changes nor checks segments": it never answers 2
 abbrev NoBadSegment : Rebased → Type 0

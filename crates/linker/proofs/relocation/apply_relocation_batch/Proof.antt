@@ -60,6 +60,9 @@ cast-write8 c = search needs
 write8-requires : tie.Need-write8-requires Inv-loop μ-loop
 write8-requires c κs = search needs
 
+cast-result : tie.Need-cast-result Inv-loop μ-loop
+cast-result c = search needs
+
 same-length : tie.Need-same-length Inv-loop μ-loop
 same-length c =
     let p4 = c .before .before .before .before in
@@ -108,6 +111,7 @@ apply-relocation-batch-spec =
     wrapping-add-u32-requires-2
     cast-write8
     write8-requires
+    cast-result
     same-length
     same-length-2
     returns)
