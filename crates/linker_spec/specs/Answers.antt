@@ -58,6 +58,7 @@ counts-fit at base symbol batch w =
 
 -- What a walk yields in any window, by its end marks as they are read: each after the entries before it were applied.
 module _ (at base symbol : ℕ) where
+  -- the window that one entry leaves
   abbrev pub afterEntry : List ℕ → (entry : ℕ) → List ℕ
   afterEntry w entry = run at (walk 1 base symbol entry 0) w .1
 
@@ -71,6 +72,7 @@ module _ (at base symbol : ℕ) where
   MarkedAfter zero w entry = byteAt at w (entry ⊕ 5) ≡ 0 → ⊥
   MarkedAfter (suc n) w entry = (byteAt at w (entry ⊕ 5) ≡ 0) × MarkedAfter n (afterEntry w entry) (entry ⊕ relocationEntrySize)
 
+  -- what follows an entry runs on the window that it leaves
   applied
       : (tag kind addend : ℕ) (next : Prog ℕ) (w : List ℕ)
       → run at (tagToAddress base tag >>= λ target. relocateAt target kind addend symbol >> next) w
