@@ -14,7 +14,8 @@
  *   end keeps its bytes inside.
  *
  * The register: what stands between calls. All bytes 0 is a register without modules.
- *   records  at least 32 bytes: 8 header words, then one record per module; at most 64 modules
+ *   records  at least 32 bytes: 8 header words, then one record per module; at most 64 modules. A record's named exports
+ *            ascend by name: bytes as unsigned numbers, a name before those that extend it
  *   names    any length: the names of modules and exports
  *   missing  exactly 32,896 bytes: 64 slots of a 16-bit length and 512 bytes, the names that no module provided
  *   Only these calls write it, and the three buffers go together.

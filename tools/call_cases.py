@@ -2,8 +2,8 @@
 """Makes the stored calls that the program call_cases runs, and the output that it must give.
 
 Each case is a call of initialize, load or unload, the bytes that stand before it, and what it must give: number, value, touch,
-and the bytes that it changes, worked out by hand from document 01 (with 000's Rust where 01 refers to it) and, for touches,
-document 02, ask 2. No model of the linker stands here. The reason stands in the case's first line.
+and the bytes that it changes, worked out by hand from document 01 (with 000's Rust where 01 refers to it) and, for touches and
+the order of exports, document 02, asks 2 and 5. No model of the linker stands here. The reason stands in the case's first line.
 
 Run from the root of the repository: python3 tools/call_cases.py [--list]
 It writes crates/call_cases/stdin and stdout, the same bytes each time; with --list it prints the reasons.
@@ -293,6 +293,42 @@ load('The empty name is a name: an export whose name is at 0 is stored with leng
          'window': {B + SEGMENTS: B + 0x200, B + NAMED: B + 0x240, B + 0x200: B + 0x800},
          'records': {0: [1, 0, 0, 80], 32: [B, 0x1000, 1, 0, 0, 1, 1, 0, B + 0x800, 0, 0, B + 0x804]}}, auto=1)
 
+# - the order of exports; a string's pointer moves unless it is 0
+def exporting(entries, strings, segment=(0x800, 0x100, 0)):
+    """An image with a table of named exports, from (string's offset, tag), and what a load moves of it."""
+    image = at(B, {SEGMENTS: [0x200, 1], NAMED: [0x240, len(entries)], 0x200: list(segment),
+                   0x240: [word for entry in entries for word in entry], **strings})
+    moved = {B + SEGMENTS: B + 0x200, B + NAMED: B + 0x240, B + 0x200: B + segment[0],
+             **{B + 0x240 + 8 * k: B + string for k, (string, _) in enumerate(entries) if string}}
+    return image, moved
+
+
+MIXED, MIXED_MOVED = exporting(
+    [(0x402, tag(0, 0)), (0x404, tag(0, 4)), (0x408, tag(0, 8)), (0, tag(0, 12)), (0x40C, tag(0, 16)), (0x402, tag(0, 20)), (0x410, tag(0, 0x40))],
+    {MODULE_NAME: [0x400, 2], 0x400: b'm\0b\0ab\0\0a\0\0\0\xFF\0\0\0zz'}, (0x138, 0x40, 0))
+load('Exports ascend by name, whatever the table\'s order: empty, a, ab, b, FF; the last usable b counts', 0, 0, MIXED, None, {
+    'window': {**MIXED_MOVED, B + MODULE_NAME: B + 0x400},
+    'records': {0: [1, 0, 0, 0x80, 6, 0, 0, 0], 32: [B, 0x1000, 1, 0, 1, 1, 5, 0, B + 0x138, 1, 0, B + 0x144, 1, 1, B + 0x140, 2, 2, B + 0x13C,
+                                                     4, 1, B + 0x14C, 5, 1, B + 0x148]},
+    'names': {0: b'maabb\xFF'}}, auto=1)
+THRICE, THRICE_MOVED = exporting([(0x400, tag(0, 0)), (0x404, tag(0, 4)), (0x400, tag(0, 0x100)), (0x400, tag(0, 8))], {0x400: b'n\0\0\0m'})
+load('A name three times, the middle one unusable: the third counts, and stands after a name that comes later in the table', 0, 0, THRICE, None, {
+    'window': THRICE_MOVED, 'records': {0: [1, 0, 0, 92, 2], 32: [B, 0x1000, 1, 0, 0, 1, 2, 0, B + 0x800, 0, 1, B + 0x804, 1, 1, B + 0x808]},
+    'names': {0: b'mn'}}, auto=1)
+THREE, THREE_MOVED = exporting([(0x408, tag(0, 0)), (0x404, tag(0, 4)), (0x400, tag(0, 8)), (0x404, tag(0, 12))], {0x400: b'a\0\0\0bb\0\0c'})
+load('Three names in four entries fill the records and the names', 0, 0, THREE, None, {
+    'window': THREE_MOVED,
+    'records': {0: [1, 0, 0, 104, 4], 32: [B, 0x1000, 1, 0, 0, 1, 3, 0, B + 0x800, 0, 1, B + 0x808, 1, 2, B + 0x80C, 3, 1, B + 0x800]},
+    'names': {0: b'abbc'}}, lengths=(0x1000, 104, 4, MISSING_BYTES), auto=1)
+load('5: four bytes of the records too few for the same; the register stays, nothing is fixed', 5, 0, THREE, None, {'window': THREE_MOVED},
+     lengths=(0x1000, 100, 4, MISSING_BYTES), auto=1, level=1)
+load('5: a byte of the names too few for the same', 5, 0, THREE, None, {'window': THREE_MOVED},
+     lengths=(0x1000, 104, 3, MISSING_BYTES), auto=1, level=1)
+DESCENDING = register(module(FAR, 1, b'm', (), ((b'b', 4), (b'a', 8))))
+load('4: the named exports of a record do not ascend', 4, 0, LEAST, DESCENDING, auto=1)
+initialize('4: the same', 4, 0, at(B, {CODE: [0x138, 0x10]}, b'CRS0'), DESCENDING)
+unload('4: the same, for an unknown base too', 4, 0, None, DESCENDING)
+
 # - named imports: one, of the name `foo`, whose batch begins at 0x2C0; the handler is at 0x840
 def importing(entries, parts=None, base=B):
     return at(base, {HANDLER: tag(0, 0x40), SEGMENTS: [0x200, 1], EXTERNAL: [0x2C0, len(entries) // 3], IMPORT_NAMED: [0x380, 1],
@@ -467,6 +503,11 @@ unload('The module\'s offsets and fixed size go back, its record leaves, 32 is w
 unload('Of two records with that base the first leaves; the names after it move down', 0, 1, LOADED,
        register(module(B, 1, b'one'), module(B, 0, b'second')), {
            'window': LEFT, 'records': {0: [1, 0, 0, 64, 6], 32: [B, 0x1000, 0, 0, 6, 0, 0, 0], 64: [0] * 8}, 'names': {0: b'second\0\0\0'}})
+unload('The records after it keep the order of their exports; offsets and names move down', 0, 1, LOADED,
+       register(module(B, 1, b'one', (), ((b'x', 4), (b'y', 8))), module(FAR, 0, b'two', (), ((b'', 12), (b'a', 16), (b'ab', 20)))), {
+           'window': LEFT,
+           'records': {0: [1, 0, 0, 100, 6], 32: [FAR, 0x1000, 0, 0, 3, 0, 3, 0, 3, 0, 12, 3, 1, 16, 4, 2, 20], 100: [0] * 14},
+           'names': {0: b'twoaab\0\0\0\0\0'}})
 unload('A Data segment leaves as lent address - base, Bss as 0, kind 7 as 3, an offset of 0 as 0', 0, 1,
        at(B, {SEGMENTS: [B + 0x200, 4], 0x200: [0x180000, 4, 2, 0x190000, 4, 7, 0, 4, 0, B + 0x800, 4, 1]}), register(module(B, 1)), {
            'window': {B + SEGMENTS: 0x200, B + 0x200: 0x80000, B + 0x20C: [0, 4, 3], B + 0x224: 0x800},

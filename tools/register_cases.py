@@ -1,9 +1,9 @@
 #!/usr/bin/env python3
 """Makes the stored registers that the program register_cases tries, and the output that it must give.
 
-Written from document 01, "The register", alone: an encoder, and a model that calls three buffers a register exactly if
-they are what the encoder makes of the value read from them. Each case is made by hand with the verdict that it must get,
-and the model must agree; only of the last group, bytes set at random, the model alone says the verdict.
+Written from document 01, "The register", and document 02, ask 5, alone: an encoder, and a model that calls three buffers a
+register exactly if they are what the encoder makes of the value read from them. Each case is made by hand with the verdict that
+it must get, and the model must agree; only of the last group, bytes set at random, the model alone says the verdict.
 
 Run from the root of the repository: python3 tools/register_cases.py [--list]
 It writes crates/register_cases/stdin and stdout, the same bytes each time, and prints which cases stand for what.
@@ -99,7 +99,7 @@ def proper(reg):
     names = list(reg.missing)
     for m in reg.modules:
         own = [n for n, _ in m.named]
-        need(m.auto <= 1 and len(m.segments) <= 16 and len(set(own)) == len(own))
+        need(m.auto <= 1 and len(m.segments) <= 16 and all(a < b for a, b in zip(own, own[1:])))
         names += [m.name] + own
     return all(proper_name(n) for n in names)
 
@@ -213,7 +213,7 @@ def one(*args, **named):
 
 def pair():
     """Two modules; the first one's record has 27 words, from word 8 on, and the second one's starts at word 35."""
-    return Register([module('first', ['beta', 'alpha', ''], 4, 6), module('second', ['gamma', 'alpha'], 2, 1)],
+    return Register([module('first', ['', 'alpha', 'beta'], 4, 6), module('second', ['alpha', 'gamma'], 2, 1)],
                     0x10000000, [b'lost', b'', b'gone'])
 
 
@@ -283,33 +283,36 @@ def valid_names():
     for n in [0, 1, 511, 512]:
         good(lend(one('m', [text(n)]), 3, 0), 'export name of %d bytes' % n)
     good(lend(one(bytes(range(1, 256)), [bytes(range(255, 0, -1))])), 'every byte but 0')
-    long = Register([module(text(512), [text(512) for _ in range(3)]) for _ in range(4)])
+    long = Register([module(text(512), sorted(text(512) for _ in range(3))) for _ in range(4)])
     good(lend(long), '16 names of 512 bytes, N full')
     good(lend(Register([module('a'), module(''), module('b')])), 'an unnamed module between two')
     good(lend(one('', ['', 'x'])), 'an unnamed module with an unnamed export')
 
 
-def valid_exports():
-    group('valid, distinct export names in any order, equal ones in two records (claim 114)')
+def exports_of_records():
+    group('distinct export names: valid ascending, refused in any other order; equal ones in two records (claim 114)')
     few = ['alpha', 'beta', 'gamma']
-    for names, order in [(few, 'ascending'), (few[::-1], 'descending'), (['beta', 'alpha', 'gamma'], 'mixed')]:
-        good(lend(one('m', names)), '3 exports, ' + order)
+    good(lend(one('m', few)), '3 exports, ascending')
+    for names, order in [(few[::-1], 'descending'), (['beta', 'alpha', 'gamma'], 'mixed')]:
+        bad(lend(one('m', names)), '3 exports, ' + order)
     many = numbered(200)
-    for names, order in [(many, 'ascending'), (many[::-1], 'descending'), (shuffled(many), 'mixed')]:
-        good(lend(one('m', names)), '200 exports, ' + order)
-    good(lend(one('m', many[:-2] + [many[-1], many[-2]])), '200 exports, only the last two exchanged')
+    mixed = shuffled(many)
+    good(lend(one('m', many)), '200 exports, ascending')
+    for names, order in [(many[::-1], 'descending'), (mixed, 'mixed')]:
+        bad(lend(one('m', names)), '200 exports, ' + order)
+    bad(lend(one('m', many[:-2] + [many[-1], many[-2]])), '200 exports, only the last two exchanged')
     good(lend(one('m', ['a', 'ab', 'abc'])), 'each name begins the next')
-    good(lend(one('m', ['abc', 'ab', 'a'])), 'each name begins the one before')
+    bad(lend(one('m', ['abc', 'ab', 'a'])), 'each name begins the one before')
     good(lend(one('m', [b'\x7f', b'\x80', b'\xff'])), 'bytes above 127')
     long = text(511)
-    good(lend(one('m', [long + b'b', long + b'a'])), 'names of 512 bytes that differ in the last')
-    good(lend(one('m', ['x', '', 'y'])), 'one empty name between others')
+    bad(lend(one('m', [long + b'b', long + b'a'])), 'names of 512 bytes that differ in the last, exchanged')
+    bad(lend(one('m', ['x', '', 'y'])), 'one empty name between others')
     good(lend(one('m', ['m'])), 'export named as its module')
     good(lend(Register([module('a', ['same']), module('b', ['same'])])), 'the same export name in two records')
     good(lend(Register([module('a', ['']), module('b', [''])])), 'an empty export name in two records')
     good(lend(Register([module('a', base=1), module('a', base=2)])), 'equal module names')
     good(lend(Register([module('a', base=1), module('b', base=1)])), 'equal bases')
-    good(lend(Register([module('a', ['e', 'd'], base=1)] * 3)), 'three equal records but for the offsets')
+    bad(lend(Register([module('a', ['e', 'd'], base=1)] * 3)), 'three equal records but for the offsets, descending')
 
 
 def valid_missing():
@@ -454,7 +457,7 @@ def bad_offsets():
     bad(word(lend(one(''), 0, 8), 11, 1), 'empty module name, offset 1, N longer')
     bad(word(lend(one('m', [''])), 16, 0), 'empty export name, offset 0')
     bad(word(lend(one('m', [''])), 16, 2), 'empty export name, offset one too great')
-    bad(word(lend(pair()), 26, 0), 'empty third export name, offset 0')
+    bad(word(lend(pair()), 20, 0), 'empty first export name of three, offset 0')
     bad(word(lend(one('m', [''])), 16, TOP), 'empty export name, offset 2^32 - 1')
 
 
@@ -481,7 +484,7 @@ def bad_names():
     bad(lend(one(text(513))), 'module name of 513 bytes')
     bad(lend(one(text(600)), 8, 8), 'module name of 600 bytes')
     bad(lend(one('m', [text(513)])), 'export name of 513 bytes')
-    bad(lend(one('m', ['a', text(513)]), 8, 8), 'second export\'s name of 513 bytes')
+    bad(lend(one('m', ['a', b'\xff' + text(513)[1:]]), 8, 8), 'second export\'s name of 513 bytes')
     bad(lend(Register([module('a'), module(text(513))])), 'second module\'s name of 513 bytes')
     bad(word(lend(pair()), 12, TOP), 'module name of 2^32 - 1 bytes')
     bad(word(lend(pair()), 21, 0x80000000), 'export name of 2^31 bytes')
@@ -489,13 +492,13 @@ def bad_names():
     for at in [0, 2, 4]:
         name = put(b'hello', at, b'\0')
         bad(lend(one(name, ['e'])), 'zero at place %d of a module name' % at)
-        bad(lend(one('m', ['a', name, 'z'])), 'zero at place %d of an export name' % at)
+        bad(lend(one('m', sorted([b'a', name, b'z']))), 'zero at place %d of an export name' % at)
     bad(lend(one(b'\0')), 'module name of one zero')
     bad(lend(one('m', [b'\0'])), 'export name of one zero')
     bad(lend(one(bytes(512))), 'module name of 512 zeros')
     bad(lend(one(text(511) + b'\0')), 'zero at the end of 512 bytes')
     bad(lend(Register([module('a'), module('b'), module(b'c\0')])), 'zero in the last module\'s name')
-    bad(lend(Register([module('a'), module('b', ['x', b'\0y'])]), 4, 4), 'zero in the last export\'s name')
+    bad(lend(Register([module('a'), module('b', ['x', b'y\0'])]), 4, 4), 'zero in the last export\'s name')
 
 
 def bad_exports():
@@ -612,6 +615,32 @@ def bad_other():
     bad((r[:32] + r[32 + 108:] + r[32:32 + 108], n, m), 'the records exchanged, the names not')
 
 
+def exporting(*records):
+    """A register of a module for each list of export names."""
+    return Register([Module(0x100000, 0x1000, 1, b'm', [], [(n, 16 * k) for k, n in enumerate(names)]) for names in records])
+
+
+def name_order():
+    group('the order of export names: bytes as unsigned numbers, a name before those that extend it (request 5)')
+    long = b'n' * 511
+    for names, what in [
+            ([b'a', b'b'], 'two names'),
+            ([b'a', b'ab'], 'a name and one that extends it'),
+            ([b'', b'a'], 'the empty name and another'),
+            ([b'\x7f', b'\x80'], 'bytes 7F and 80'),
+            ([b'aa', b'b'], 'a longer name before a shorter'),
+            ([long + b'a', long + b'b'], 'names of 512 bytes that differ in the last')]:
+        good(lend(exporting(names)), what)
+        bad(lend(exporting(names[::-1])), what + ', exchanged')
+    bad(lend(exporting([b'a', b'c', b'b'])), 'three names, the last two exchanged')
+    bad(lend(exporting([b'b', b'a', b'c'])), 'three names, the first two exchanged')
+    good(lend(exporting([b'c', b'd'], [b'a', b'b'])), 'each record has an order of its own')
+    bad(lend(exporting([b'a', b'b'], [b'd', b'c'])), 'two names of the second record exchanged')
+    good(lend(exporting([b'd', b'e'], [b'd', b'e'], [b'd', b'e'])), 'three equal records but for the offsets')
+    r, n, m = lend(exporting([b'a', b'b']))
+    bad((put(put(r, 64, words([2])), 76, words([1])), b'mba', m), 'the names in order, their bytes exchanged')
+
+
 def changed_at_random():
     group('one byte set at random; only the model says the verdict (claim 119)')
     for k in range(120):
@@ -623,9 +652,9 @@ def changed_at_random():
         case(buffers, is_register(*buffers), 'byte %d of %s is %d' % (at, ['R', 'N', 'M'][which], v))
 
 
-ALL = [valid_empty, valid_crs, valid_modules, valid_names, valid_exports, valid_missing, valid_before_others,
+ALL = [valid_empty, valid_crs, valid_modules, valid_names, exports_of_records, valid_missing, valid_before_others,
        bad_lengths, bad_header, bad_used, bad_name_bytes_used, bad_record, bad_wrapped, bad_offsets, bad_order,
-       bad_names, bad_exports, bad_unused, bad_slots, bad_slots_after, bad_past_end, bad_other,
+       bad_names, bad_exports, bad_unused, bad_slots, bad_slots_after, bad_past_end, bad_other, name_order,
        changed_at_random]
 
 

@@ -121,7 +121,8 @@ impl Linker {
         Linker { records, names: vec![0; names], missing: vec![0; MISSING_LENGTH], touch: None }
     }
 
-    /// A linker from the buffers of another one, as a saved state keeps them; none if they are no register.
+    /// A linker from the buffers of another one, as a saved state keeps them; none if they are no register, as where the named
+    /// exports of a module do not ascend by name.
     pub fn from_buffers(records: Vec<u8>, names: Vec<u8>, missing: Vec<u8>) -> Option<Linker> {
         let mut linker = Linker { records, names, missing, touch: None };
         // a page of zeros is no module, so this call tests the register and changes nothing; it has no touch

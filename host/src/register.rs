@@ -71,7 +71,7 @@ impl<'a> Module<'a> {
         self.words(Self::FIXED, self.field(5) as usize)
     }
 
-    /// Its named exports, each name once, in no order that a host may rely on.
+    /// Its named exports, each name once, ascending by name: bytes as unsigned numbers, a name before those that extend it.
     pub fn exports(&self) -> impl ExactSizeIterator<Item = (&'a [u8], u32)> + 'a {
         let module = *self;
         let first = Self::FIXED + 4 * self.field(5) as usize;

@@ -33,6 +33,8 @@ fn modules_are_read() {
     assert_eq!((module.base(), module.size(), module.auto_link(), module.name()), (AT, 0x1000, true, &b"module"[..]));
     let segments: Vec<u32> = module.segments().collect();
     assert_eq!(segments, [AT + 0x138, AT + 0x178, AT + 0x1000, AT + 0x1100]);
+    // the table has them the other way round
+    assert_eq!(module.exports().collect::<Vec<_>>(), [(&b"a"[..], AT + 0x110C), (&b"b"[..], AT + 0x140)]);
     assert_eq!(module.export(b"b"), Some(AT + 0x140));
     assert_eq!(module.export(b"a"), Some(AT + 0x110C));
     assert_eq!(module.export(b"c"), None);

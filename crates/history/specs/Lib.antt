@@ -9,7 +9,6 @@ pub mod Outcomes
 pub mod Windows
 pub mod Demand3
 pub mod Steps
-pub mod Order
 pub mod Rebase
 pub mod Calls
 pub mod Theorem

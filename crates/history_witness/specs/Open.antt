@@ -37,12 +37,12 @@ unfolding
     layoutSegments.setField layoutSegments.segmentEntry layoutSegments.setSegmentEntry layoutSegments.segment layoutSegments.setSegment
     layoutSegments.addressIn layoutSegments.tagToAddress layoutFormat.segmentType layoutFormat.relocationType layoutRelocation.patch
     layoutRelocation.applyRelocation registerWords.part registerWords.same registerWords.allZero registerWords.holds registerWords.bytesOf
-    registerWords.flat registerWords.wordsIn registerModule.named-ok registerModule.findFrom registerModule.findExport registerModule.isNothing
-    registerModule.distinct registerModule.properModule registerModule.properModules registerModule.properNames registerModule.proper
+    registerWords.flat registerWords.wordsIn registerModule.named-ok registerModule.findFrom registerModule.findExport registerModule.isBefore
+    registerModule.ascending registerModule.properModule registerModule.properModules registerModule.properNames registerModule.proper
     registerEncode.exportWords registerEncode.exportNames registerEncode.moduleNames registerEncode.flag registerEncode.moduleWords
     registerEncode.recordWords registerEncode.recordNames registerEncode.crsKnown registerEncode.crsBase registerEncode.encodeWords
     registerEncode.slot registerEncode.slots registerChange.newModule registerChange.withSegment registerChange.withIndexed
-    registerChange.putNamed registerChange.withExport registerChange.appended registerChange.without registerChange.removed
+    registerChange.byOrder registerChange.putNamed registerChange.withNamed registerChange.appended registerChange.without registerChange.removed
     registerChange.withCrs registerChange.withMissing registerDecode.exportAt registerDecode.exportsFrom registerDecode.exportsIn
     registerDecode.moduleSize registerDecode.readModule registerDecode.readModules registerDecode.readCrs registerDecode.slotLength
     registerDecode.slotName registerDecode.readSlots registerDecode.settled registerDecode.body registerDecode.readRegister

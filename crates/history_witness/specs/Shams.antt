@@ -200,7 +200,7 @@ module _ (g : Alteration) where
       let f : Made Follows (told t (changed g t) ∷ ts) =
       gives (Sham g) at (told t (changed g t) ∷ ts) (trace-told t ts (changed g t) at x) (rw (e .0) refl, made-same ts (e .1) s)
       (premises-told t ts (changed g t) p) d .0 in
-      n (f .0 .number ∙ ap (λ o. o .number) (e .0)) (f .0 .value ∙ ap (λ o. o .value) (e .0))
+      n (ap (λ o. o .number) (f .0 ∙ e .0)) (ap (λ o. o .value) (f .0 ∙ e .0))
 
 -- the session's first calls are sessions
 trace₈ : Trace at s₈

@@ -1,5 +1,8 @@
 -- The record of a module, read from its image and written after the last one.
 pub mod Writing
+pub mod Waiting
+pub mod Gathered
+pub mod Naming
 pub mod Modules
 pub mod Proper
 pub mod Exported

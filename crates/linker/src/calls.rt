@@ -12,7 +12,7 @@ ghost use Rattle.linker_spec.specs.Calls.{rebase, rebaseStatic, listed, unliste
 ghost use Rattle.linker_spec.specs.Touches.{upToReset};
 ghost use Rattle.linker_spec.specs.Outcome.{buffers, outcome};
 ghost use Rattle.linker.specs.Calls.Steps.{clearListFields};
-ghost use Rattle.linker.specs.Calls.Linked.{headerCrs, LinkLeaves};
+ghost use Rattle.linker.specs.Calls.Linked.{headerCrs, LastRecord, LinkLeaves};
 ghost use Rattle.linker.specs.Calls.Traced.{traced};
 use crate::entry::add_record;
 use crate::fix::fix;
@@ -77,6 +77,7 @@ fn link(
     fix_level: u32,
 ) -> u32
     requires { ⌜ isRegister (now records) (now names) (now missing) ≡ true ⌝ }
+    requires { ⌜ LastRecord (now records) (now names) place ⌝ }
     ensures { λ r. ⌜ ((old : Register) (m : Module) → registerOf (now (records .entry)) (now (names .entry)) (now (missing .entry)) ≡ appended old m
         → place ≡ placeAfter 32 (old .modules)
         → LinkLeaves at old given «auto_link» «fix_level» m (now (w .entry), now (trace .entry)) r (now (w .exit), now (trace .exit)) (now (records .exit)) (now (names .entry)) (now (missing .exit))) ⌝ }

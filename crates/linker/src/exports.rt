@@ -3,22 +3,30 @@
 ghost use mathlib.Core.Path.{_≡_};
 ghost use mathlib.Core.Bool.{true};
 ghost use mathlib.Core.List.{List, []};
-ghost use Prim.Native.Nat.{ℕ, _+_};
+ghost use Prim.Native.Nat.{ℕ, _+_, _^_, _≤_, _<_};
+ghost use lib.ListN.{length};
 ghost use Rattle.window.specs.Access.{run};
 ghost use Rattle.layout.specs.Header.{exportNamedSymbolTableOffset, exportIndexedSymbolTableOffset};
 ghost use Rattle.register.specs.Decode.{isRegister, registerOf};
-ghost use Rattle.register.specs.Change.{appended};
+ghost use Rattle.register.specs.Module.{Module};
+ghost use Rattle.register.specs.Change.{withNamed, appended};
+ghost use Rattle.register.specs.Append.Draft.{roomIn};
+ghost use Rattle.register.specs.declared.append.draft.Draft.{Draft};
+ghost use Rattle.register.specs.declared.append.draft.Drafted.the-variants.{Open};
 ghost use Rattle.register.specs.Read.Read.{Encoded};
 ghost use Rattle.linker_spec.specs.Exports.{namedExports, indexedExports, readSegments, readModule};
 ghost use Rattle.linker.specs.Record.Read.{headerWord, segmentsTo, namedTo, indexedTo};
-ghost use Rattle.linker.specs.Exports.Modules.{withSegments, withNamed, withIndexeds, DraftStep, Bare, Unindexed, EmptyModule, AnyModule};
+ghost use Rattle.linker.specs.Exports.Modules.{withSegments, withIndexeds, DraftStep, Bare, Unindexed, EmptyModule, AnyModule};
+ghost use Rattle.linker.specs.Exports.Writing.{Ground, Writing};
+ghost use Rattle.linker.specs.Exports.Gathered.{EndsWithin, Gathered, GatherStep, GatheredAll};
 ghost use Rattle.linker.specs.Exports.Exported.{registerIn, entryAnswer, exported, registerWith};
 use crate::record::at_most_16;
 use crate::record::begin;
 use crate::record::indexed_address;
 use crate::record::keep_or_give_up;
-use crate::record::put_named;
 use crate::record::segment_offset;
+use crate::waiting::put_waiting;
+use crate::waiting::write_names;
 use layout::fields::entry_address;
 use layout::format::EXPORT_INDEXED_SYMBOL_ENTRY_SIZE;
 use layout::format::EXPORT_NAMED_SYMBOL_ENTRY_SIZE;
@@ -135,31 +143,74 @@ fn add_all_indexed(
     Drafted::Open(last)
 }
 
-// Adds the named export of entry i, if its tag gives an address.
-fn add_named(
+// Gathers the named export of entry i, if its tag gives an address.
+fn gather_named(
     at: u32,
     w: &[u8],
     base: u32,
     table: u32,
     i: u32,
     records: &mut [u8],
-    names: &mut [u8],
+    names: &[u8],
+    from: usize,
     before: Draft,
 ) -> Drafted
-    ensures { λ r. ⌜ (table ≡ headerWord at (now (w .entry)) base exportNamedSymbolTableOffset
-        → DraftStep Unindexed (λ m. withNamed m (namedTo at (now (w .entry)) base i)) (λ m. withNamed m (namedTo at (now (w .entry)) base (i + 1)))
-        before (now (records .entry)) (now (names .entry)) r (now (records .exit)) (now (names .exit))) ⌝ }
+    requires { ⌜ (from ≤ before .end) × (before .end ≤ roomIn (length (now records))) × (before .last < 2 ^ 32) ⌝ }
+    ensures { λ r. ⌜ (EndsWithin r from (roomIn (length (now (records .exit)))))
+        × (table ≡ headerWord at (now (w .entry)) base exportNamedSymbolTableOffset
+        → (g : Ground) (m : Module) (first : Draft) → from ≡ first .end
+        → Gathered at (now (w .entry)) g m first (namedTo at (now (w .entry)) base i) before (now (records .entry)) (now (names .entry))
+        → GatherStep at (now (w .entry)) g m first (namedTo at (now (w .entry)) base (i + 1)) r (now (records .entry)) (now (records .exit)) (now (names .entry))) ⌝ }
 {
     let entry = entry_address(table, i, EXPORT_NAMED_SYMBOL_ENTRY_SIZE);
     let place = peek::word(at, w, entry);
     let tag = SegmentTag(peek::word(at, w, std::num::wrapping_add_u32(entry, 4)));
     match peek::tag_to_address(at, w, base, tag) {
         Address::Nowhere => Drafted::Open(before),
-        Address::At(address) => put_named(at, w, place, address, records, names, before),
+        Address::At(address) => put_waiting(at, w, place, address, records, names, from, before),
     }
 }
 
-// Adds the named exports.
+// Gathers the named exports after a record that has none; where they have no room the record is given up.
+fn gather_all_named(
+    at: u32,
+    w: &[u8],
+    base: u32,
+    records: &mut [u8],
+    names: &mut [u8],
+    first: Draft,
+) -> Drafted
+    requires { ⌜ (first .end ≤ roomIn (length (now records))) × (first .last < 2 ^ 32) ⌝ }
+    ensures { λ r. ⌜ (EndsWithin r (first .end) (roomIn (length (now (records .exit)))))
+        × ((g : Ground) (m : Module) → Bare m → Writing g m (Open first) (now (records .entry)) (now (names .entry))
+        → GatheredAll at (now (w .entry)) g m first (run at (namedExports base) (now (w .entry)) .0) r (now (records .exit)) (now (names .exit))) ⌝ }
+{
+    let table = peek::field(at, w, base, header::EXPORT_NAMED_SYMBOL_TABLE_OFFSET);
+    let count = peek::field(at, w, base, header::EXPORT_NAMED_SYMBOL_NUM);
+    let mut last = first;
+    let mut i: u32 = 0;
+    while i < count {
+        match gather_named(at, w, base, table, i, records, names, first.end, last) {
+            Drafted::Full => {
+                let written = Draft {
+                    start: first.start,
+                    end: last.end,
+                    names: first.names,
+                    last: first.last,
+                };
+                draft::give_up(records, names, written);
+                return Drafted::Full;
+            }
+            Drafted::Open(next) => {
+                last = next;
+            }
+        }
+        i += 1;
+    }
+    Drafted::Open(last)
+}
+
+// Adds the named exports: first all are gathered, then they are written.
 fn add_all_named(
     at: u32,
     w: &[u8],
@@ -171,21 +222,17 @@ fn add_all_named(
     ensures { λ r. ⌜ DraftStep Unindexed (λ m. withNamed m []) (λ m. withNamed m (run at (namedExports base) (now (w .entry)) .0))
         before (now (records .entry)) (now (names .entry)) r (now (records .exit)) (now (names .exit)) ⌝ }
 {
-    let table = peek::field(at, w, base, header::EXPORT_NAMED_SYMBOL_TABLE_OFFSET);
-    let count = peek::field(at, w, base, header::EXPORT_NAMED_SYMBOL_NUM);
-    let mut last = before;
-    let mut i: u32 = 0;
-    while i < count {
-        match add_named(at, w, base, table, i, records, names, last) {
-            Drafted::Full => {
-                return Drafted::Full;
-            }
-            Drafted::Open(next) => {
-                last = next;
-            }
-        }
-        i += 1;
+    if !draft::is_open(records, before) {
+        return Drafted::Full;
     }
+    let from = before.end;
+    let Drafted::Open(last) = gather_all_named(at, w, base, records, names, before) else {
+        return Drafted::Full;
+    };
+    let to = last.end;
+    write_names(at, w, &mut records[from..to], names, last.last as u32);
+    let count = (to - from) / 12;
+    window::store32(records, before.start + 24, count as u32);
     Drafted::Open(last)
 }
 

@@ -14,3 +14,4 @@ mod resets;
 mod sources;
 mod touches;
 mod unrebase;
+mod waiting;

@@ -2,12 +2,11 @@
 ghost use mathlib.Core.Path.{_≡_};
 ghost use Rattle.window.specs.Memory.{wordAt};
 ghost use Rattle.window.specs.Access.{run};
-ghost use Rattle.window.specs.Name.{nameAt};
 ghost use Rattle.layout.specs.Segments.{tagToAddress};
 ghost use Rattle.register.specs.Append.Draft.{beginRecord};
 ghost use Rattle.linker_spec.specs.Relocation.{addressOr0};
 ghost use Rattle.linker.specs.Record.Read.{segmentOf, atMost16, ownName};
-ghost use Rattle.linker.specs.Record.Tried.{tried, putTried};
+ghost use Rattle.linker.specs.Record.Tried.{tried};
 use layout::format::SegmentTag;
 use layout::header;
 use layout::peek;
@@ -64,25 +63,6 @@ pub(crate) fn indexed_address(at: u32, w: &[u8], base: u32, entry: u32) -> u32
         Address::At(address) => address,
         Address::Nowhere => 0,
     }
-}
-
-// Gives the record the export of the name at `place`.
-pub(crate) fn put_named(
-    at: u32,
-    w: &[u8],
-    place: u32,
-    address: u32,
-    records: &mut [u8],
-    names: &mut [u8],
-    before: Draft,
-) -> Drafted
-    ensures { λ r. ⌜ (r, now (records .exit), now (names .exit))
-        ≡ putTried before (now (records .entry)) (now (names .entry)) (run at (nameAt place) (now (w .entry)) .0) address ⌝ }
-{
-    let mut buffer = [0u8; 512];
-    let count = window::name::peek_name(at, w, place, &mut buffer);
-    let after = draft::put_export(records, names, before, &buffer[..count], address);
-    keep_or_give_up(records, names, before, after)
 }
 
 // Begins the module's record with its own name.

@@ -1,7 +1,7 @@
 // The resets of an unload: what linked against the module whose record begins at a place goes back to its own handler.
 ghost use mathlib.Core.Path.{_≡_};
 ghost use Rattle.window.specs.Trace.{runT};
-ghost use Rattle.register.specs.Read.Read.{Encoded, modulesOf, moduleAt};
+ghost use Rattle.register.specs.Read.Read.{Encoded, modulesOf, moduleAt, Sorted};
 ghost use Rattle.linker_spec.specs.Resets.{reset, resetAt, resetNamed, resetModule, resetImports, resetImporters};
 ghost use Rattle.linker.specs.Resets.Tables.{resetTable, resetAllNamed, resetAllModules};
 ghost use Rattle.linker.specs.Resets.Modules.{otherThan, resetImporter};
@@ -77,6 +77,7 @@ fn reset_named(
     handler: u32,
     entry: u32,
 )
+    requires { ⌜ Sorted (now records) (now names) place ⌝ }
     ensures { λ _. ⌜ (now (w .exit), now (trace .exit))
         ≡ runT at (resetNamed (moduleAt (now (records .entry)) (now (names .entry)) place) base handler entry) (now (w .entry), now (trace .entry)) .1 ⌝ }
 {
@@ -138,6 +139,7 @@ fn reset_all_named(
     base: u32,
     handler: u32,
 )
+    requires { ⌜ Sorted (now records) (now names) place ⌝ }
     ensures { λ _. ⌜ (now (w .exit), now (trace .exit))
         ≡ runT at (resetAllNamed (moduleAt (now (records .entry)) (now (names .entry)) place) base handler) (now (w .entry), now (trace .entry)) .1 ⌝ }
 {
@@ -181,6 +183,7 @@ fn reset_imports(
     place: usize,
     base: u32,
 )
+    requires { ⌜ Sorted (now records) (now names) place ⌝ }
     ensures { λ _. ⌜ (now (w .exit), now (trace .exit))
         ≡ runT at (resetImports (moduleAt (now (records .entry)) (now (names .entry)) place) base) (now (w .entry), now (trace .entry)) .1 ⌝ }
 {
@@ -199,6 +202,7 @@ fn reset_importer(
     place: usize,
     record: Record,
 )
+    requires { ⌜ Sorted (now records) (now names) place ⌝ }
     ensures { λ _. ⌜ (now (w .exit), now (trace .exit))
         ≡ runT at (resetImporter (moduleAt (now (records .entry)) (now (names .entry)) place) place «record») (now (w .entry), now (trace .entry)) .1 ⌝ }
 {
@@ -220,6 +224,7 @@ pub(crate) fn reset_importers(
     place: usize,
 )
     requires { ⌜ Encoded (now records) (now names) ⌝ }
+    requires { ⌜ Sorted (now records) (now names) place ⌝ }
     ensures { λ _. ⌜ (now (w .exit), now (trace .exit))
         ≡ runT at (resetImporters (moduleAt (now (records .entry)) (now (names .entry)) place)
         (otherThan place 32 (modulesOf (now (records .entry)) (now (names .entry))))) (now (w .entry), now (trace .entry)) .1 ⌝ }

@@ -2,17 +2,18 @@
 use Prim.Native.Nat.{ℕ, zero, suc, _+_, _*_, _≤_}
 use mathlib.Core.Path.{_≡_, refl, sym, ap, _∙_}
 use mathlib.Core.List.{List, [], _∷_}
-use mathlib.Core.Bool.{Bool, true, false, _&&_, and-false}
+use mathlib.Core.Bool.{true, false, _&&_, and-false}
 use native.Mathlib.Omega.{arith}
 use lib.ListN.{length, length-append}
 use lib.Dec.{eqb, ltb, leb}
 use borrow.Author.Tests.{lt-ltb, le-leb, lt-leb, ne-eqb}
-use Rattle.window.specs.Memory.{if_then_else_}
+use Rattle.window.specs.Name.{orderOf}
+use Rattle.window.specs.declared.name.NameOrder.{NameOrder}
+use Rattle.window.specs.declared.name.NameOrder.the-variants.{Before, Same, After}
 use Rattle.window.specs.Tests.{also}
-use Rattle.register.specs.Words.{same}
 use Rattle.register.specs.Module.{Export, Module, Register}
 use Rattle.register.specs.Encode.{exportNames, moduleNames, moduleWords, recordWords, recordNames, encodeWords}
-use Rattle.register.specs.Change.{appended, putNamed}
+use Rattle.register.specs.Change.{appended, byOrder, putNamed}
 use Rattle.register.specs.Append.Draft.{roomIn, room-inside}
 use Rattle.register.specs.Append.Held.{words-long}
 use Rattle.register.specs.Append.Append.{names-with, words-with}
@@ -71,16 +72,19 @@ module _ (r : Register) (m : Module) where
 pub put-grows
     : (xs : List Export) (name : List ℕ) (a : ℕ)
     → (length xs ≤ length (putNamed xs name a)) × (length (exportNames xs) ≤ length (exportNames (putNamed xs name a)))
-unfolding putNamed exportNames
+unfolding putNamed byOrder exportNames
 put-grows [] name a = (omega arith, omega arith)
-put-grows (x ∷ xs) name a = go (same name (x .name)) (put-grows xs name a)
+put-grows (x ∷ xs) name a = go (orderOf name (x .name)) (put-grows xs name a)
   where
+    put : NameOrder → List Export
+    put o = byOrder o (record { name = name; address = a } ∷ x ∷ xs) (record { name = x .name; address = a } ∷ xs) (x ∷ putNamed xs name a)
+
     go
-        : (t : Bool) → (length xs ≤ length (putNamed xs name a)) × (length (exportNames xs) ≤ length (exportNames (putNamed xs name a)))
-        → (suc (length xs) ≤ length (if t then record { name = x .name; address = a } ∷ xs else x ∷ putNamed xs name a))
-        × (length (exportNames (x ∷ xs)) ≤ length (exportNames (if t then record { name = x .name; address = a } ∷ xs else x ∷ putNamed xs name a)))
-    go true h = (omega arith, omega arith)
-    go false h =
+        : (o : NameOrder) → (length xs ≤ length (putNamed xs name a)) × (length (exportNames xs) ≤ length (exportNames (putNamed xs name a)))
+        → (suc (length xs) ≤ length (put o)) × (length (exportNames (x ∷ xs)) ≤ length (exportNames (put o)))
+    go Before h = let k = length-append name (exportNames (x ∷ xs)) in (omega arith, omega arith)
+    go Same h = (omega arith, omega arith)
+    go After h =
         let k = length-append (x .name) (exportNames xs) in
         let l = length-append (x .name) (exportNames (putNamed xs name a)) in
         (omega (arith, h .0), omega (arith, h .1))

@@ -1,7 +1,7 @@
--- What a module's record holds, whatever its image: names, distinct exports, at most 16 segments, 32-bit numbers. And that missing
+-- What a module's record holds, whatever its image: names, ascending exports, at most 16 segments, 32-bit numbers. And that missing
 -- names are names, at most 64.
 use Prim.Native.Nat.{ℕ, _+_, _^_, _≤_, _<_}
-use mathlib.Core.Path.{_≡_, refl, sym, _∙_, subst}
+use mathlib.Core.Path.{_≡_, refl}
 use mathlib.Core.List.{List, [], _∷_, _++_}
 use mathlib.Core.Bool.{Bool, true, false}
 use native.Mathlib.Omega.{arith}
@@ -10,7 +10,9 @@ use lib.Dec.{ltb}
 use borrow.Author.Tests.{le-leb}
 use Rattle.window.specs.Memory.{if_then_else_, _⊕_}
 use Rattle.window.specs.Access.{get32, run}
-use Rattle.window.specs.Name.{isName, nameAt, nameAt-isName}
+use Rattle.window.specs.Name.{isName, orderOf, nameAt, nameAt-isName}
+use Rattle.window.specs.declared.name.NameOrder.{NameOrder}
+use Rattle.window.specs.declared.name.NameOrder.the-variants.{Before, Same, After}
 use Rattle.window.specs.Small.{wordAt-small}
 use Rattle.window.specs.Tests.{both, also}
 use Rattle.layout.specs.Header.{exportNamedSymbolTableOffset, exportNamedSymbolNum, exportNamedSymbolEntrySize, exportIndexedSymbolTableOffset, exportIndexedSymbolNum, exportIndexedSymbolEntrySize, segmentNum, segmentTableOffset, segmentEntrySize, moduleNameOffset}
@@ -21,11 +23,9 @@ use Rattle.layout.specs.declared.segments.FoundSegment.{FoundSegment}
 use Rattle.layout.specs.declared.segments.FoundSegment.the-variants.{Found, Missing}
 use Rattle.layout.specs.declared.segments.Address.{Address}
 use Rattle.layout.specs.declared.segments.Address.the-variants.{At, Nowhere}
-use Rattle.register.specs.Words.{same}
-use Rattle.register.specs.Lists.{same-true, same-refl}
-use Rattle.register.specs.declared.exports.Found.the-variants as found
-use Rattle.register.specs.Module.{Export, Module, named-ok, findFrom, findExport, isNothing, distinct, properModule}
-use Rattle.register.specs.Change.{putNamed}
+use Rattle.register.specs.Module.{Export, Module, named-ok, ascending, properModule}
+use Rattle.register.specs.Change.{byOrder, putNamed}
+use Rattle.register.specs.Order.{put-ascends}
 use Rattle.register.specs.Buffers.{Below}
 use Rattle.register.specs.Append.Laid.{below-append, below-one}
 use Rattle.register.specs.Append.Stands.{below-take}
@@ -34,61 +34,36 @@ use Rattle.linker_spec.specs.Exports.{putUsable, namedExport, namedExpor
 use Rattle.linker_spec.specs.Room.{Addressed, Small}
 use Rattle.linker_spec.specs.AnyResult.{Yields, yields-ret, yields-bind, yields-then, yields-if, yields-loop}
 
--- a replaced or added export: another name is as absent as before
-absent-stays
-    : (xs : List Export) (name other : List ℕ) (a i : ℕ) → same other name ≡ false → isNothing (findFrom i xs other) ≡ true
-    → isNothing (findFrom i (putNamed xs name a) other) ≡ true
-unfolding putNamed findFrom
-absent-stays [] name other a i n h = rw n (h)
-absent-stays (x ∷ xs) name other a i n h = go (same name (x .name)) (same other (x .name)) refl h (absent-stays xs name other a (i + 1) n)
-  where
-    go
-        : (s t : Bool) → same other (x .name) ≡ t → isNothing (if t then found.At i else findFrom (i + 1) xs other) ≡ true
-        → (isNothing (findFrom (i + 1) xs other) ≡ true → isNothing (findFrom (i + 1) (putNamed xs name a) other) ≡ true)
-        → isNothing (findFrom i (if s then record { name = x .name; address = a } ∷ xs else x ∷ putNamed xs name a) other) ≡ true
-    go true t e g k = rw e g
-    go false true e g k = rw e g
-    go false false e g k = rw e (k g)
-
-same-turned : (a b : List ℕ) → same a b ≡ false → same b a ≡ false
-same-turned a b n = go (same b a) refl
-  where
-    go : (t : Bool) → same b a ≡ t → t ≡ false
-    go false e = refl
-    go true e = sym (subst (λ c. same a c ≡ true) (sym (same-true b a e)) (same-refl a)) ∙ n
-
 -- exports that a record may keep
 pub record RecordableExports (xs : List Export) : Type 0 where
   pub names : named-ok xs ≡ true
-  pub differ : distinct xs ≡ true
+  pub ascends : ascending xs ≡ true
   pub small : Addressed xs
 
 pub none-kept : RecordableExports []
-unfolding named-ok distinct Addressed
-none-kept = record { names = refl; differ = refl; small = tt }
+unfolding named-ok ascending Addressed
+none-kept = record { names = refl; ascends = refl; small = tt }
+
+-- names and addresses stay such
+put-fields
+    : (xs : List Export) (name : List ℕ) (a : ℕ) → isName name ≡ true → a < 2 ^ 32 → named-ok xs ≡ true → Addressed xs
+    → (named-ok (putNamed xs name a) ≡ true) × Addressed (putNamed xs name a)
+unfolding putNamed byOrder named-ok Addressed
+put-fields [] name a g s n h = (also g refl, (s, tt))
+put-fields (x ∷ xs) name a g s n h = go (orderOf name (x .name)) (put-fields xs name a g s (both (isName (x .name)) (named-ok xs) n .1) (h .1))
+  where
+    put : NameOrder → List Export
+    put o = byOrder o (record { name = name; address = a } ∷ x ∷ xs) (record { name = x .name; address = a } ∷ xs) (x ∷ putNamed xs name a)
+
+    go : (o : NameOrder) → (named-ok (putNamed xs name a) ≡ true) × Addressed (putNamed xs name a) → (named-ok (put o) ≡ true) × Addressed (put o)
+    go Before k = (also g n, (s, h))
+    go Same k = (n, (s, h .1))
+    go After k = (also (both (isName (x .name)) (named-ok xs) n .0) (k .0), (h .0, k .1))
 
 put-kept : (xs : List Export) (name : List ℕ) (a : ℕ) → isName name ≡ true → a < 2 ^ 32 → RecordableExports xs → RecordableExports (putNamed xs name a)
-unfolding putNamed named-ok distinct Addressed findExport findFrom isNothing
-put-kept [] name a g s k = record { names = also g refl; differ = refl; small = (s, tt) }
-put-kept (x ∷ xs) name a g s k = go (same name (x .name)) refl (put-kept xs name a g s)
-  where
-    n : (isName (x .name) ≡ true) × (named-ok xs ≡ true)
-    n = both (isName (x .name)) (named-ok xs) (k .names)
-
-    d : (isNothing (findExport xs (x .name)) ≡ true) × (distinct xs ≡ true)
-    d = both (isNothing (findExport xs (x .name))) (distinct xs) (k .differ)
-
-    go
-        : (t : Bool) → same name (x .name) ≡ t → (RecordableExports xs → RecordableExports (putNamed xs name a))
-        → RecordableExports (if t then record { name = x .name; address = a } ∷ xs else x ∷ putNamed xs name a)
-    go true e h = record { names = k .names; differ = k .differ; small = (s, k .small .1) }
-    go false e h =
-        let i = h (record { names = n .1; differ = d .1; small = k .small .1 }) in
-        record {
-          names = also (n .0) (i .names);
-          differ = also (absent-stays xs name (x .name) a 0 (same-turned name (x .name) e) (d .0)) (i .differ);
-          small = (k .small .0, i .small);
-        }
+put-kept xs name a g s k =
+    let f = put-fields xs name a g s (k .names) (k .small) in
+    record { names = f .0; ascends = put-ascends xs name a (k .ascends); small = f .1 }
 
 -- addresses wrap, so they are 32-bit numbers
 address-small : (s : FoundSegment) (x : ℕ) → addressOr0 (addressIn s x) < 2 ^ 32
@@ -208,6 +183,6 @@ module _ (at : ℕ) where
       (λ p. yields-bind at (λ name. isName name ≡ true) Readable (nameAt p) _ (name-yields p)
       (λ name g. yields-ret at Readable
       (record { base = base; size = size; auto = auto; name = name; segments = segments; named = named; indexed = indexed }) (
-        also g (also (le-leb (length segments) 16 (s .0)) (also (k .names) (k .differ))),
+        also g (also (le-leb (length segments) 16 (s .0)) (also (k .names) (k .ascends))),
         record { base = hb; size = hs; segments = s .1; named = k .small; indexed = x },
       ))))))

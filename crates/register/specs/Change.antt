@@ -11,7 +11,9 @@ use mathlib.Core.Bool.{Bool, true, false}
 use lib.ListN.{length}
 use lib.Dec.{ltb}
 use Rattle.window.specs.Memory.{if_then_else_}
-use Rattle.register.specs.Words.{same}
+use Rattle.window.specs.Name.{orderOf}
+use Rattle.window.specs.declared.name.NameOrder.{NameOrder}
+use Rattle.window.specs.declared.name.NameOrder.the-variants.{Before, Same, After}
 use Rattle.register.specs.declared.words.Crs.{Crs}
 use Rattle.register.specs.declared.words.Crs.the-variants.{Unknown, Known}
 use Rattle.register.specs.Module.{Export, Module, Register}
@@ -45,23 +47,25 @@ withIndexed m a =
       indexed = m .indexed ++ (a ∷ []);
     }
 
--- "A later export of the same name replaces an earlier one"
+-- one of three, as a name stands before another, is the same or stands after it
+unfoldable pub byOrder : {A : Type 0} → NameOrder → (before same after : A) → A
+byOrder Before b s a = b
+byOrder Same b s a = s
+byOrder After b s a = a
+
+-- "A later export of the same name replaces an earlier one"; a new one stands before the first whose name comes after its own (request 5)
 unfoldable pub putNamed : List Export → List ℕ → ℕ → List Export
 putNamed [] name a = record { name = name; address = a } ∷ []
 putNamed (x ∷ xs) name a =
-    if same name (x .name) then record { name = x .name; address = a } ∷ xs else x ∷ putNamed xs name a
+    byOrder (orderOf name (x .name))
+    (record { name = name; address = a } ∷ x ∷ xs)
+    (record { name = x .name; address = a } ∷ xs)
+    (x ∷ putNamed xs name a)
 
-unfoldable pub withExport : Module → List ℕ → ℕ → Module
-withExport m name a =
-    record {
-      base = m .base;
-      size = m .size;
-      auto = m .auto;
-      name = m .name;
-      segments = m .segments;
-      named = putNamed (m .named) name a;
-      indexed = m .indexed;
-    }
+-- with these named exports
+unfoldable pub withNamed : Module → List Export → Module
+withNamed m xs =
+    record { base = m .base; size = m .size; auto = m .auto; name = m .name; segments = m .segments; named = xs; indexed = m .indexed }
 
 -- the register with a module after the last one
 unfoldable pub appended : Register → Module → Register

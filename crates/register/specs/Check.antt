@@ -9,7 +9,7 @@ use lib.Dec.{eqb, leb}
 use Rattle.window.specs.Memory.{if_then_else_}
 use Rattle.window.specs.Name.{noZero}
 use Rattle.register.specs.Words.{part, allZero, wordsIn}
-use Rattle.register.specs.Module.{distinct}
+use Rattle.register.specs.Module.{ascending}
 use Rattle.register.specs.Decode.{exportsIn, moduleSize, slotLength, slotName, settled}
 use Rattle.register.specs.declared.record.End.{End}
 use Rattle.register.specs.declared.record.End.the-variants.{At, Bad}
@@ -37,7 +37,7 @@ exportPart ws = part ws (8 + getD ws 5 0) (3 * getD ws 6 0)
 
 unfoldable pub moduleEnd : List ℕ → List ℕ → ℕ → End
 moduleEnd ws names q =
-    if fixedOk ws names q && distinct (exportsIn (exportPart ws) names)
+    if fixedOk ws names q && ascending (exportsIn (exportPart ws) names)
     then exportsEnd (length (exportPart ws) / 3) (exportPart ws) names 0 (q + getD ws 4 0)
     else Bad
 

@@ -12,7 +12,7 @@ use Rattle.window.specs.Name.{noZero, isName}
 use Rattle.window.specs.Tests.{both, also}
 use Rattle.register.specs.Words.{part}
 use Rattle.register.specs.Lists.{part-middle}
-use Rattle.register.specs.Module.{Export, Module, named-ok, distinct, properModule, properModules}
+use Rattle.register.specs.Module.{Export, Module, named-ok, ascending, properModule, properModules}
 use Rattle.register.specs.Encode.{exportWords, exportNames, moduleNames, moduleWords, flag, recordWords, recordNames}
 use Rattle.register.specs.Decode.{exportAt, exportsFrom, exportsIn, moduleSize, readModule, readModules}
 use Rattle.register.specs.Check.{nameOk, exportsEnd, fixedOk, exportPart, moduleEnd, after, modulesOk}
@@ -156,12 +156,12 @@ module _ (m : Module) (rest : List ℕ) (q : ℕ) where
 module _ (m : Module) (rest names pre post : List ℕ) (q : ℕ) (en : names ≡ pre ++ (moduleNames m ++ post)) (lp : length pre ≡ q)
     (h : properModule m ≡ true) where
   proper-parts
-      : (isName (m .name) ≡ true) × (leb (length (m .segments)) 16 ≡ true) × (named-ok (m .named) ≡ true) × (distinct (m .named) ≡ true)
+      : (isName (m .name) ≡ true) × (leb (length (m .segments)) 16 ≡ true) × (named-ok (m .named) ≡ true) × (ascending (m .named) ≡ true)
   unfolding properModule
   proper-parts =
-      let a = both (isName (m .name)) (leb (length (m .segments)) 16 && (named-ok (m .named) && distinct (m .named))) h in
-      let b = both (leb (length (m .segments)) 16) (named-ok (m .named) && distinct (m .named)) (a .1) in
-      let c = both (named-ok (m .named)) (distinct (m .named)) (b .1) in
+      let a = both (isName (m .name)) (leb (length (m .segments)) 16 && (named-ok (m .named) && ascending (m .named))) h in
+      let b = both (leb (length (m .segments)) 16) (named-ok (m .named) && ascending (m .named)) (a .1) in
+      let c = both (named-ok (m .named)) (ascending (m .named)) (b .1) in
       (a .0, b .0, c .0, c .1)
 
   own : names ≡ pre ++ (m .name ++ (exportNames (m .named) ++ post))

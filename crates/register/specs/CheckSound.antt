@@ -13,7 +13,7 @@ use Rattle.window.specs.Name.{noZero, isName}
 use Rattle.window.specs.Tests.{both, also}
 use Rattle.register.specs.Words.{part}
 use Rattle.register.specs.Lists.{take-next, length-part, part-none, part-all, part-add}
-use Rattle.register.specs.Module.{Export, Module, named-ok, distinct, properModule, properModules}
+use Rattle.register.specs.Module.{Export, Module, named-ok, ascending, properModule, properModules}
 use Rattle.register.specs.Encode.{exportWords, exportNames, moduleNames, moduleWords, flag, recordWords, recordNames}
 use Rattle.register.specs.Decode.{exportAt, exportsFrom, exportsIn, moduleSize, readModule, readModules}
 use Rattle.register.specs.Check.{nameOk, exportsEnd, fixedOk, exportPart, moduleEnd, after, modulesOk}
@@ -180,7 +180,7 @@ tail-words ws s n i =
 
 module _ (ws names : List ℕ) (q q′ : ℕ) where
   parsed
-      : Fixed ws names q → distinct (exportsIn (exportPart ws) names) ≡ true
+      : Fixed ws names q → ascending (exportsIn (exportPart ws) names) ≡ true
       → ExportsPass (exportPart ws) names (length (exportPart ws) / 3) 0 (q + getD ws 4 0) q′ → length (exportPart ws) ≡ 3 * getD ws 6 0
       → Parsed ws names q q′
   unfolding moduleWords moduleNames readModule properModule moduleSize exportPart exportsIn
@@ -214,13 +214,13 @@ module _ (ws names : List ℕ) (q q′ : ℕ) where
 
   pub module-sound : moduleEnd ws names q ≡ At q′ → Parsed ws names q q′
   unfolding moduleEnd
-  module-sound = go (fixedOk ws names q) (distinct (exportsIn (exportPart ws) names)) refl refl
+  module-sound = go (fixedOk ws names q) (ascending (exportsIn (exportPart ws) names)) refl refl
     where
       size : Fixed ws names q → length (exportPart ws) ≡ 3 * getD ws 6 0
       size f = exports-size ws (f .whole)
 
       go
-          : (a b : Bool) → fixedOk ws names q ≡ a → distinct (exportsIn (exportPart ws) names) ≡ b
+          : (a b : Bool) → fixedOk ws names q ≡ a → ascending (exportsIn (exportPart ws) names) ≡ b
           → (if a && b then exportsEnd (length (exportPart ws) / 3) (exportPart ws) names 0 (q + getD ws 4 0) else Bad) ≡ At q′
           → Parsed ws names q q′
       go true true p d e =

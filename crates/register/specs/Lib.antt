@@ -15,3 +15,4 @@ pub mod Buffers
 pub mod Change
 pub mod Append
 pub mod Read
+pub mod OneOrder

@@ -5,7 +5,9 @@ use mathlib.Core.Bool.{Bool, true, false, _&&_}
 use lib.ListN.{length}
 use lib.Dec.{leb}
 use Rattle.window.specs.Memory.{if_then_else_}
-use Rattle.window.specs.Name.{isName}
+use Rattle.window.specs.Name.{isName, orderOf}
+use Rattle.window.specs.declared.name.NameOrder.{NameOrder}
+use Rattle.window.specs.declared.name.NameOrder.the-variants.{Before, Same, After}
 use Rattle.register.specs.Words.{same}
 use Rattle.register.specs.declared.words.Crs.{Crs}
 use Rattle.register.specs.declared.exports.Found.{Found}
@@ -42,18 +44,20 @@ findFrom i (x ∷ xs) name = if same name (x .name) then At i else findFrom (i +
 unfoldable pub findExport : List Export → List ℕ → Found
 findExport xs name = findFrom 0 xs name
 
-unfoldable pub isNothing : Found → Bool
-isNothing (At i) = false
-isNothing Nothing = true
+unfoldable pub isBefore : NameOrder → Bool
+isBefore Before = true
+isBefore Same = false
+isBefore After = false
 
--- "Named exports of one module are distinct": no later one has the name
-unfoldable pub distinct : List Export → Bool
-distinct [] = true
-distinct (x ∷ xs) = isNothing (findExport xs (x .name)) && distinct xs
+-- "Named exports of one module are distinct"; request 5: they "stand in ascending byte order of the name, a shorter name before its extensions"
+unfoldable pub ascending : List Export → Bool
+ascending [] = true
+ascending (x ∷ []) = true
+ascending (x ∷ y ∷ xs) = isBefore (orderOf (x .name) (y .name)) && ascending (y ∷ xs)
 
 -- "segments (at most 16, all a tag can reach)"
 unfoldable pub properModule : Module → Bool
-properModule m = isName (m .name) && (leb (length (m .segments)) 16 && (named-ok (m .named) && distinct (m .named)))
+properModule m = isName (m .name) && (leb (length (m .segments)) 16 && (named-ok (m .named) && ascending (m .named)))
 
 unfoldable pub properModules : List Module → Bool
 properModules [] = true

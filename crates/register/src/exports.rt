@@ -1,9 +1,10 @@
 // The named exports of one record: their words, triples of name offset, length and address, and the name bytes.
 ghost use mathlib.Core.Path.{_≡_};
+ghost use mathlib.Core.Bool.{true};
 ghost use Prim.Native.Nat.{_/_, _<_};
 ghost use lib.ListN.{length};
 ghost use Rattle.register.specs.Words.{same, wordsIn};
-ghost use Rattle.register.specs.Module.{findExport};
+ghost use Rattle.register.specs.Module.{findExport, ascending};
 ghost use Rattle.register.specs.Decode.{exportsIn, exportAt};
 use crate::words;
 use window::name::NameOrder;
@@ -12,6 +13,12 @@ use window::name::NameOrder;
 pub enum Found {
     At(usize),
     Nothing,
+}
+
+// Where a name stands among ascending ones: at the one that has it, or before the first that comes after it.
+pub enum Position {
+    At(usize),
+    Before(usize),
 }
 
 // Whether two names are the same.
@@ -37,17 +44,26 @@ pub fn export_name<'a>(exports: &[u8], names: &'a [u8], k: usize) -> &'a [u8]
     )
 }
 
-// Which of the exports has the name.
-pub fn find_export(exports: &[u8], names: &[u8], name: &[u8]) -> Found
+// Which of the exports, in ascending order of their names, has the name.
+pub fn search_export(exports: &[u8], names: &[u8], name: &[u8]) -> Found
+    requires { ⌜ ascending (exportsIn (wordsIn (now exports)) (now names)) ≡ true ⌝ }
     ensures { λ r. ⌜ r ≡ findExport (exportsIn (wordsIn (now (exports .entry))) (now (names .entry))) (now (name .entry)) ⌝ }
 {
-    let n = exports.len() / 12;
-    let mut k: usize = 0;
-    while k < n {
-        if same_name(name, export_name(exports, names, k)) {
-            return Found::At(k);
+    let mut low: usize = 0;
+    let mut high = exports.len() / 12;
+    while low < high {
+        let middle = low + (high - low) / 2;
+        match window::name::compare_names(name, export_name(exports, names, middle)) {
+            NameOrder::Before => {
+                high = middle;
+            }
+            NameOrder::Same => {
+                return Found::At(middle);
+            }
+            NameOrder::After => {
+                low = middle + 1;
+            }
         }
-        k += 1;
     }
     Found::Nothing
 }

@@ -7,7 +7,7 @@ ghost use mathlib.Core.List.{List};
 ghost use Prim.Native.Nat.{ℕ, _^_, _%_};
 ghost use lib.ListN.{drop};
 ghost use Rattle.register.specs.Words.{part, wordsIn};
-ghost use Rattle.register.specs.Read.Read.{recordAt, recordEnd, moduleAt, exportOf, entryOf};
+ghost use Rattle.register.specs.Read.Read.{recordAt, recordEnd, moduleAt, exportOf, entryOf, Sorted};
 use crate::exports;
 use crate::exports::Found;
 use crate::words;
@@ -90,12 +90,13 @@ pub fn record_name(names: &[u8], record: Record) -> &[u8]
 
 // The address of the export of that name of the record at a place.
 pub fn export_named(records: &[u8], names: &[u8], place: usize, name: &[u8]) -> Symbol
+    requires { ⌜ Sorted (now records) (now names) place ⌝ }
     ensures { λ r. ⌜ r ≡ exportOf (moduleAt (now (records .entry)) (now (names .entry)) place) (now (name .entry)) ⌝ }
 {
     let rest = bytes_from(records, place);
     let from = 4 * (8 + (words::word(rest, 5) as usize));
     let list = bytes_at(rest, from, 12 * (words::word(rest, 6) as usize));
-    let Found::At(k) = exports::find_export(list, names, name) else {
+    let Found::At(k) = exports::search_export(list, names, name) else {
         return Symbol::Nothing;
     };
     Symbol::At(words::word(list, 3 * k + 2))

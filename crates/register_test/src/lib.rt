@@ -1,5 +1,5 @@
 // Number 4's test: whether the three buffers are an encoding of a register. It ends on any bytes and reads none outside.
-mod distinct;
+mod ascending;
 mod records;
 
 ghost use mathlib.Core.Path.{_≡_};

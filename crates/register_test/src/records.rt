@@ -13,14 +13,15 @@ use register::words;
 pub(crate) fn no_zero(bytes: &[u8]) -> bool
     ensures { λ r. ⌜ r ≡ noZero (now (bytes .entry)) ⌝ }
 {
+    let mut none = true;
     let mut i: usize = 0;
     while i < bytes.len() {
         if bytes[i] == 0 {
-            return false;
+            none = false;
         }
         i += 1;
     }
-    true
+    none
 }
 
 // Whether a name stands at q, the running sum, with at most 512 bytes, all of them there and none 0.
@@ -88,7 +89,7 @@ fn module_end(bytes: &[u8], names: &[u8], q: usize) -> End
     let from = 4 * (8 + (words::word(bytes, 5) as usize));
     let to = from + 12 * (words::word(bytes, 6) as usize);
     let list = &bytes[from..to];
-    if !crate::distinct::distinct_exports(list, names) {
+    if !crate::ascending::ascending_exports(list, names) {
         return End::Bad;
     }
     exports_end(list, names, q + (words::word(bytes, 4) as usize))

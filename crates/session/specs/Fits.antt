@@ -10,7 +10,7 @@ use borrow.Author.Tests.{leb-true}
 use Rattle.window.specs.Memory.{if_then_else_}
 use Rattle.window.specs.Tests.{both}
 use Rattle.window.specs.Name.{isName}
-use Rattle.register.specs.Module.{Module, Register, proper, properModule, properModules, properNames, named-ok, distinct}
+use Rattle.register.specs.Module.{Module, Register, proper, properModule, properModules, properNames, named-ok, ascending}
 use Rattle.register.specs.Encode.{flag}
 use Rattle.register.specs.Proper.{proper-parts}
 use Rattle.linker_spec.specs.Outcome.{Buffers}
@@ -105,7 +105,7 @@ unfolding moduleLines properModules properModule
 modules-most [] e = omega arith
 modules-most (m ∷ ms) e =
     let a = both (properModule m) (properModules ms) e in
-    let n = both (isName (m .name)) (leb (length (m .segments)) 16 && (named-ok (m .named) && distinct (m .named))) (a .0) in
+    let n = both (isName (m .name)) (leb (length (m .segments)) 16 && (named-ok (m .named) && ascending (m .named))) (a .0) in
     simp length-append (omega (arith, module-most m (n .0), modules-most ms (a .1)))
 
 names-most : (ns : List (List ℕ)) → properNames ns ≡ true → length (nameLines ns) ≤ 1036 * length ns

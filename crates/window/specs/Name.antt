@@ -6,12 +6,13 @@ use mathlib.Core.List.{List, [], _∷_, _++_}
 use mathlib.Core.Bool.{Bool, true, false, not, _&&_}
 use native.Mathlib.Omega.{arith}
 use native.Mathlib.Decide.{ℕ-discrete}
-use lib.ListN.{length, take, drop, length-append}
-use lib.Seq.{take-append-seam}
+use lib.ListN.{length, take, drop, getD, length-append, length-drop}
+use lib.Seq.{take-append-seam, length-take-le, getD-take, getD-drop}
 use lib.Dec.{eqb, ltb, leb}
-use borrow.Author.Tests.{eq-eqb, ne-eqb, le-leb, lt-ltb, le-ltb, ltb-true, ltb-false}
-use Rattle.window.specs.Memory.{if_then_else_, _⊕_, byteAt}
-use Rattle.window.specs.Bytes.{byteAt-add}
+use borrow.Author.Tests.{eq-eqb, ne-eqb, le-leb, lt-ltb, le-ltb, ltb-true, ltb-false, eqb-false, not-true}
+use Rattle.window.specs.Memory.{if_then_else_, _⊕_, place, byteAt}
+use Rattle.window.specs.Bytes.{byteAt-add, place-on}
+use Rattle.window.specs.Tests.{both}
 use Rattle.window.specs.Access.{Prog, ret, _>>=_, get8, run, run-bind, Reads, reads-bind}
 use Rattle.window.specs.Within.{In, Within, within-bind}
 use Rattle.window.specs.declared.name.NameOrder.{NameOrder}
@@ -266,3 +267,83 @@ before-trans (a ∷ s) (b ∷ t) (c ∷ u) p q = go (before-cases a b s t p) (be
     go (inl h) (inr g) ih = before-first a c s u (omega arith)
     go (inr h) (inl g) ih = before-first a c s u (omega arith)
     go (inr h) (inr g) ih = before-rest a c s u (omega arith) (ih (h .1) (g .1))
+
+-- the name that a row of bytes begins with: a zero or the row's end ends it
+unfoldable pub ended : List ℕ → List ℕ
+ended [] = []
+ended (b ∷ t) = if eqb b 0 then [] else b ∷ ended t
+
+-- a name whose bytes are those of a row is the one that the row begins with
+name-of-row
+    : (at p : ℕ) (w row : List ℕ) → ((k : ℕ) → k < length row → byteAt at w (p + k) ≡ getD row k 0)
+    → run at (nameFrom (length row) p) w .0 ≡ ended row
+unfolding nameFrom run ended
+name-of-row at p w [] h = refl
+name-of-row at p w (b ∷ t) h = go (ℕ-discrete b 0) (name-of-row at (p ⊕ 1) w t next)
+  where
+    first : byteAt at w p ≡ b
+    first = let e : p + 0 ≡ p = omega arith in rw e at (h 0 (omega arith))
+
+    next : (k : ℕ) → k < length t → byteAt at w ((p ⊕ 1) + k) ≡ getD t k 0
+    next k l =
+        let e : p + 1 + k ≡ p + suc k = omega arith in
+        byteAt-add at w (p + 1) k ∙ rw e (h (suc k) (omega arith))
+
+    go
+        : Dec (b ≡ 0) → run at (nameFrom (length t) (p ⊕ 1)) w .0 ≡ ended t
+        → run at (nameFrom (suc (length t)) p) w .0 ≡ (if eqb b 0 then [] else b ∷ ended t)
+    go (yes e) ih = name-stop at (length t) p w (first ∙ e) ∙ rw (eq-eqb b 0 e)
+    go (no e) ih = name-on at (length t) p w (λ y. e (sym first ∙ y)) ∙ rw (ne-eqb b 0 e, first, ih)
+
+-- so a name is what a row of 512 bytes inside the window begins with, if the row starts at its address
+pub name-ended
+    : (at p : ℕ) (w : List ℕ) (i : ℕ) → i ≡ place at p → p ≢ 0 → i + 512 ≤ 2 ^ 32 → i + 512 ≤ length w
+    → ended (take 512 (drop i w)) ≡ run at (nameAt p) w .0
+unfolding byteAt
+name-ended at p w i e n r l = sym (name-of-row at p w row byte) ∙ rw (long, name-some p n)
+  where
+    row : List ℕ
+    row = take 512 (drop i w)
+
+    long : length row ≡ 512
+    long = length-take-le 512 (drop i w) (simp length-drop (omega arith))
+
+    byte : (k : ℕ) → k < length row → byteAt at w (p + k) ≡ getD row k 0
+    byte k h =
+        let m : k < 512 = omega (arith, long) in
+        rw (getD-take 512 (drop i w) k 0 m, getD-drop i w k 0, e, place-on at p k (omega arith))
+
+-- in a name without a zero the first byte is not 0, and the rest has no zero
+noZero-first : (x : ℕ) (s : List ℕ) → noZero (x ∷ s) ≡ true → (x ≢ 0) × (noZero s ≡ true)
+unfolding noZero
+noZero-first x s e = let h = both (not (eqb x 0)) (noZero s) e in (eqb-false x 0 (not-true (eqb x 0) (h .0)), h .1)
+
+-- so a zero of the row is less than the name's byte there, as the end that it stands for is
+order-ended-on
+    : (x y : ℕ) (s c t : List ℕ) → x ≢ 0 → orderOf s c ≡ orderOf s (ended t) → orderOf (x ∷ s) (y ∷ c) ≡ orderOf (x ∷ s) (ended (y ∷ t))
+unfolding orderOf ended
+order-ended-on x y s c t n h = go (ℕ-discrete y 0)
+  where
+    go : Dec (y ≡ 0) → orderOf (x ∷ s) (y ∷ c) ≡ orderOf (x ∷ s) (if eqb y 0 then [] else y ∷ ended t)
+    go (yes e) = rw (eq-eqb y 0 e, le-ltb x y (omega arith), lt-ltb y x (omega arith))
+    go (no e) = rw (ne-eqb y 0 e, h)
+
+-- such a name stands to the one that a row begins with as it stands to the row, up to a zero that follows as many bytes
+pub order-ended-0
+    : (a b : List ℕ) → noZero a ≡ true → getD b (length a) 0 ≡ 0 → orderOf a (take (length a) b) ≡ orderOf a (ended b)
+unfolding orderOf ended
+order-ended-0 [] [] z e = refl
+order-ended-0 [] (y ∷ t) z e = rw (eq-eqb y 0 e)
+order-ended-0 (x ∷ s) [] z e = refl
+order-ended-0 (x ∷ s) (y ∷ t) z e =
+    let m = noZero-first x s z in order-ended-on x y s (take (length s) t) t (m .0) (order-ended-0 s t (m .1) e)
+
+pub order-ended
+    : (a b : List ℕ) → noZero a ≡ true → (getD b (length a) 0 ≡ 0 → length b ≤ length a) → orderOf a b ≡ orderOf a (ended b)
+unfolding orderOf ended
+order-ended [] [] z e = refl
+order-ended [] (y ∷ t) z e = rw (ne-eqb y 0 (λ f. let l = e f in omega arith))
+order-ended (x ∷ s) [] z e = refl
+order-ended (x ∷ s) (y ∷ t) z e =
+    let m = noZero-first x s z in
+    order-ended-on x y s t t (m .0) (order-ended s t (m .1) (λ f. let l = e f in omega arith))

@@ -8,6 +8,10 @@ use Rattle.window.specs.Bytes.{join}
 unfoldable pub wordIn : List ℕ → ℕ → ℕ
 wordIn w i = join (getD w i 0) (getD w (i + 1) 0) (getD w (i + 2) 0) (getD w (i + 3) 0)
 
+-- the same four bytes, highest first: such numbers stand in the order of their bytes
+unfoldable pub highWordIn : List ℕ → ℕ → ℕ
+highWordIn w i = join (getD w (i + 3) 0) (getD w (i + 2) 0) (getD w (i + 1) 0) (getD w i 0)
+
 unfoldable pub setWordIn : List ℕ → ℕ → ℕ → List ℕ
 setWordIn w i v =
     set (set (set (set w i (v % 256)) (i + 1) (v / 256 % 256)) (i + 2) (v / 256 / 256 % 256)) (i + 3) (v / 256 / 256 / 256 % 256)

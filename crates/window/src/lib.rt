@@ -11,7 +11,7 @@ ghost use Prim.Native.Nat.{_+_, _≤_, _<_};
 ghost use lib.ListN.{length};
 ghost use lib.Dec.{leb};
 ghost use Rattle.window.specs.Memory.{place, goodWindow};
-ghost use Rattle.window.specs.Word.{wordIn, setWordIn};
+ghost use Rattle.window.specs.Word.{wordIn, highWordIn, setWordIn};
 ghost use Rattle.window.specs.Access.{get8, get32, put8, put32, put32Privileged};
 ghost use Rattle.window.specs.Trace.{outside, said, noted, saw, touchOf, runT};
 
@@ -223,6 +223,14 @@ pub fn load32(w: &[u8], i: usize) -> u32
     ensures { λ r. ⌜ r ≡ wordIn (now (w .entry)) i ⌝ }
 {
     wide(w[i]) + 256 * (wide(w[i + 1]) + 256 * (wide(w[i + 2]) + 256 * wide(w[i + 3])))
+}
+
+// The same four bytes, highest first: such numbers stand in the order of their bytes.
+fn high32(w: &[u8], i: usize) -> u32
+    requires { ⌜ i + 4 ≤ length (now w) ⌝ }
+    ensures { λ r. ⌜ r ≡ highWordIn (now (w .entry)) i ⌝ }
+{
+    wide(w[i + 3]) + 256 * (wide(w[i + 2]) + 256 * (wide(w[i + 1]) + 256 * wide(w[i])))
 }
 
 // Stores the word v in the four bytes from place i on.

@@ -24,7 +24,16 @@ pub struct Work {
 
 impl Work {
     pub fn all() -> Vec<Work> {
-        vec![large_module(), scene_swap(), many_small(), register_test(), table_moves(), batch_walks()]
+        vec![
+            large_module(),
+            scene_swap(),
+            many_small(),
+            register_test(),
+            table_moves(),
+            batch_walks(),
+            many_exports("5,000 named exports, as many imports", 5_000, 0x60000),
+            many_exports("20,000 named exports, as many imports", 20_000, 0x180000),
+        ]
     }
 
     /// The best time of each side, which take turns.
@@ -129,7 +138,8 @@ impl Stage {
 
 /// Export names as C++ has them: long, with a common beginning. Their order in the table is not that of the bytes.
 fn export(module: u32, index: u32) -> Vec<u8> {
-    format!("_ZN2gf{module:02}Module9component{:04}EPKcj", index.wrapping_mul(7919) % 10_000).into_bytes()
+    let number = index / 10_000 * 10_000 + index.wrapping_mul(7919) % 10_000;
+    format!("_ZN2gf{module:02}Module9component{number:04}EPKcj").into_bytes()
 }
 
 fn relocations(next: &mut u32, count: u32) -> Vec<Relocation> {
@@ -245,4 +255,16 @@ fn batch_walks() -> Work {
     let exporter = stage.steps[2];
     let timed = vec![Step::unload(exporter.base), exporter];
     stage.work("100 walks of batches of 4,000 entries", 0x40000, 3, timed)
+}
+
+/// Only names: so many exports, and as many imports of one relocation each, from a static module of as many exports.
+fn many_exports(name: &'static str, count: u32, room: usize) -> Work {
+    let mut stage = Stage::new();
+    stage.add(with_exports(empty("static", 4 * count), 0, count));
+    let mut image = with_exports(empty("exports", 4 * count), 1, count);
+    let mut next = 0;
+    image.imports = (0..count).map(|index| (export(0, index), relocations(&mut next, 1))).collect();
+    stage.add(image);
+    let timed = vec![stage.steps[1]];
+    stage.work(name, room, 1, timed)
 }

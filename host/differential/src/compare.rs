@@ -1,6 +1,6 @@
 //! One session on both sides. The Rust goes first: a call that it cannot finish in time is not made on the linker.
 
-use crate::encoding::encoded;
+use crate::encoding::is_encoded;
 use crate::faults::{self, Told};
 use crate::touches::{Beginning, End};
 use crate::under_test::{self, Buffers};
@@ -250,5 +250,5 @@ fn register_differs(number: u32, state: &State, old: &Buffers, new: &Buffers, li
     }
     // a register that no call has changed may have a 0 for the bytes in use
     let untouched = same && linker.is_empty();
-    (!untouched && encoded(linker) != new.register_copy()).then(|| "the register is encoded otherwise".into())
+    (!untouched && !is_encoded(state, new)).then(|| "the register is encoded otherwise".into())
 }

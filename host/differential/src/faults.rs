@@ -1,7 +1,8 @@
 //! Calls that are lent a window that breaks its rule (number 3), or buffers that are no register (number 4); and wrong ways to
 //! tell a touch, which the comparison has to notice.
 
-use crate::under_test::Buffers;
+use crate::encoding::encode;
+use crate::under_test::{state, Buffers};
 use fillqhano::calls::Answer;
 use oracle::memory::{Kind, Outside, Watch};
 use sessions::{Random, Step};
@@ -56,6 +57,8 @@ fn break_register(buffers: &mut Buffers, random: &mut Random, way: u32) -> u32 {
     match way {
         4 => buffers.records[0] = 65,
         5 => buffers.records.truncate(random.below(32) as usize),
+        // where no record has two exports the missing list is a byte short
+        6 if exchange_exports(buffers, random) => (),
         6 => buffers.missing.truncate(buffers.missing.len() - 1),
         _ => {
             // a byte after the last name, or a zero in one of 512 bytes
@@ -64,4 +67,19 @@ fn break_register(buffers: &mut Buffers, random: &mut Random, way: u32) -> u32 {
         }
     }
     4
+}
+
+/// Exchanges two named exports of a record, their names too: all but their order is as it should be. False where no record
+/// has two.
+fn exchange_exports(buffers: &mut Buffers, random: &mut Random) -> bool {
+    let mut state = state(&buffers.linker().expect("every call leaves a register"));
+    let wide: Vec<usize> = (0..state.modules.len()).filter(|&index| state.modules[index].exports.len() > 1).collect();
+    if wide.is_empty() {
+        return false;
+    }
+    let exports = &mut state.modules[random.pick(&wide)].exports;
+    let second = random.from_to(1, exports.len() as u32 - 1);
+    exports.swap(random.below(second) as usize, second as usize);
+    encode(&state, buffers);
+    true
 }

@@ -1,10 +1,12 @@
 //! Demand 3 by running: two sessions that end with the same modules standing, one of them with a history, leave the same
-//! bytes in those modules' areas; and after every call every import holds its exporter's address or its handler's. Refused
+//! bytes in those modules' areas; and after every call every import holds its exporter's address or its handler's, and the
+//! register's bytes are the encoding of what is read from them, the named exports of each module ascending. Refused
 //! calls come in between in both, also before the static module's `initialize`. No call has a touch: all that well-laid modules
 //! point at lies in the window.
 
+use crate::encoding::is_encoded;
 use crate::faults;
-use crate::under_test::Buffers;
+use crate::under_test::{state, Buffers};
 use fillqhano::calls::Answer;
 use sessions::modules::{Modules, Placed};
 use sessions::image::Relocation;
@@ -203,9 +205,13 @@ impl<'a> Run<'a> {
         self.all_hold(seen)
     }
 
-    /// Every import of every standing module holds its address.
+    /// The register is encoded as it should be, and every import of every standing module holds its address.
     fn all_hold(&self, seen: &mut Seen) -> Result<(), String> {
         seen.calls += 1;
+        let linker = self.buffers.linker().ok_or("the buffers are no register")?;
+        if !is_encoded(&state(&linker), &self.buffers) {
+            return Err("the register is encoded otherwise".into());
+        }
         for importer in &self.standing {
             for (exported, batch) in self.imports(importer) {
                 seen.imports += 1;

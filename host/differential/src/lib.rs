@@ -1,7 +1,7 @@
 //! The linker and the Rust on the same sessions, all that they leave compared call by call.
 
 pub mod compare;
-mod encoding;
+pub mod encoding;
 pub mod families;
 pub mod faults;
 pub mod history;

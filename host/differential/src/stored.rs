@@ -1,6 +1,7 @@
 //! The Rust's answers to the sessions of the gate's seed, stored so that they can be replayed without its sources. A line
 //! for each session: its family and number. Then one for each call: number, value, touch (`-` for none) and digest, in hex.
 
+use crate::encoding::is_encoded;
 use crate::families::Family;
 use crate::under_test::{state, Buffers};
 use fillqhano::calls::Answer;
@@ -36,7 +37,11 @@ pub fn replay(stored: &str, seed: u64) -> Result<u64, String> {
         let (session, buffers, step) = running.as_mut().ok_or("no session")?;
         let answer = buffers.call(&session.steps[*step]);
         let linker = buffers.linker().ok_or("the buffers are no register")?;
-        let digest = state(&linker).digest(&buffers.window);
+        let state = state(&linker);
+        if !linker.is_empty() && !is_encoded(&state, buffers) {
+            return Err(format!("step {}: the register is encoded otherwise", *step + 1));
+        }
+        let digest = state.digest(&buffers.window);
         *step += 1;
         let given = self::line(answer, digest);
         if given != line {

@@ -39,14 +39,9 @@ impl Buffers {
         (&self.records, &self.names, &self.missing)
     }
 
-    pub fn register_copy(&self) -> (Vec<u8>, Vec<u8>, Vec<u8>) {
-        (self.records.clone(), self.names.clone(), self.missing.clone())
-    }
-
     /// The host's wrapper over a copy of the register; none if it is no register.
     pub fn linker(&self) -> Option<Linker> {
-        let (records, names, missing) = self.register_copy();
-        Linker::from_buffers(records, names, missing)
+        Linker::from_buffers(self.records.clone(), self.names.clone(), self.missing.clone())
     }
 }
 

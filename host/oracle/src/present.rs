@@ -3,6 +3,7 @@
 use crate::cro::{CroError, CroManager};
 use crate::memory::Memory;
 use sessions::{Call, Module, State, Step};
+use std::collections::BTreeMap;
 
 pub struct Oracle {
     manager: CroManager,
@@ -49,15 +50,18 @@ impl Oracle {
         &self.memory.bytes
     }
 
-    /// What stands, the names by `name`.
+    /// What stands, the names by `name`. The Rust's named exports have no order, and are sorted.
     fn state_by(&self, name: impl Fn(&str) -> Vec<u8>) -> State {
+        let exports = |module: &crate::cro::Module| -> BTreeMap<Vec<u8>, u32> {
+            module.exports.iter().map(|(export, &address)| (name(export), address)).collect()
+        };
         let module = |module: &crate::cro::Module| Module {
             name: name(&module.name),
             base: module.base,
             size: module.size,
             auto_link: module.auto_link,
             segments: module.segments.iter().copied().take(16).collect(),
-            exports: module.exports.iter().map(|(export, &address)| (name(export), address)).collect(),
+            exports: exports(module).into_iter().collect(),
             indexed_exports: module.indexed_exports.clone(),
         };
         State {

@@ -1,8 +1,6 @@
 //! What stands after a call, in the form in which the two sides are compared.
 
-use std::collections::BTreeMap;
-
-/// A module as it is compared: the first 16 segments, all that a tag can reach.
+/// A module as it is compared: the first 16 segments, all that a tag can reach, and the named exports in their order.
 #[derive(Debug, Clone, PartialEq, Eq)]
 pub struct Module {
     pub name: Vec<u8>,
@@ -10,7 +8,7 @@ pub struct Module {
     pub size: u32,
     pub auto_link: bool,
     pub segments: Vec<u32>,
-    pub exports: BTreeMap<Vec<u8>, u32>,
+    pub exports: Vec<(Vec<u8>, u32)>,
     pub indexed_exports: Vec<u32>,
 }
 
@@ -18,8 +16,13 @@ impl Module {
     /// The bytes of its record, and of its names.
     pub fn room(&self) -> (usize, usize) {
         let words = 8 + self.segments.len() + 3 * self.exports.len() + self.indexed_exports.len();
-        let names = self.name.len() + self.exports.keys().map(Vec::len).sum::<usize>();
+        let names = self.name.len() + self.exports.iter().map(|export| export.0.len()).sum::<usize>();
         (4 * words, names)
+    }
+
+    /// Whether its named exports ascend: bytes as unsigned numbers, a name before those that extend it, none twice.
+    pub fn ascends(&self) -> bool {
+        self.exports.windows(2).all(|pair| pair[0].0 < pair[1].0)
     }
 }
 

@@ -10,37 +10,42 @@ use lib.Seq.{getD-at, getD-take}
 use lib.Dec.{ltb}
 use borrow.Author.Tests.{lt-ltb, le-ltb}
 use Rattle.window.specs.Memory.{if_then_else_}
+use Rattle.window.specs.Name.{orderOf, order-self, order-same}
+use Rattle.window.specs.declared.name.NameOrder.{NameOrder}
+use Rattle.window.specs.declared.name.NameOrder.the-variants.{Before, Same, After}
 use Rattle.register.specs.Words.{same}
-use Rattle.register.specs.Lists.{same-true, same-refl}
+use Rattle.register.specs.Lists.{same-true}
 use Rattle.register.specs.Module.{Export}
-use Rattle.register.specs.Change.{putNamed}
+use Rattle.register.specs.Change.{byOrder, putNamed}
 use Rattle.register.specs.Read.Read.{addressOf, entryOf}
 use Rattle.register.specs.declared.read.Symbol.{Symbol}
 use Rattle.history.specs.Steps.Asking.{true-false}
 
--- a later export of the same name is found instead of an earlier one
+-- a later export of the same name is found instead of an earlier one, wherever it is put
 pub put-named
     : (xs : List Export) (n : List ℕ) (a : ℕ) (name : List ℕ)
     → addressOf (putNamed xs n a) name ≡ (if same name n then Symbol.At a else addressOf xs name)
-unfolding addressOf putNamed
+unfolding addressOf putNamed byOrder
 put-named [] n a name = refl
 put-named (x ∷ xs) n a name =
-    go (same n (x .name)) (same name (x .name)) (same name n) refl refl refl (put-named xs n a name)
+    go (orderOf n (x .name)) (same name (x .name)) (same name n) refl refl refl (put-named xs n a name)
   where
     go
-        : (b c d : Bool) → same n (x .name) ≡ b → same name (x .name) ≡ c → same name n ≡ d
+        : (o : NameOrder) (c d : Bool) → orderOf n (x .name) ≡ o → same name (x .name) ≡ c → same name n ≡ d
         → addressOf (putNamed xs n a) name ≡ (if d then Symbol.At a else addressOf xs name)
-        → addressOf (if b then record { name = x .name; address = a } ∷ xs else x ∷ putNamed xs n a) name
+        → addressOf (byOrder o (record { name = n; address = a } ∷ x ∷ xs) (record { name = x .name; address = a } ∷ xs) (x ∷ putNamed xs n a)) name
         ≡ (if d then Symbol.At a else (if c then Symbol.At (x .address) else addressOf xs name))
-    go true true true p q r ih = rw q refl
-    go true false false p q r ih = rw q refl
-    go true true false p q r ih = absurd (true-false (sym q ∙ rw (same-true n (x .name) p) at r))
-    go true false true p q r ih = absurd (true-false (sym r ∙ rw (same-true n (x .name) p) q))
-    go false true true p q r ih =
-        let e : n ≡ x .name = sym (same-true name n r) ∙ same-true name (x .name) q in
-        absurd (true-false (sym (same-refl (x .name)) ∙ rw e at p))
-    go false true false p q r ih = rw q refl
-    go false false d p q r ih = rw q ih
+    go Before c d p q r ih = rw (r, q) refl
+    go Same true true p q r ih = rw q refl
+    go Same false false p q r ih = rw q refl
+    go Same true false p q r ih = absurd (true-false (sym q ∙ rw (order-same n (x .name) p) at r))
+    go Same false true p q r ih = absurd (true-false (sym r ∙ rw (order-same n (x .name) p) q))
+    go After true true p q r ih =
+        let e : x .name ≡ n = sym (same-true name (x .name) q) ∙ same-true name n r in
+        let z : After ≡ Same = sym p ∙ ap (orderOf n) e ∙ order-self n in
+        cc
+    go After true false p q r ih = rw q refl
+    go After false d p q r ih = rw q ih
 
 -- f 0, f 1, .. up to n of them, as a loop gathers them
 unfoldable pub gathered : (ℕ → ℕ) → ℕ → List ℕ

@@ -1,6 +1,6 @@
--- What a register's record says of the module that it was read from, whatever the order of its named exports.
+-- What a register's record says of the module that it was read from.
 use Prim.Native.Nat.{ℕ}
-use mathlib.Core.Path.{_≡_, sym, _∙_}
+use mathlib.Core.Path.{_≡_}
 use mathlib.Core.List.{List}
 use mathlib.Core.Bool.{true}
 use Rattle.layout.specs.declared.segments.Address.{Address}
@@ -12,7 +12,6 @@ use Rattle.linker_spec.specs.Imports as imports
 use Rattle.history.specs.Image.{nameOf, moduleName}
 use Rattle.history.specs.LoadedModule.{Image, baseOf, exportOf, indexedOf, anonymousOf}
 use Rattle.history.specs.Imports.{Import, named, indexed, anonymous, wanted, From}
-use Rattle.history.specs.Outcomes.{SameModule}
 
 -- an address is a symbol's
 unfoldable pub asSymbol : Address → Symbol
@@ -26,19 +25,6 @@ pub record Recorded (x : Image) (r : Module) : Type 0 where
   pub exports : (name : List ℕ) → read.exportOf r name ≡ asSymbol (exportOf x name)
   pub indexes : (i : ℕ) → read.entryOf (r .indexed) i ≡ asSymbol (indexedOf x i)
   pub anonymous : (t : ℕ) → imports.anonymousOf r t ≡ asSymbol (anonymousOf x t)
-
--- another order of the named exports says the same
-pub recorded-same : {x : Image} {r s : Module} → SameModule r s → Recorded x r → Recorded x s
-unfolding read.exportOf imports.anonymousOf
-recorded-same {x} {r} {s} e h =
-    record {
-      base = sym (e .base) ∙ h .base;
-      name = sym (e .name) ∙ h .name;
-      auto = sym (e .auto) ∙ h .auto;
-      exports = λ n. sym (e .addresses n) ∙ h .exports n;
-      indexes = λ i. rw (e .indexed) at (h .indexes i);
-      anonymous = λ t. rw (e .segments) at (h .anonymous t);
-    }
 
 -- what x has for import i of m
 unfoldable pub exportFor : Image → Image → Import → Symbol

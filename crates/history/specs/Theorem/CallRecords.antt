@@ -1,7 +1,7 @@
 -- A call of a session: what it leaves at rest, in the bytes that it gave, and in those that the next call gets.
 use Prim.Native.Nat.{ℕ, zero, suc, _^_, _<_}
 use mathlib.Core.Path.{_≡_, refl, sym, subst}
-use mathlib.Core.Logic.{_≢_, _⊎_, inl, inr}
+use mathlib.Core.Logic.{_≢_, inl, inr}
 use mathlib.Core.List.{List, [], _∷_, _++_}
 use mathlib.Core.Bool.{true, not}
 use native.Mathlib.Omega.{arith}
@@ -26,12 +26,12 @@ use Rattle.history.specs.LoadedModule.{initialized, loaded, LoadedModule
 use Rattle.linker_spec.specs.declared.call.Call.{Call}
 use Rattle.linker_spec.specs.declared.call.Call.the-variants.{Initialize, Load, Unload}
 use Rattle.history.specs.Sessions.{given, CallRecord, after, expected, SameBytes, Areas, loadedModules, Between}
-use Rattle.history.specs.Outcomes.{Gave, Follows, SameEncoded}
+use Rattle.history.specs.Outcomes.{Gave, Follows}
 use Rattle.history.specs.Windows.{program}
 use Rattle.history.specs.Sessions.Lists.{lacking, Sublist, nothing, keeps, drops}
 use Rattle.history.specs.Sessions.Unique.{imageAt}
 use Rattle.history.specs.Sessions.Answers.{programOf, Performed, CallDone, brings-initialize, brings-load, unload-known}
-use Rattle.history.specs.Theorem.Invariant.{Resting, resting-agree, resting-same}
+use Rattle.history.specs.Theorem.Invariant.{Resting, resting-agree}
 use Rattle.history.specs.Theorem.Calls.{Fine, unload-rests, load-rests, initialize-rests}
 use Rattle.history.specs.Theorem.Back.{Back, Backs, initialize-back, load-back, unload-back}
 
@@ -46,17 +46,7 @@ same-lent b c e = rw (e .0, e .1, e .2) refl
 -- what the definition leaves, what the call gave
 pub follows-rests
     : (t : CallRecord) (S : List LoadedModule) → Gave Follows t → RestingIn (t .at) S (expected t .left) → RestingIn (t .at) S (after t)
-follows-rests t S f h = go (f .register)
-  where
-    at : ℕ
-    at = t .at
-
-    moved : Resting S (lentRegister (expected t .left)) (byteAt at (after t .window))
-    moved = subst (λ w. Resting S (lentRegister (expected t .left)) (byteAt at w)) (sym (f .window)) h
-
-    go : SameBytes (expected t .left) (after t) ⊎ SameEncoded (expected t .left) (after t) → RestingIn at S (after t)
-    go (inl e) = subst (λ r. Resting S r (byteAt at (after t .window))) (same-lent (expected t .left) (after t) e) moved
-    go (inr e) = resting-same S (e .registers) moved
+follows-rests t S f h = subst (λ o. RestingIn (t .at) S (o .left)) (sym f) h
 
 -- those that stand are among those that came
 among-areas : (S A : List LoadedModule) → Sublist S A → (k q : ℕ) → k < length S → Area (imageAt S k) q → Areas A q

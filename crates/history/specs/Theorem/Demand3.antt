@@ -1,7 +1,6 @@
 -- Demand 3: history does not show.
 use Prim.Native.Nat.{ℕ, _<_}
 use mathlib.Core.Path.{_≡_, refl, sym, ap, _∙_, subst}
-use mathlib.Core.Logic.{inl}
 use mathlib.Core.List.{List, [], _∷_}
 use native.Mathlib.Omega.{arith}
 use lib.ListN.{length, getD}
@@ -117,7 +116,7 @@ demand3-of L f at bt ts us s r m n p q =
     )
 
 -- the exported contracts give them
-pub promised-given : (c : Call) (at : ℕ) (b : Buffers) (o : Outcome) → Promised c at b o → o ≡ given c at b
+pub promised-given : (c : Call) (at : ℕ) (b : Buffers) (o : Outcome) → Promised c at b o → Follows c at b o
 unfolding Promised given
 promised-given (Initialize base size) at b o e = e
 promised-given (Load l auto level) at b o e = e
@@ -131,20 +130,9 @@ promised-answers (Load l auto level) at b = (given (Load l auto level) at b, ref
 promised-answers (Unload base) at b = (given (Unload base) at b, refl)
 
 pub promised-follows : (t : CallRecord) → Gave Promised t → Gave Follows t
-promised-follows t h =
-    let e = promised-given (t .call) (t .at) (t .before) (t .gave) h in
-    let records = ap (λ o. o .left .records) e in
-    let names = ap (λ o. o .left .names) e in
-    let missing = ap (λ o. o .left .missing) e in
-    record {
-      number = ap (λ o. o .number) e;
-      value = ap (λ o. o .value) e;
-      window = ap (λ o. o .left .window) e;
-      register = inl (sym records, sym names, sym missing);
-      kept = λ k. (k .0 ∙ sym records, k .1 ∙ sym names, k .2 ∙ sym missing);
-    }
+promised-follows t h = promised-given (t .call) (t .at) (t .before) (t .gave) h
 
--- of every linker that gives document 01's outcomes, whatever order of named exports it has
+-- of every linker that gives document 01's outcomes
 pub demand3-follows : Demand3 Follows
 demand3-follows = demand3-of Follows (λ t h. h)
 

@@ -10,14 +10,13 @@ use Rattle.register.specs.Module.{Register}
 use Rattle.linker_spec.specs.Calls.{rebaseStatic}
 use Rattle.history.specs.Below.{length-more}
 use Rattle.history.specs.LoadedModule.{LoadCall, initialized, loaded, Image, LoadedModule, imageOf, Area}
-use Rattle.history.specs.Outcomes.{SameRegister}
 use Rattle.history.specs.Steps.Wp.{Memory}
 use Rattle.history.specs.Steps.AllModulesShow.{Modules, put, put-same, put-other}
 use Rattle.history.specs.Calls.Gone.{fewer}
 use Rattle.history.specs.Calls.LinkedState.{AtRest, extended}
 use Rattle.history.specs.Calls.Bringing.{brought}
 use Rattle.history.specs.Calls.Loads.{restOf}
-use Rattle.history.specs.Calls.Between.{rest-agree, rest-same}
+use Rattle.history.specs.Calls.Between.{rest-agree}
 use Rattle.history.specs.Sessions.Lists.{lacking, lacking-at, lacking-length}
 use Rattle.history.specs.Sessions.Unique.{noModule, imageAt}
 use Rattle.history.specs.Sessions.Registers.{last-at}
@@ -43,13 +42,10 @@ pub record Resting (S : List LoadedModule) (r : Register) (M : Memory) : Type 0 
   pub rest : AtRest (standingModules S) r M
   pub alike : (k : ℕ) → k < length S → RestFromAreas (getD S k noModule)
 
--- bytes outside the areas do not matter, nor the order of named exports
+-- bytes outside the areas do not matter
 pub resting-agree
     : (S : List LoadedModule) {r : Register} {M N : Memory} → ((k : ℕ) → k < length S → Agree (Area (imageAt S k)) M N) → Resting S r M → Resting S r N
 resting-agree S e h = record { rest = rest-agree e (h .rest); alike = h .alike }
-
-pub resting-same : (S : List LoadedModule) {r s : Register} {M : Memory} → SameRegister r s → Resting S r M → Resting S s M
-resting-same S e h = record { rest = rest-same e (h .rest); alike = h .alike }
 
 modules-same : {n o : ℕ} {x y : ℕ → Image} {T U : ℕ → Memory} → n ≡ o → ((k : ℕ) → x k ≡ y k) → ((k : ℕ) → T k ≡ U k)
     → _≡_ {A = Modules} (record { number = n; image = x; rest = T }) (record { number = o; image = y; rest = U })

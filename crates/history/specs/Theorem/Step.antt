@@ -74,7 +74,7 @@ module _ (t : CallRecord) (ts : List CallRecord) where
       → Holding at (t ∷ ts) (after t)
   quiet f a s e (none-came n g) =
       none-came (a ∙ n)
-      (fresh-same b (after t) (f .kept (ap (λ x. x .records) (sym e), ap (λ x. x .names) (sym e), ap (λ x. x .missing) (sym e))) g)
+      (subst Fresh (sym (ap (λ o. o .left) f ∙ e)) g)
   quiet f a s e (some-came o c h) =
       some-came (λ z. o (sym a ∙ z)) (subst (λ S. isCrs (imageAt S 0 .loadCall) ≡ true) (sym s) c)
       (subst (λ S. RestingIn at S (after t)) (sym s)

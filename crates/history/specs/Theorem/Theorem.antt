@@ -107,7 +107,7 @@ session at ts (first t f e typed fresh g) h =
 session at ts (next t u us s f e typed b g) h =
     let mine = own-all at (t ∷ u ∷ us) (next t u us s f e typed b g) in
     let place = last-place at u us s in
-    let lengths = sym (b .length-kept) ∙ ap length (last-follows at u us s .window) ∙ given-length (u .call) (u .at) (u .before) in
+    let lengths = sym (b .length-kept) ∙ ap (λ o. length (o .left .window)) (last-follows at u us s) ∙ given-length (u .call) (u .at) (u .before) in
     let r = session at (u ∷ us) s (fewer-premises t u us (e ∙ sym place, lengths) mine (own-all at (u ∷ us) s) h) in
     let k =
     step t (u ∷ us) g typed mine h

@@ -164,7 +164,7 @@ own-inside at ts (first t f e typed fresh g) h =
 own-inside at ts (next t u us s f e typed b g) h =
     let mine = own-all at (t ∷ u ∷ us) (next t u us s f e typed b g) in
     let last = last-own at u us s in
-    let lengths = sym (b .length-kept) ∙ ap length (last .1 .window) ∙ given-length (u .call) (u .at) (u .before) in
+    let lengths = sym (b .length-kept) ∙ ap (λ o. length (o .left .window)) (last .1) ∙ given-length (u .call) (u .at) (u .before) in
     let less = fewer-premises t u us (e ∙ sym (last .0), lengths) mine (own-all at (u ∷ us) s) h in
     let held =
     between-holds (t .at) (u ∷ us) (after u) (t .before) (subst (λ a. Between a (u ∷ us) (after u) (t .before)) (sym e) b)

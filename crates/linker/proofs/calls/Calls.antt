@@ -18,7 +18,9 @@ use Rattle.register.specs.Module.{Module, Register}
 use Rattle.register.specs.Decode.{settled, registerOf, isRegister}
 use Rattle.register.specs.Change.{appended, removed, withCrs}
 use Rattle.register.specs.Buffers.{Below, encodeRecords, encodeNames, encodeMissing}
-use Rattle.register.specs.Read.Read.{Encoded, modulesOf, moduleAt, placeFrom, placeAfter, hasBase}
+use Rattle.register.specs.Read.Read.{Encoded, modulesOf, moduleAt, placeFrom, placeAfter, hasBase, Sorted}
+use Rattle.register.specs.Read.Places.{sorted-at}
+use Rattle.register.specs.Read.Encoded.{first-placed}
 use Rattle.register.specs.Change.Bytes.{setCrs}
 use Rattle.register.specs.Change.Remove.{RecordOfRegister, remaining}
 use Rattle.linker_spec.specs.declared.rebase.LoadArguments.{LoadArguments}
@@ -39,7 +41,7 @@ use Rattle.linker.specs.Entry.Entry.{EntryResult, recordAdded}
 use Rattle.linker.specs.Calls.Steps.{clearListFields}
 use Rattle.linker.specs.Calls.Laws.{RecordAdded, in-now, not-now}
 use Rattle.linker.specs.Calls.Stored.{crs-stored, missing-stored, used-place, register-exact, appended-kept}
-use Rattle.linker.specs.Calls.Linked.{headerCrs, LinkLeaves, one-more}
+use Rattle.linker.specs.Calls.Linked.{headerCrs, LastRecord, LinkLeaves, one-more}
 use Rattle.linker.specs.Calls.Traced.{callOf, traced}
 use Rattle.linker.specs.Calls.Left as left-by
 
@@ -167,8 +169,20 @@ module _ (at : ℕ) (l : LoadArguments) (auto level : ℕ) (b : Buffers) (t : Li
         appended-kept (b .records) (b .names) (b .missing) sr valid m (rw is-run (q .0)) (rw is-run (q .1))
         (fits-means (length (b .records)) (length (b .names)) (lentRegister b) m (enters .fit)) (enters .records-now) (enters .names-now)
 
-    pub load-linkable : isRegister records names (b .missing) ≡ true
-    load-linkable = kept .0
+    pub load-linkable
+        : (isRegister records names (b .missing) ≡ true)
+        × ((u : ℕ) → u ≡ getD (settled (wordsIn (b .records))) 3 0 → LastRecord records names u)
+    unfolding appended
+    load-linkable = (
+      kept .0,
+      λ u eu.
+          record {
+            before = lentRegister b .modules;
+            last = m;
+            all = sym (modules-are records names (b .missing)) ∙ ap (λ (q : Register). q .modules) (kept .1);
+            there = used-place (b .records) (b .names) (b .missing) valid eu;
+          },
+    )
 
     pub load-done
         : {u k : ℕ} {s₅ : State} {rs ms : List ℕ} → u ≡ getD (settled (wordsIn (b .records))) 3 0
@@ -205,6 +219,9 @@ module _ (at base : ℕ) (b : Buffers) (t : List ℕ) (v : isRegister (b .record
   module _ (place : ℕ) (z : x ≡ found.At place) where
     pub unload-stands : RecordOfRegister (b .records) (b .names) place
     unload-stands = left-by.standing (b .records) (b .names) (b .missing) v base place (sym z ∙ first)
+
+    pub unload-sorted : Sorted (b .records) (b .names) place
+    unload-sorted = sorted-at (first-placed (b .records) (b .names) (hasBase base) (b .missing, v) (sym first ∙ z) .stands)
 
     pub unload-done
         : {s₁ s₂ s₃ : State} {rs ns : List ℕ}

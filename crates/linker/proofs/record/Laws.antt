@@ -12,10 +12,10 @@ use Rattle.layout.specs.declared.segments.Address.{Address}
 use Rattle.register.specs.declared.append.draft.Draft.{Draft}
 use Rattle.register.specs.declared.append.draft.Drafted.{Drafted}
 use Rattle.register.specs.declared.append.draft.Drafted.the-variants.{Open, Full}
-use Rattle.register.specs.Append.Draft.{putExport, givenUp}
+use Rattle.register.specs.Append.Draft.{givenUp}
 use Rattle.linker_spec.specs.Relocation.{addressOr0}
 use Rattle.linker.specs.Record.Read.{atMost16, ownName}
-use Rattle.linker.specs.Record.Tried.{tried, putTried}
+use Rattle.linker.specs.Record.Tried.{tried}
 
 -- a step kept or given up
 
@@ -41,15 +41,6 @@ at-most-all n h = rw (le-ltb 16 n h)
 
 pub own-name : (at : ℕ) (w : List ℕ) (base : ℕ) {p : ℕ} → p ≡ run at (field base moduleNameOffset) w .0 → run at (nameAt p) w .0 ≡ ownName at w base
 own-name at w base e = ap (λ p. run at (nameAt p) w .0) (e ∙ field-word at base moduleNameOffset w)
-
-pub put-kept
-    : (d : Draft) (rs ns name : List ℕ) (a : ℕ) {name′ : List ℕ} {after r : Drafted} {rs₁ ns₁ rs₂ ns₂ : List ℕ} → name′ ≡ name
-    → _≡_ {A = Drafted × List ℕ × List ℕ} (after, rs₁, ns₁) (putExport rs ns d name′ a)
-    → _≡_ {A = Drafted × List ℕ × List ℕ} (r, rs₂, ns₂) (tried d after rs₁ ns₁)
-    → _≡_ {A = Drafted × List ℕ × List ℕ} (r, rs₂, ns₂) (putTried d rs ns name a)
-unfolding putTried
-put-kept d rs ns name a en ep et =
-    et ∙ ap (λ (t : Drafted × List ℕ × List ℕ). tried d (t .0) (t .1) (t .2)) (ep ∙ ap (λ t. putExport rs ns d t a) en)
 
 -- an address
 pub indexed-at

@@ -14,7 +14,9 @@ use Rattle.register.specs.Words.{wordsIn}
 use Rattle.register.specs.Module.{Module, Register}
 use Rattle.register.specs.Decode.{readCrs, registerOf}
 use Rattle.register.specs.Change.{appended}
-use Rattle.register.specs.Read.Read.{Encoded, modulesOf, moduleAt, placeAfter}
+use Rattle.register.specs.Read.Read.{Encoded, modulesOf, moduleAt, placeAfter, Sorted}
+use Rattle.register.specs.Read.Places.{sorted-at, RecordsStand, stands-at}
+use Rattle.register.specs.Read.Encoded.{modules-stand}
 use Rattle.linker_spec.specs.declared.rebase.LoadArguments.{LoadArguments}
 use Rattle.linker_spec.specs.Imports.{applyImportNamedSymbols, applyModuleImports, applyExportsToLoaded}
 use Rattle.linker_spec.specs.Lists.{register}
@@ -38,6 +40,13 @@ pub listed-known
 unfolding listed
 listed-known at base auto s crs e h = rw e h
 
+-- the record of the last module begins at byte `place`
+pub record LastRecord (records names : List ℕ) (place : ℕ) : Type 0 where
+  pub before : List Module
+  pub last : Module
+  pub all : modulesOf records names ≡ before ++ (last ∷ [])
+  pub there : place ≡ placeAfter 32 before
+
 -- a number, window and trace, and the bytes that linking leaves, m having been appended to r
 pub record LinkLeaves (at : ℕ) (r : Register) (l : LoadArguments) (auto : Bool) (level : ℕ) (m : Module) (s : State)
     (n : ℕ) (left : State) (records names missing : List ℕ) : Type 0 where
@@ -52,6 +61,14 @@ module _ (at : ℕ) (records names missing : List ℕ) (l : LoadArguments) (auto
     (_≡_ {A = State × List ℕ × List ℕ} (s₂, rs, ms) (imported r records x)) × MissingAdded r rs names ms (x .0)) where
   pub still-encoded : Encoded rs names
   still-encoded = (ms, e₂ .1 .0)
+
+  -- names added to the missing ones leave the records where they are
+  pub still-sorted : {place : ℕ} → LastRecord records names place → Sorted rs names place
+  unfolding missingNow
+  still-sorted d =
+      let m : modulesOf rs names ≡ d .before ++ (d .last ∷ []) =
+      sym (modules-are rs names ms) ∙ ap (λ (q : Register). q .modules) (e₂ .1 .1) ∙ modules-are records names missing ∙ d .all in
+      rw (d .there) (sorted-at (stands-at (d .before) [] (subst (RecordsStand rs names 32) m (modules-stand rs names ms (e₂ .1 .0)))))
 
   module _ {s₃ : State} (e₃ : s₃ ≡ runT at (applyModuleImports (modulesOf rs names) (l .base)) s₂ .1) (place : ℕ) {s₄ : State}
       (e₄ : s₄ ≡ runT at (applyExportsToLoaded (moduleAt rs names place) (butLast (modulesOf rs names))) s₃ .1) {n : ℕ} {s₅ : State}

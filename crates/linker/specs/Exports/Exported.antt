@@ -11,7 +11,7 @@ use Rattle.register.specs.Module.{Module, Register, properModule}
 use Rattle.register.specs.Encode.{encodeWords}
 use Rattle.register.specs.Decode.{readSlots, settled, readRegister, registerOf, isRegister}
 use Rattle.register.specs.CheckIs.{register-parts}
-use Rattle.register.specs.Change.{newModule, appended}
+use Rattle.register.specs.Change.{newModule, withNamed, appended}
 use Rattle.register.specs.Buffers.{Below, encodeRecords, encodeNames}
 use Rattle.register.specs.Read.Read.{Encoded}
 use Rattle.register.specs.declared.append.draft.Draft.{Draft}
@@ -27,7 +27,7 @@ use Rattle.linker.specs.declared.exports.IndexResult.the-variants.{Appen
 use Rattle.linker.specs.Record.Read.{ownName, module-is}
 use Rattle.linker.specs.Exports.Writing.{Ground, Writing, roomy, fits-roomy, holding, finishes, stays, writing-is, begin-writing}
 use Rattle.linker.specs.Exports.Proper.{module-proper}
-use Rattle.linker.specs.Exports.Modules.{withSegments, withNamed, withIndexeds, DraftStep, EmptyModule, Lists, full-lists}
+use Rattle.linker.specs.Exports.Modules.{withSegments, withIndexeds, DraftStep, EmptyModule, Lists, full-lists}
 
 -- the register that records and names encode; its missing names stand in a buffer of their own: each is read as empty here, and
 -- only how many they are is told

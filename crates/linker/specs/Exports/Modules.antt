@@ -5,15 +5,15 @@ use mathlib.Core.List.{List, [], _∷_, _++_}
 use mathlib.Core.Bool.{Bool, true, false}
 use native.Mathlib.Omega.{arith}
 use lib.ListN.{length, length-append}
-use Rattle.window.specs.Memory.{if_then_else_}
 use Rattle.window.specs.Tests.{both, also}
-use Rattle.window.specs.Name.{isName, nameAt-isName}
+use Rattle.window.specs.Name.{isName, nameAt-isName, orderOf}
+use Rattle.window.specs.declared.name.NameOrder.{NameOrder}
+use Rattle.window.specs.declared.name.NameOrder.the-variants.{Before, Same, After}
 use Rattle.layout.specs.declared.segments.Address.{Address}
 use Rattle.layout.specs.declared.segments.Address.the-variants.{At, Nowhere}
-use Rattle.register.specs.Words.{same}
 use Rattle.register.specs.Module.{Export, Module, named-ok}
 use Rattle.register.specs.Encode.{moduleNames, exportNames}
-use Rattle.register.specs.Change.{withSegment, withIndexed, withExport, putNamed}
+use Rattle.register.specs.Change.{byOrder, withSegment, withIndexed, withNamed, putNamed}
 use Rattle.register.specs.declared.append.draft.Draft.{Draft}
 use Rattle.register.specs.declared.append.draft.Drafted.{Drafted}
 use Rattle.register.specs.declared.append.draft.Drafted.the-variants.{Open, Full}
@@ -26,10 +26,6 @@ use Rattle.linker.specs.Exports.Writing.{Ground, Writing, Grows, named, 
 unfoldable pub withSegments : Module → List ℕ → Module
 withSegments m xs =
     record { base = m .base; size = m .size; auto = m .auto; name = m .name; segments = xs; named = m .named; indexed = m .indexed }
-
-unfoldable pub withNamed : Module → List Export → Module
-withNamed m xs =
-    record { base = m .base; size = m .size; auto = m .auto; name = m .name; segments = m .segments; named = xs; indexed = m .indexed }
 
 unfoldable pub withIndexeds : Module → List ℕ → Module
 withIndexeds m xs =
@@ -45,10 +41,6 @@ module _ (m : Module) where
   pub indexeds-more : (xs : List ℕ) (a : ℕ) → withIndexed (withIndexeds m xs) a ≡ withIndexeds m (xs ++ (a ∷ []))
   unfolding withIndexed withIndexeds
   indexeds-more xs a = refl
-
-  pub named-more : (xs : List Export) (name : List ℕ) (a : ℕ) → withExport (withNamed m xs) name a ≡ withNamed m (putNamed xs name a)
-  unfolding withExport withNamed
-  named-more xs name a = refl
 
   pub segments-rest : (xs : List ℕ) → (withSegments m xs .named ≡ m .named) × (withSegments m xs .indexed ≡ m .indexed)
   unfolding withSegments
@@ -101,16 +93,19 @@ usable-longer xs name (At a) = put-grows xs name a
 usable-longer xs name Nowhere = (omega arith, omega arith)
 
 put-ok : (xs : List Export) (name : List ℕ) (a : ℕ) → named-ok xs ≡ true → isName name ≡ true → named-ok (putNamed xs name a) ≡ true
-unfolding putNamed named-ok
+unfolding putNamed named-ok byOrder
 put-ok [] name a h k = also k refl
-put-ok (x ∷ xs) name a h k = go (same name (x .name)) (both (isName (x .name)) (named-ok xs) h) (put-ok xs name a)
+put-ok (x ∷ xs) name a h k = go (orderOf name (x .name)) (both (isName (x .name)) (named-ok xs) h) (put-ok xs name a)
   where
     go
-        : (t : Bool) → (isName (x .name) ≡ true) × (named-ok xs ≡ true)
+        : (o : NameOrder) → (isName (x .name) ≡ true) × (named-ok xs ≡ true)
         → (named-ok xs ≡ true → isName name ≡ true → named-ok (putNamed xs name a) ≡ true)
-        → named-ok (if t then record { name = x .name; address = a } ∷ xs else x ∷ putNamed xs name a) ≡ true
-    go true b ih = also (b .0) (b .1)
-    go false b ih = also (b .0) (ih (b .1) k)
+        → named-ok
+        (byOrder o (record { name = name; address = a } ∷ x ∷ xs) (record { name = x .name; address = a } ∷ xs) (x ∷ putNamed xs name a))
+        ≡ true
+    go Before b ih = also k h
+    go Same b ih = also (b .0) (b .1)
+    go After b ih = also (b .0) (ih (b .1) k)
 
 module _ (at : ℕ) (w : List ℕ) (base : ℕ) where
   pub named-longer

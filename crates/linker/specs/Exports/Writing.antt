@@ -5,30 +5,29 @@ use mathlib.Core.List.{List, [], _∷_, _++_, append-nil}
 use mathlib.Core.Bool.{Bool, true, false, _&&_}
 use native.Mathlib.Omega.{arith}
 use native.Mathlib.Decide.{decLe}
-use lib.ListN.{length, length-append, length-set}
+use lib.ListN.{length, length-append}
 use lib.Seq.{sets}
 use lib.Dec.{ltb, leb}
 use borrow.Author.Tests.{lt-ltb, ltb-true, leb-true, le-leb, lt-leb}
+use Rattle.window.specs.Word.{setWordIn}
 use Rattle.window.specs.Tests.{both, also}
 use Rattle.register.specs.Words.{flat}
-use Rattle.register.specs.Module.{Module, Register, named-ok, findExport, proper, properModule}
-use Rattle.register.specs.Encode.{moduleNames, moduleWords, recordWords, recordNames, encodeWords, exportNames}
+use Rattle.register.specs.Module.{Export, Module, Register, proper, properModule}
+use Rattle.register.specs.Encode.{exportWords, exportNames, moduleNames, moduleWords, recordWords, recordNames, encodeWords}
 use Rattle.register.specs.Decode.{encodes, isRegister, registerOf}
-use Rattle.register.specs.Change.{newModule, withSegment, withIndexed, withExport, appended}
-use Rattle.register.specs.Buffers.{Below, encodeRecords, encodeNames}
-use Rattle.register.specs.declared.exports.Found.{Found}
-use Rattle.register.specs.declared.exports.Found.the-variants.{At, Nothing}
+use Rattle.register.specs.Change.{newModule, withSegment, withIndexed, withNamed, appended}
+use Rattle.register.specs.Buffers.{Below, length-flat, encodeRecords, encodeNames}
 use Rattle.register.specs.declared.append.draft.Draft.{Draft}
 use Rattle.register.specs.declared.append.draft.Drafted.{Drafted}
 use Rattle.register.specs.declared.append.draft.Drafted.the-variants.{Open, Full}
-use Rattle.register.specs.Append.Draft.{roomIn, longer, pushListed, addedTo, draftAt, beginRecord, finishRecord, givenUp}
-use Rattle.register.specs.Append.Held.{Held, words-long, words-export, names-export}
-use Rattle.register.specs.Append.Steps.{listed-none, step-segment, step-indexed, step-again, step-export, step-export-none}
+use Rattle.register.specs.Append.Draft.{roomIn, room-inside, longer, pushListed, draftAt, beginRecord, finishRecord, givenUp}
+use Rattle.register.specs.Append.Held.{Held, words-long, names-named}
+use Rattle.register.specs.Append.Steps.{listed-none, step-segment, step-indexed, step-named}
 use Rattle.register.specs.Append.Append.{words-with, finished, finished-names, given-up, begun, not-begun}
 use Rattle.register.specs.Append.Stands.{stands, still-register}
 use Rattle.linker_spec.specs.Calls.{fits}
 use Rattle.linker_spec.specs.Fit.{names-of}
-use Rattle.linker.specs.Record.Tried.{tried, putTried}
+use Rattle.linker.specs.Record.Tried.{tried}
 
 -- buffers that encode a register
 pub record Ground : Type 0 where
@@ -87,7 +86,7 @@ fits-roomy g m = rw (length-words g m, names-of (g .register) m)
 
 -- where there is no room
 
-and-no : (t : Bool) → (t && false) ≡ false
+pub and-no : (t : Bool) → (t && false) ≡ false
 and-no true = refl
 and-no false = refl
 
@@ -134,15 +133,15 @@ more-indexed q m a =
 
 module _ (g : Ground) (m : Module) (d : Draft) (rs ns : List ℕ) (h : Writing g m (Open d) rs ns) where
   -- what the draft says of the module
-  held : Held (g .records) (g .names) d m rs ns
+  pub held : Held (g .records) (g .names) d m rs ns
   unfolding Writing
   held = h .0
 
-  starts : d .start ≡ used g
+  pub starts : d .start ≡ used g
   unfolding Writing
   starts = h .1
 
-  begins : d .names ≡ named g
+  pub begins : d .names ≡ named g
   unfolding Writing
   begins = h .2
 
@@ -168,7 +167,12 @@ module _ (g : Ground) (m : Module) (d : Draft) (rs ns : List ℕ) (h : Writing g
   gone : (m′ : Module) → roomy g m′ ≡ false → Writing g m′ Full (givenUp rs ns d .0) (givenUp rs ns d .1)
   unfolding Writing
   gone m′ e =
-      let z = given-up (g .records) (g .names) (g .missing) (g .register) (g .right) (g .holds) (g .bytes) d m rs ns held starts begins in
+      let x = flat (moduleWords (d .names) m) in
+      let lx : length x ≡ 4 * length (moduleWords (d .names) m) = length-flat (moduleWords (d .names) m) in
+      let z =
+      given-up (g .records) (g .names) (g .missing) (g .register) (g .right) (g .holds) (g .bytes) d x (moduleNames m) rs ns starts begins
+      (held .words) (held .bytes) (omega (arith, held .end, lx)) (omega (arith, held .last))
+      (omega (arith, held .room, room-inside (length (g .records)))) (omega (arith, held .name-room, room-inside (length (g .names)))) in
       (ap (λ t. t .0) z, ap (λ t. t .1) z, e)
 
   kept : (d′ : Draft) (m′ : Module) (rs′ ns′ : List ℕ) → Held (g .records) (g .names) d′ m′ rs′ ns′ → d′ .start ≡ d .start → d′ .names ≡ d .names
@@ -228,70 +232,35 @@ module _ (g : Ground) (m : Module) (d : Draft) (rs ns : List ℕ) (h : Writing g
       (λ l. step-indexed (g .records) (g .names) d m rs ns held a k l)
       (more-indexed (named g) m a)
 
-  -- a named export more, or its address replaced
-  module _ (name : List ℕ) (a : ℕ) (small : a < 2 ^ 32) (no-indexed : m .indexed ≡ []) (ok : named-ok (m .named) ≡ true) where
-    abbrev m′ : Module
-    m′ = withExport m name a
+  -- all named exports at once, after a record without exports
 
-    export-again : (k : ℕ) → findExport (m .named) name ≡ At k → Writing g m′ (putTried d rs ns name a .0) (putTried d rs ns name a .1) (putTried d rs ns name a .2)
-    unfolding tried putTried
-    export-again k f =
-        let s = step-again (g .records) (g .names) d m rs ns held ok name a k small f in
-        rw (s .0) (kept d m′ (sets (g .records) (d .start) (flat (moduleWords (d .names) m′))) ns (s .1) refl refl)
+  module _ (none : m .named ≡ []) (no-indexed : m .indexed ≡ []) (xs : List Export) where
+    pub roomy-named
+        : roomy g (withNamed m xs)
+        ≡ (ltb (length (g .register .modules)) 64
+        && (leb (d .end + 12 * length xs) (roomIn (length (g .records)))
+        && leb (d .last + length (exportNames xs)) (roomIn (length (g .names)))))
+    unfolding roomy withNamed
+    roomy-named =
+        let q = named g in
+        let a : length (m .named) ≡ 0 = ap length none in
+        let w : used g + 4 * length (moduleWords q (withNamed m xs)) ≡ d .end + 12 * length xs =
+        omega (arith, ends, words-long q m, words-long q (withNamed m xs)) in
+        let l : length (moduleNames (withNamed m xs)) ≡ length (moduleNames m) + length (exportNames xs) =
+        ap length (names-named q m xs none) ∙ length-append (moduleNames m) (exportNames xs) in
+        let n : named g + length (moduleNames (withNamed m xs)) ≡ d .last + length (exportNames xs) = omega (arith, lasts, l) in
+        rw (w, n)
 
-    module _ (f : findExport (m .named) name ≡ Nothing) where
-      more-words : length (moduleWords (named g) m′) ≡ length (moduleWords (named g) m) + 3
-      more-words =
-          let q = named g in
-          let v = (q + length (moduleNames m)) ∷ length name ∷ a ∷ [] in
-          ap length (sym (words-export q m name a no-indexed f))
-          ∙ length-set (moduleWords q m ++ v) 6 (length (m .named) + 1)
-          ∙ length-append (moduleWords q m) v
-
-      more-names : length (moduleNames m′) ≡ length (moduleNames m) + length name
-      more-names = ap length (names-export (named g) m name a f) ∙ length-append (moduleNames m) name
-
-      no-room
-          : (leb (d .end + 12) (roomIn (length (g .records))) && leb (d .last + length name) (roomIn (length (g .names)))) ≡ false
-          → roomy g m′ ≡ false
-      unfolding roomy
-      no-room e =
-          let w : used g + 4 * length (moduleWords (named g) m′) ≡ d .end + 12 = omega (arith, ends, more-words) in
-          let n : named g + length (moduleNames m′) ≡ d .last + length name = omega (arith, lasts, more-names) in
-          rw (w, n, e) (and-no (ltb (length (g .register .modules)) 64))
-
-      export-new : Writing g m′ (putTried d rs ns name a .0) (putTried d rs ns name a .1) (putTried d rs ns name a .2)
-      unfolding tried putTried addedTo
-      export-new = go (leb (d .end + 12) (roomIn (length (g .records)))) (leb (d .last + length name) (roomIn (length (g .names)))) refl refl
-        where
-          rest : (t s : Bool) → (t && s) ≡ false → leb (d .end + 12) (roomIn (length (g .records))) ≡ t
-              → leb (d .last + length name) (roomIn (length (g .names))) ≡ s
-              → Writing g m′ (putTried d rs ns name a .0) (putTried d rs ns name a .1) (putTried d rs ns name a .2)
-          rest t s z p q =
-              let e : (leb (d .end + 12) (roomIn (length (g .records))) && leb (d .last + length name) (roomIn (length (g .names)))) ≡ false =
-              rw (p, q) z in
-              let n = step-export-none (g .records) (g .names) d m rs ns held ok name a f e in
-              rw n (gone m′ (no-room e))
-
-          go : (t s : Bool) → leb (d .end + 12) (roomIn (length (g .records))) ≡ t → leb (d .last + length name) (roomIn (length (g .names))) ≡ s
-              → Writing g m′ (putTried d rs ns name a .0) (putTried d rs ns name a .1) (putTried d rs ns name a .2)
-          go true true p q =
-              let s =
-              step-export (g .records) (g .names) d m rs ns held ok name a small no-indexed f
-              (leb-true (d .end + 12) (roomIn (length (g .records))) p)
-              (leb-true (d .last + length name) (roomIn (length (g .names))) q) in
-              rw (s .0)
-              (kept (addedTo d name) m′ (sets (g .records) (d .start) (flat (moduleWords (d .names) m′)))
-              (sets (g .names) (d .names) (moduleNames m′)) (s .1) refl refl)
-          go true false p q = rest true false refl p q
-          go false s p q = rest false s refl p q
-
-    pub export-tried : Writing g m′ (putTried d rs ns name a .0) (putTried d rs ns name a .1) (putTried d rs ns name a .2)
-    export-tried = go (findExport (m .named) name) refl
-      where
-        go : (f : Found) → findExport (m .named) name ≡ f → Writing g m′ (putTried d rs ns name a .0) (putTried d rs ns name a .1) (putTried d rs ns name a .2)
-        go (At k) e = export-again k e
-        go Nothing e = export-new e
+    pub named-written
+        : (last : Draft) → last .start ≡ d .start → last .names ≡ d .names → last .end ≡ d .end + 12 * length xs
+        → last .last ≡ d .last + length (exportNames xs) → last .end ≤ roomIn (length (g .records)) → last .last ≤ roomIn (length (g .names))
+        → Below (2 ^ 32) (exportWords (d .last) xs)
+        → Writing g (withNamed m xs) (Open last)
+        (setWordIn (sets rs (d .end) (flat (exportWords (d .last) xs))) (d .start + 24) (length xs)) (sets ns (d .last) (exportNames xs))
+    named-written last es en ee el room name-room small =
+        kept last (withNamed m xs) _ _
+        (step-named (g .records) (g .names) d m rs ns held none no-indexed xs last es en ee el room name-room small)
+        es en
 
 -- a record begun
 

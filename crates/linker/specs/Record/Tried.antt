@@ -4,13 +4,9 @@ use mathlib.Core.List.{List}
 use Rattle.register.specs.declared.append.draft.Draft.{Draft}
 use Rattle.register.specs.declared.append.draft.Drafted.{Drafted}
 use Rattle.register.specs.declared.append.draft.Drafted.the-variants.{Open, Full}
-use Rattle.register.specs.Append.Draft.{putExport, givenUp}
+use Rattle.register.specs.Append.Draft.{givenUp}
 
 -- a step that had no room gives the record up
 unfoldable pub tried : Draft → Drafted → List ℕ → List ℕ → Drafted × List ℕ × List ℕ
 tried d (Open e) rs ns = (Open e, rs, ns)
 tried d Full rs ns = (Full, givenUp rs ns d .0, givenUp rs ns d .1)
-
--- an export put, or the record given up
-unfoldable pub putTried : Draft → List ℕ → List ℕ → List ℕ → ℕ → Drafted × List ℕ × List ℕ
-putTried d rs ns name a = tried d (putExport rs ns d name a .0) (putExport rs ns d name a .1) (putExport rs ns d name a .2)

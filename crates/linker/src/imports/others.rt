@@ -1,7 +1,7 @@
 // The imports of the modules that stand, served by the module whose record begins at a place.
 ghost use mathlib.Core.Path.{_≡_};
 ghost use Rattle.window.specs.Trace.{runT};
-ghost use Rattle.register.specs.Read.Read.{Encoded, modulesOf, moduleAt};
+ghost use Rattle.register.specs.Read.Read.{Encoded, modulesOf, moduleAt, Sorted};
 ghost use Rattle.linker_spec.specs.Imports.{serveNamed, serveModule, serve, applyExportsToLoaded};
 ghost use Rattle.linker.specs.Imports.Served.{serveAllNamed, serveAllModules};
 ghost use Rattle.linker.specs.Imports.Modules.{butLast};
@@ -35,6 +35,7 @@ fn serve_named(
     base: u32,
     entry: u32,
 )
+    requires { ⌜ Sorted (now records) (now names) place ⌝ }
     ensures { λ _. ⌜ (now (w .exit), now (trace .exit))
         ≡ runT at (serveNamed (moduleAt (now (records .entry)) (now (names .entry)) place) base entry) (now (w .entry), now (trace .entry)) .1 ⌝ }
 {
@@ -78,6 +79,7 @@ fn serve_all_named(
     place: usize,
     base: u32,
 )
+    requires { ⌜ Sorted (now records) (now names) place ⌝ }
     ensures { λ _. ⌜ (now (w .exit), now (trace .exit))
         ≡ runT at (serveAllNamed (moduleAt (now (records .entry)) (now (names .entry)) place) base) (now (w .entry), now (trace .entry)) .1 ⌝ }
 {
@@ -120,6 +122,7 @@ fn serve(
     place: usize,
     base: u32,
 )
+    requires { ⌜ Sorted (now records) (now names) place ⌝ }
     ensures { λ _. ⌜ (now (w .exit), now (trace .exit))
         ≡ runT at (serve (moduleAt (now (records .entry)) (now (names .entry)) place) base) (now (w .entry), now (trace .entry)) .1 ⌝ }
 {
@@ -137,6 +140,7 @@ pub(crate) fn apply_exports_to_loaded(
     place: usize,
 )
     requires { ⌜ Encoded (now records) (now names) ⌝ }
+    requires { ⌜ Sorted (now records) (now names) place ⌝ }
     ensures { λ _. ⌜ (now (w .exit), now (trace .exit))
         ≡ runT at (applyExportsToLoaded (moduleAt (now (records .entry)) (now (names .entry)) place)
         (butLast (modulesOf (now (records .entry)) (now (names .entry))))) (now (w .entry), now (trace .entry)) .1 ⌝ }

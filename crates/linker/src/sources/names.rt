@@ -3,7 +3,7 @@ ghost use mathlib.Core.Path.{_≡_};
 ghost use Rattle.window.specs.Trace.{runT};
 ghost use Rattle.window.specs.Name.{nameAt};
 ghost use Rattle.register.specs.Words.{same};
-ghost use Rattle.register.specs.Read.Read.{Encoded, modulesOf, placeFrom, hasName, exportOf, moduleAt};
+ghost use Rattle.register.specs.Read.Read.{Encoded, modulesOf, placeFrom, hasName, exportOf, moduleAt, Sorted};
 use register::exports::Found;
 use register::exports::same_name;
 use register::read::Symbol;
@@ -40,6 +40,7 @@ pub(crate) fn export_of(
     place: usize,
     address: u32,
 ) -> Symbol
+    requires { ⌜ Sorted (now records) (now names) place ⌝ }
     ensures { λ r. ⌜ (r ≡ exportOf (moduleAt (now (records .entry)) (now (names .entry)) place) (runT at (nameAt address) (now (w .entry), now (trace .entry)) .0))
         × ((now (w .entry), now (trace .exit)) ≡ runT at (nameAt address) (now (w .entry), now (trace .entry)) .1) ⌝ }
 {

@@ -9,13 +9,13 @@ use lib.Seq.{take-nil}
 use borrow.Author.Tests.{lt-ltb, le-ltb}
 use Rattle.window.specs.Memory.{if_then_else_}
 use Rattle.register.specs.Words.{part, same, wordsIn, length-words, part-words}
-use Rattle.register.specs.Module.{findFrom, findExport}
+use Rattle.register.specs.Module.{findFrom, findExport, ascending}
 use Rattle.register.specs.Decode.{exportAt, exportsFrom, exportsIn, readModule, slotLength, slotName}
 use Rattle.register.specs.declared.exports.Found.the-variants as found
 use Rattle.register.proofs.Laws.{rest-of}
 use Rattle.register.specs.declared.read.Symbol.{Symbol}
 use Rattle.register.specs.declared.read.Symbol.the-variants.{At, Nothing}
-use Rattle.register.specs.Read.Read.{addressOf, exportOf, entryOf, moduleAt}
+use Rattle.register.specs.Read.Read.{addressOf, exportOf, entryOf, moduleAt, Sorted}
 
 -- what `&l[n..]` is for n the length
 pub rest-none : (l : List ℕ) (place : ℕ) → length l < place → take (length l - length l) (drop (length l) l) ≡ drop place l
@@ -105,21 +105,25 @@ module _ (records rest : List ℕ) (place : ℕ) {s : ℕ} (er : rest ≡ drop p
     indexed-entry names list i {c = c} ec el e =
         e ∙ ap (λ l. entryOf l i) (ap wordsIn el ∙ part-words rest (8 + (s + 3 * n)) c ∙ rw (es, en, ec, er))
 
-    module _ (list names name : List ℕ) (el : list ≡ part rest (4 * (8 + s)) (12 * n)) where
+    module _ (list names : List ℕ) (el : list ≡ part rest (4 * (8 + s)) (12 * n)) where
       named-are : exportsIn (wordsIn list) names ≡ moduleAt records names place .named
       unfolding moduleAt readModule
       named-are =
           let e : 12 * n ≡ 4 * (3 * n) = omega arith in
           rw (el, e, part-words rest (8 + s) (3 * n), es, en, er)
 
+      pub export-sorted : Sorted records names place → ascending (exportsIn (wordsIn list) names) ≡ true
+      unfolding Sorted
+      export-sorted h = rw named-are h
+
       pub export-none
-          : findExport (exportsIn (wordsIn list) names) name ≡ found.Nothing → Nothing ≡ exportOf (moduleAt records names place) name
+          : (name : List ℕ) → findExport (exportsIn (wordsIn list) names) name ≡ found.Nothing → Nothing ≡ exportOf (moduleAt records names place) name
       unfolding exportOf findExport exportsIn
-      export-none e = rw (← named-are) (sym (missed (length (wordsIn list) / 3) (wordsIn list) names 0 name e))
+      export-none name e = rw (← named-are) (sym (missed (length (wordsIn list) / 3) (wordsIn list) names 0 name e))
 
       pub export-at
-          : {k a : ℕ} → findExport (exportsIn (wordsIn list) names) name ≡ found.At k → a ≡ getD (wordsIn list) (3 * k + 2) 0
+          : (name : List ℕ) {k a : ℕ} → findExport (exportsIn (wordsIn list) names) name ≡ found.At k → a ≡ getD (wordsIn list) (3 * k + 2) 0
           → At a ≡ exportOf (moduleAt records names place) name
       unfolding exportOf findExport exportsIn
-      export-at {k} e w =
+      export-at name {k} e w =
           rw (← named-are, w) (sym (hit (length (wordsIn list) / 3) (wordsIn list) names 0 k name e .address))

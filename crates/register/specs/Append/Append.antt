@@ -19,7 +19,7 @@ use Rattle.register.specs.Change.{newModule, appended}
 use Rattle.register.specs.Buffers.{Below, padded, length-flat, records-are, names-are, encodeRecords, encodeNames}
 use Rattle.register.specs.declared.append.draft.Draft.{Draft}
 use Rattle.register.specs.declared.append.draft.Drafted.the-variants.{Open, Full}
-use Rattle.register.specs.Append.Sets.{sets-inside, four-inside, word-below, store-word, flat-set, flat-append}
+use Rattle.register.specs.Append.Sets.{sets-over, four-inside, word-below, store-word, flat-set, flat-append}
 use Rattle.register.specs.Append.Draft.{roomIn, room-inside, room-word, usedBytes, usedNames, opened, firstWords, draftAt, beginRecord, finishRecord, cleared, givenUp}
 use Rattle.register.specs.Append.Held.{Held}
 use Rattle.register.specs.Append.Steps.{held-ready, ready-open}
@@ -45,27 +45,18 @@ sets-zeros a (v ∷ vs) (suc k) h =
     ∙ sets-zeros (a ++ (v ∷ [])) vs k (omega arith)
     ∙ ap (λ t. t ++ replicate (k - length vs) 0) (append-assoc a (v ∷ []) vs))
 
--- zeros stored again over what was stored over zeros
-sets-all : (bs cs : List ℕ) → length cs ≡ length bs → sets bs 0 cs ≡ cs
-sets-all bs cs e =
-    let z : 0 + length cs ≡ length bs = omega arith in
-    sets-eq cs bs 0 (omega arith) ∙ rw (z, drop-length, append-nil cs)
-
+-- zeros stored over what was stored over zeros, and over zeros after it
 zeros-again
-    : (x bs : List ℕ) (k o : ℕ) → o ≡ length x → length bs ≤ k
-    → sets (sets (x ++ replicate k 0) o bs) o (replicate (length bs) 0) ≡ x ++ replicate k 0
-zeros-again x bs k o e h =
-    let r = replicate {A = ℕ} (length bs) 0 in
-    let lr : length r ≡ length bs = length-replicate (length bs) 0 in
-    let z : o + 0 ≡ o = omega arith in
-    let d : length bs + (k - length bs) ≡ k = omega arith in
-    ap (λ t. sets (sets (x ++ replicate k 0) o bs) t r) (sym z)
-    ∙ sets-inside (x ++ replicate k 0) o bs 0 r (omega arith)
-    ∙ ap (sets (x ++ replicate k 0) o) (sets-all bs r lr)
+    : (x bs : List ℕ) (k o n : ℕ) → o ≡ length x → length bs ≤ n → n ≤ k
+    → sets (sets (x ++ replicate k 0) o bs) o (replicate n 0) ≡ x ++ replicate k 0
+zeros-again x bs k o n e h g =
+    let r = replicate {A = ℕ} n 0 in
+    let lr : length r ≡ n = length-replicate n 0 in
+    let d : n + (k - n) ≡ k = omega arith in
+    sets-over (x ++ replicate k 0) o bs r (omega (arith, lr))
     ∙ ap (λ t. sets (x ++ replicate k 0) t r) e
-    ∙ sets-zeros x r k (omega arith)
-    ∙ rw lr (append-assoc x r (replicate (k - length bs) 0)
-    ∙ ap (λ t. x ++ t) (replicate-append-replicate (length bs) (k - length bs) 0 ∙ ap (λ t. replicate t 0) d))
+    ∙ sets-zeros x r k (omega (arith, lr))
+    ∙ rw lr (append-assoc x r (replicate (k - n) 0) ∙ ap (λ t. x ++ t) (replicate-append-replicate n (k - n) 0 ∙ ap (λ t. replicate t 0) d))
 
 -- words of a padded buffer: changed, and more of them
 
@@ -208,8 +199,7 @@ module _ (l n missing : List ℕ) (r : Register) (p : proper r ≡ true) (e : en
         ap (λ t. setWordIn t 16 (d .last)) s₂ ∙ set-padded (length l) (set (set w 0 c) 3 (d .end)) 4 (d .last) (omega (arith, size)) in
         let q : length (moduleWords (d .names) m) ≡ length mw = ap (λ k. length (moduleWords k m)) en in
         let o : opened d records ≡ true = ready-open d records names (held-ready l n d m records names h) in
-        let t : leb (d .last) 0xffff_ffff ≡ true = le-leb (d .last) 0xffff_ffff (omega (arith, h .name-room, room-word (length n))) in
-        rw (o, t, first-word, v)
+        rw (o, first-word, v)
         (s₃
         ∙ ap (λ t. padded (length l) (flat t))
         (words-appended r m (getD (wordsIn l) 3 0) (d .end) (d .last) (omega (arith, h .end, es))
@@ -229,31 +219,27 @@ module _ (l n missing : List ℕ) (r : Register) (p : proper r ≡ true) (e : en
         ∙ sets-zeros rn (moduleNames m) (length n - length rn) g
         ∙ rw (k, ← recordNames-more (r .modules) m)
 
-    -- given up: every byte as before
-    pub given-up : givenUp records names d ≡ (l, n)
-    unfolding givenUp cleared padded
-    given-up =
-        let x = flat (moduleWords (d .names) m) in
-        let lx : length x ≡ 4 * length (moduleWords (d .names) m) = length-flat (moduleWords (d .names) m) in
-        let le : length (flat E′) ≡ 4 * length E′ = length-flat E′ in
-        let rn = recordNames (r .modules) in
-        let a : l ≡ flat E′ ++ replicate (length l - length (flat E′)) 0 = records-are l n missing r b e in
-        let c : n ≡ rn ++ replicate (length n - length rn) 0 = names-are l n missing r e .0 in
-        let kr : d .end - d .start ≡ length x = omega (arith, h .end) in
-        let kn : d .last - d .names ≡ length (moduleNames m) = omega (arith, h .last) in
-        let g = room-inside (length l) in
-        let f = room-inside (length n) in
-        let er : sets records (d .start) (replicate (d .end - d .start) 0) ≡ l =
-        rw kr
-        (ap (λ t. sets t (d .start) (replicate (length x) 0)) (h .words ∙ ap (λ t. sets t (d .start) x) a)
-        ∙ zeros-again (flat E′) x (length l - length (flat E′)) (d .start) (omega (arith, es, size)) (omega (arith, h .end, h .room, es, size))
-        ∙ sym a) in
-        let fn : sets names (d .names) (replicate (d .last - d .names) 0) ≡ n =
-        rw kn
-        (ap (λ t. sets t (d .names) (replicate (length (moduleNames m)) 0)) (h .bytes ∙ ap (λ t. sets t (d .names) (moduleNames m)) c)
-        ∙ zeros-again rn (moduleNames m) (length n - length rn) (d .names) en (omega (arith, h .last, h .name-room, en))
-        ∙ sym c) in
-        rw (er, fn)
+  -- given up: every byte as before, whatever was written between the draft's places
+  pub given-up
+      : (d : Draft) (x y records names : List ℕ) → d .start ≡ 4 * length (encodeWords r) → d .names ≡ length (recordNames (r .modules))
+      → records ≡ sets l (d .start) x → names ≡ sets n (d .names) y → d .start + length x ≤ d .end → d .names + length y ≤ d .last
+      → d .end ≤ length l → d .last ≤ length n → givenUp records names d ≡ (l, n)
+  unfolding givenUp cleared padded
+  given-up d x y records names es en hx hy ee el room name-room =
+      let le : length (flat E′) ≡ 4 * length E′ = length-flat E′ in
+      let rn = recordNames (r .modules) in
+      let a : l ≡ flat E′ ++ replicate (length l - length (flat E′)) 0 = records-are l n missing r b e in
+      let c : n ≡ rn ++ replicate (length n - length rn) 0 = names-are l n missing r e .0 in
+      let er : sets records (d .start) (replicate (d .end - d .start) 0) ≡ l =
+      ap (λ t. sets t (d .start) (replicate (d .end - d .start) 0)) (hx ∙ ap (λ t. sets t (d .start) x) a)
+      ∙ zeros-again (flat E′) x (length l - length (flat E′)) (d .start) (d .end - d .start) (omega (arith, es, size)) (omega (arith, ee))
+      (omega (arith, room, es, size))
+      ∙ sym a in
+      let fn : sets names (d .names) (replicate (d .last - d .names) 0) ≡ n =
+      ap (λ t. sets t (d .names) (replicate (d .last - d .names) 0)) (hy ∙ ap (λ t. sets t (d .names) y) c)
+      ∙ zeros-again rn y (length n - length rn) (d .names) (d .last - d .names) en (omega (arith, el)) (omega (arith, name-room, en))
+      ∙ sym c in
+      rw (er, fn)
 
 -- begun: the first eight words and the name stand
 

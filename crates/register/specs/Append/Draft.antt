@@ -2,20 +2,19 @@
 use Prim.Native.Nat.{ℕ, _+_, _-_, _*_, _%_, _^_, _≤_, _<_}
 use native.Mathlib.Omega.{arith}
 use native.Mathlib.Decide.{decLt}
-use borrow.Author.Tests.{lt-ltb, le-ltb}
+use mathlib.Core.Path.{_≡_}
+use borrow.Author.Tests.{lt-ltb, le-ltb, leb-true}
 use mathlib.Core.List.{List, [], _∷_}
 use mathlib.Core.Bool.{Bool, true, false, _&&_}
 use lib.ListN.{length, getD, replicate}
 use lib.Seq.{sets}
 use lib.Dec.{ltb, leb}
 use Rattle.window.specs.Memory.{if_then_else_}
+use Rattle.window.specs.Tests.{both}
 use Rattle.window.specs.Word.{wordIn, setWordIn}
-use Rattle.register.specs.Words.{part, flat, wordsIn}
+use Rattle.register.specs.Words.{flat, wordsIn}
 use Rattle.register.specs.Encode.{flag}
-use Rattle.register.specs.Module.{findExport}
-use Rattle.register.specs.Decode.{settled, exportsIn}
-use Rattle.register.specs.declared.exports.Found.{Found}
-use Rattle.register.specs.declared.exports.Found.the-variants.{At, Nothing}
+use Rattle.register.specs.Decode.{settled}
 use Rattle.register.specs.declared.append.draft.Draft.{Draft}
 use Rattle.register.specs.declared.append.draft.Drafted.{Drafted}
 use Rattle.register.specs.declared.append.draft.Drafted.the-variants.{Open, Full}
@@ -58,9 +57,22 @@ unfoldable pub countUp : List ℕ → Draft → ℕ → List ℕ
 countUp records d field =
     setWordIn records (d .start + 4 * field) ((wordIn records (d .start + 4 * field) + 1) % 2 ^ 32)
 
--- the record's first eight words come before its end, and its end is in the buffer; a draft of which this is not true is full
+-- the record's first eight words come before its end, its end is in the buffer, and its names' end is a word; a draft of which this is not
+-- true is full
 unfoldable pub opened : Draft → List ℕ → Bool
-opened d records = leb (d .start + 32) (d .end) && leb (d .end) (roomIn (length records))
+opened d records = leb (d .start + 32) (d .end) && (leb (d .end) (roomIn (length records)) && leb (d .last) 0xffff_ffff)
+
+pub opened-parts
+    : (d : Draft) (records : List ℕ) → opened d records ≡ true
+    → (d .start + 32 ≤ d .end) × (d .end ≤ roomIn (length records)) × (d .last ≤ 0xffff_ffff)
+unfolding opened
+opened-parts d records e =
+    let a = both (leb (d .start + 32) (d .end)) (leb (d .end) (roomIn (length records)) && leb (d .last) 0xffff_ffff) e in
+    let b = both (leb (d .end) (roomIn (length records))) (leb (d .last) 0xffff_ffff) (a .1) in (
+      leb-true (d .start + 32) (d .end) (a .0),
+      leb-true (d .end) (roomIn (length records)) (b .0),
+      leb-true (d .last) 0xffff_ffff (b .1),
+    )
 
 unfoldable pub pushListed : List ℕ → Draft → ℕ → ℕ → Drafted × List ℕ
 pushListed records d field v =
@@ -68,44 +80,10 @@ pushListed records d field v =
     then (Open (longer d 4), countUp (setWordIn records (d .end) v) (longer d 4) field)
     else (Full, records)
 
--- an export more: its three words at the record's end, its name at the names' end, and the count
-unfoldable pub addedTo : Draft → List ℕ → Draft
-addedTo d name = record { start = d .start; end = d .end + 12; names = d .names; last = d .last + length name }
-
-unfoldable pub exportWritten : List ℕ → Draft → ℕ → ℕ → List ℕ
-exportWritten records d count address =
-    countUp (setWordIn (setWordIn (setWordIn records (d .end) (d .last)) (d .end + 4) count) (d .end + 8) address) d 6
-
-unfoldable pub addExport : List ℕ → List ℕ → Draft → List ℕ → ℕ → Drafted × List ℕ × List ℕ
-addExport records names d name address =
-    if leb (d .end + 12) (roomIn (length records)) && leb (d .last + length name) (roomIn (length names))
-    then (Open (addedTo d name), exportWritten records d (length name) address, sets names (d .last) name)
-    else (Full, records, names)
-
--- the exports that the record has so far
-unfoldable pub exportPlace : List ℕ → Draft → ℕ
-exportPlace records d = d .start + 4 * (8 + wordIn records (d .start + 20))
-
-unfoldable pub exportCount : List ℕ → Draft → ℕ
-exportCount records d = wordIn records (d .start + 24)
-
-unfoldable pub exportsSoFar : List ℕ → Draft → List ℕ
-exportsSoFar records d = part records (exportPlace records d) (12 * exportCount records d)
-
--- "A later export of the same name replaces an earlier one": its address, else one more
-unfoldable pub putAt : Found → List ℕ → List ℕ → Draft → List ℕ → ℕ → Drafted × List ℕ × List ℕ
-putAt (At k) records names d name address = (Open d, setWordIn records (exportPlace records d + 12 * k + 8) address, names)
-putAt Nothing records names d name address = addExport records names d name address
-
--- the exports that it counts come before its end
-unfoldable pub countsInside : List ℕ → Draft → Bool
-countsInside records d = leb (exportPlace records d + 12 * exportCount records d) (d .end)
-
-unfoldable pub putExport : List ℕ → List ℕ → Draft → List ℕ → ℕ → Drafted × List ℕ × List ℕ
-putExport records names d name address =
-    if opened d records && countsInside records d
-    then putAt (findExport (exportsIn (wordsIn (exportsSoFar records d)) names) name) records names d name address
-    else (Full, records, names)
+-- there is room for an export whose name has so many bytes
+unfoldable pub exportFits : List ℕ → List ℕ → Draft → ℕ → Bool
+exportFits records names d count =
+    leb (d .end + 12) (roomIn (length records)) && leb (d .last + count) (roomIn (length names))
 
 -- the first eight words of a record that has nothing yet but its name
 unfoldable pub firstWords : (base size : ℕ) → Bool → (q count : ℕ) → List ℕ
@@ -125,10 +103,10 @@ beginRecord records names base size auto name =
     )
     else (Full, records, names)
 
--- the header counts the record, and its words and names as used, where these are words
+-- the header counts the record, and its words and names as used
 unfoldable pub finishRecord : List ℕ → Draft → List ℕ
 finishRecord records d =
-    if opened d records && leb (d .last) 0xffff_ffff
+    if opened d records
     then setWordIn (setWordIn (setWordIn records 0 ((wordIn records 0 + 1) % 2 ^ 32)) 12 (d .end)) 16 (d .last)
     else records
 

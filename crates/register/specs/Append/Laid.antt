@@ -16,10 +16,10 @@ use Rattle.register.specs.declared.append.draft.Draft.{Draft}
 use Rattle.register.specs.declared.append.draft.Drafted.{Drafted}
 use Rattle.register.specs.declared.append.draft.Drafted.the-variants.{Open, Full}
 use Rattle.register.specs.Append.Sets.{push-laid, change-laid, word-laid, words-of}
-use Rattle.register.specs.Append.Draft.{roomIn, longer, countUp, opened, pushListed, exportWritten, exportPlace, exportCount, exportsSoFar}
+use Rattle.register.specs.Append.Draft.{roomIn, longer, countUp, opened, pushListed}
 
 -- a part of what was laid
-part-sets
+pub part-sets
     : (l : List ℕ) (o : ℕ) (bs : List ℕ) (i n : ℕ) → o + length bs ≤ length l → i + n ≤ length bs → part (sets l o bs) (o + i) n ≡ part bs i n
 unfolding part
 part-sets l o bs i n h g =
@@ -96,50 +96,3 @@ module _ (l : List ℕ) (d : Draft) (ws : List ℕ) (e : d .end ≡ d .start + 4
           ap (λ t. (Open (longer d 4), t))
           (rw pushed (count-laid (v ∷ []) field h (omega (arith, n)) (below-append ws (v ∷ []) (2 ^ 32) b (below-one v k)) s))
       go false p = refl
-
-  -- an export's three words at the end, counted
-  pub export-laid
-      : (count address : ℕ) → 6 < length ws → d .last < 2 ^ 32 → count < 2 ^ 32 → address < 2 ^ 32 → getD ws 6 0 + 1 < 2 ^ 32
-      → d .end + 12 ≤ length l
-      → exportWritten held d count address
-      ≡ sets l (d .start) (flat (set (ws ++ (d .last ∷ count ∷ address ∷ [])) 6 (getD ws 6 0 + 1)))
-  unfolding exportWritten countUp
-  export-laid count address h hl hc ha s g =
-      let q = d .last in
-      let a₁ : ws ++ (q ∷ []) ++ (count ∷ []) ≡ ws ++ (q ∷ count ∷ []) = append-assoc ws (q ∷ []) (count ∷ []) in
-      let a₂ : ws ++ (q ∷ count ∷ []) ++ (address ∷ []) ≡ ws ++ (q ∷ count ∷ address ∷ []) = append-assoc ws (q ∷ count ∷ []) (address ∷ []) in
-      let n₁ : length (ws ++ (q ∷ [])) ≡ length ws + 1 = length-append ws (q ∷ []) in
-      let n₂ : length (ws ++ (q ∷ count ∷ [])) ≡ length ws + 2 = length-append ws (q ∷ count ∷ []) in
-      let n₃ : length (ws ++ (q ∷ count ∷ address ∷ [])) ≡ length ws + 3 = length-append ws (q ∷ count ∷ address ∷ []) in
-      let e₁ : setWordIn held (d .end) q ≡ sets l (d .start) (flat (ws ++ (q ∷ []))) = rw e (push-laid l (d .start) ws q) in
-      let p₂ : d .end + 4 ≡ d .start + 4 * length (ws ++ (q ∷ [])) = omega arith in
-      let p₃ : d .end + 8 ≡ d .start + 4 * length (ws ++ (q ∷ count ∷ [])) = omega arith in
-      let e₂ : setWordIn (setWordIn held (d .end) q) (d .end + 4) count ≡ sets l (d .start) (flat (ws ++ (q ∷ count ∷ []))) =
-      rw (e₁, p₂) (push-laid l (d .start) (ws ++ (q ∷ [])) count ∙ ap (λ t. sets l (d .start) (flat t)) a₁) in
-      let e₃ : setWordIn (setWordIn (setWordIn held (d .end) q) (d .end + 4) count) (d .end + 8) address
-      ≡ sets l (d .start) (flat (ws ++ (q ∷ count ∷ address ∷ []))) =
-      rw (e₂, p₃) (push-laid l (d .start) (ws ++ (q ∷ count ∷ [])) address ∙ ap (λ t. sets l (d .start) (flat t)) a₂) in
-      rw e₃
-      (count-laid (q ∷ count ∷ address ∷ []) 6 h (omega arith)
-      (below-append ws (q ∷ count ∷ address ∷ []) (2 ^ 32) b (below-three q count address hl hc ha))
-      s)
-
-  -- the exports that it has
-  pub so-far-laid
-      : 7 < length ws → d .start + 4 * length ws ≤ length l → 8 + (getD ws 5 0 + 3 * getD ws 6 0) ≤ length ws
-      → (exportPlace held d ≡ d .start + 4 * (8 + getD ws 5 0))
-      × (exportCount held d ≡ getD ws 6 0)
-      × (wordsIn (exportsSoFar held d) ≡ part ws (8 + getD ws 5 0) (3 * getD ws 6 0))
-  unfolding exportsSoFar exportPlace exportCount
-  so-far-laid h g k =
-      let w₅ : wordIn held (d .start + 20) ≡ getD ws 5 0 = word-laid l (d .start) ws 5 g b (omega arith) in
-      let w₆ : wordIn held (d .start + 24) ≡ getD ws 6 0 = word-laid l (d .start) ws 6 g b (omega arith) in
-      let n : 12 * getD ws 6 0 ≡ 4 * (3 * getD ws 6 0) = omega arith in
-      let f : length (flat ws) ≡ 4 * length ws = length-flat ws in
-      let p : part held (d .start + 4 * (8 + getD ws 5 0)) (4 * (3 * getD ws 6 0)) ≡ part (flat ws) (4 * (8 + getD ws 5 0)) (4 * (3 * getD ws 6 0)) =
-      part-sets l (d .start) (flat ws) (4 * (8 + getD ws 5 0)) (4 * (3 * getD ws 6 0)) (omega arith) (omega arith) in (
-        rw w₅,
-        w₆,
-        rw (w₅, w₆, n, p) (part-words (flat ws) (8 + getD ws 5 0) (3 * getD ws 6 0)
-            ∙ ap (λ t. part t (8 + getD ws 5 0) (3 * getD ws 6 0)) (words-of ws b)),
-      )

@@ -15,10 +15,24 @@ pub sets-append : (l : List ℕ) (i : ℕ) (vs us : List ℕ) → sets l i (vs +
 sets-append l i [] us = let z : i + 0 ≡ i = omega arith in rw z
 sets-append l i (v ∷ vs) us = let z : i + suc (length vs) ≡ suc i + length vs = omega arith in rw z (sets-append (set l i v) (suc i) vs us)
 
-set-before : (l : List ℕ) (i : ℕ) (vs : List ℕ) (j a : ℕ) → j < i → set (sets l i vs) j a ≡ sets (set l j a) i vs
+pub set-before : (l : List ℕ) (i : ℕ) (vs : List ℕ) (j a : ℕ) → j < i → set (sets l i vs) j a ≡ sets (set l j a) i vs
 set-before l i [] j a h = refl
 set-before l i (v ∷ vs) j a h =
     set-before (set l i v) (suc i) vs j a (omega arith) ∙ ap (λ t. sets t (suc i) vs) (set-comm l i j v a (λ e. omega arith))
+
+-- a run before another
+pub sets-before : (l : List ℕ) (i : ℕ) (vs : List ℕ) (j : ℕ) (us : List ℕ) → j + length us ≤ i → sets (sets l i vs) j us ≡ sets (sets l j us) i vs
+sets-before l i vs j [] h = refl
+sets-before l i vs j (u ∷ us) h =
+    ap (λ t. sets t (suc j) us) (set-before l i vs j u (omega arith)) ∙ sets-before (set l j u) i vs (suc j) us (omega arith)
+
+-- a run over a shorter one
+pub sets-over : (l : List ℕ) (i : ℕ) (vs us : List ℕ) → length vs ≤ length us → sets (sets l i vs) i us ≡ sets l i us
+sets-over l i [] us h = refl
+sets-over l i (v ∷ vs) [] h = absurd (omega arith)
+sets-over l i (v ∷ vs) (u ∷ us) h =
+    ap (λ t. sets t (suc i) us) (set-before (set l i v) (suc i) vs i u (omega arith) ∙ ap (λ t. sets t (suc i) vs) (set-set l i v u))
+    ∙ sets-over (set l i u) (suc i) vs us (omega arith)
 
 set-inside : (l : List ℕ) (o : ℕ) (bs : List ℕ) (i a : ℕ) → i < length bs → set (sets l o bs) (o + i) a ≡ sets l o (set bs i a)
 set-inside l o [] i a h = absurd (omega arith)
@@ -37,7 +51,7 @@ sets-inside l o bs i (c ∷ cs) h =
     let s : length (set bs i c) ≡ length bs = length-set bs i c in
     rw (set-inside l o bs i c (omega arith), z) (sets-inside l o (set bs i c) (suc i) cs (omega arith))
 
-getD-below : (l : List ℕ) (i : ℕ) (vs : List ℕ) (j : ℕ) → j < i → getD (sets l i vs) j 0 ≡ getD l j 0
+pub getD-below : (l : List ℕ) (i : ℕ) (vs : List ℕ) (j : ℕ) → j < i → getD (sets l i vs) j 0 ≡ getD l j 0
 getD-below l i [] j h = refl
 getD-below l i (v ∷ vs) j h = getD-below (set l i v) (suc i) vs j (omega arith) ∙ getD-set-other l i j v 0 (λ e. omega arith)
 
@@ -139,6 +153,23 @@ module _ (l : List ℕ) (o : ℕ) (ws : List ℕ) where
       let b₀ : getD laid (o + 4 * i) 0 ≡ getD (flat ws) (4 * i) 0 = rw (z₁, z₂) at (at 0 (omega arith)) in
       rw (b₀, at 1 (omega arith), at 2 (omega arith), at 3 (omega arith)) (word-row (flat ws) i (omega arith) ∙ ap (λ t. getD t i 0) (words-of ws b))
 
+-- two stores, one after another
+pub two-words
+    : (l : List ℕ) (o a₁ a₂ : ℕ) {w₁ w₂ : List ℕ} → w₁ ≡ setWordIn l o a₁ → w₂ ≡ setWordIn w₁ (o + 4) a₂ → w₂ ≡ sets l o (flat (a₁ ∷ a₂ ∷ []))
+unfolding flat
+two-words l o a₁ a₂ {w₁} p₁ p₂ =
+    let z : o + 0 ≡ o = omega arith in
+    let e₁ : w₁ ≡ sets l o (flat (a₁ ∷ [])) = p₁ ∙ ap (λ t. setWordIn l t a₁) (sym z) ∙ push-laid l o [] a₁ in
+    p₂ ∙ ap (λ t. setWordIn t (o + 4) a₂) e₁ ∙ push-laid l o (a₁ ∷ []) a₂
+
+-- three
+pub three-words
+    : (l : List ℕ) (o a₁ a₂ a₃ : ℕ) {w₁ w₂ w₃ : List ℕ} → w₁ ≡ setWordIn l o a₁ → w₂ ≡ setWordIn w₁ (o + 4) a₂ → w₃ ≡ setWordIn w₂ (o + 8) a₃
+    → w₃ ≡ sets l o (flat (a₁ ∷ a₂ ∷ a₃ ∷ []))
+unfolding flat
+three-words l o a₁ a₂ a₃ p₁ p₂ p₃ =
+    p₃ ∙ ap (λ t. setWordIn t (o + 8) a₃) (two-words l o a₁ a₂ p₁ p₂) ∙ push-laid l o (a₁ ∷ a₂ ∷ []) a₃
+
 -- eight stores, one after another
 pub eight-words
     : (l : List ℕ) (o a₁ a₂ a₃ a₄ a₅ a₆ a₇ a₈ : ℕ) {w₁ w₂ w₃ w₄ w₅ w₆ w₇ w₈ : List ℕ} → w₁ ≡ setWordIn l o a₁ → w₂ ≡ setWordIn w₁ (o + 4) a₂
@@ -146,11 +177,8 @@ pub eight-words
     → w₇ ≡ setWordIn w₆ (o + 24) a₇ → w₈ ≡ setWordIn w₇ (o + 28) a₈
     → w₈ ≡ sets l o (flat (a₁ ∷ a₂ ∷ a₃ ∷ a₄ ∷ a₅ ∷ a₆ ∷ a₇ ∷ a₈ ∷ []))
 unfolding flat
-eight-words l o a₁ a₂ a₃ a₄ a₅ a₆ a₇ a₈ {w₁} {w₂} {w₃} {w₄} {w₅} {w₆} {w₇} p₁ p₂ p₃ p₄ p₅ p₆ p₇ p₈ =
-    let z : o + 0 ≡ o = omega arith in
-    let e₁ : w₁ ≡ sets l o (flat (a₁ ∷ [])) = p₁ ∙ ap (λ t. setWordIn l t a₁) (sym z) ∙ push-laid l o [] a₁ in
-    let e₂ : w₂ ≡ sets l o (flat (a₁ ∷ a₂ ∷ [])) = p₂ ∙ ap (λ t. setWordIn t (o + 4) a₂) e₁ ∙ push-laid l o (a₁ ∷ []) a₂ in
-    let e₃ : w₃ ≡ sets l o (flat (a₁ ∷ a₂ ∷ a₃ ∷ [])) = p₃ ∙ ap (λ t. setWordIn t (o + 8) a₃) e₂ ∙ push-laid l o (a₁ ∷ a₂ ∷ []) a₃ in
+eight-words l o a₁ a₂ a₃ a₄ a₅ a₆ a₇ a₈ {w₃ = w₃} {w₄ = w₄} {w₅ = w₅} {w₆ = w₆} {w₇ = w₇} p₁ p₂ p₃ p₄ p₅ p₆ p₇ p₈ =
+    let e₃ : w₃ ≡ sets l o (flat (a₁ ∷ a₂ ∷ a₃ ∷ [])) = three-words l o a₁ a₂ a₃ p₁ p₂ p₃ in
     let e₄ : w₄ ≡ sets l o (flat (a₁ ∷ a₂ ∷ a₃ ∷ a₄ ∷ [])) = p₄ ∙ ap (λ t. setWordIn t (o + 12) a₄) e₃ ∙ push-laid l o (a₁ ∷ a₂ ∷ a₃ ∷ []) a₄ in
     let e₅ : w₅ ≡ sets l o (flat (a₁ ∷ a₂ ∷ a₃ ∷ a₄ ∷ a₅ ∷ [])) =
     p₅ ∙ ap (λ t. setWordIn t (o + 16) a₅) e₄ ∙ push-laid l o (a₁ ∷ a₂ ∷ a₃ ∷ a₄ ∷ []) a₅ in

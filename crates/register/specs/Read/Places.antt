@@ -2,17 +2,20 @@
 use Prim.Native.Nat.{ℕ, _+_, _*_, _%_, _≤_}
 use mathlib.Core.Path.{_≡_, refl, sym, ap, subst}
 use mathlib.Core.List.{List, [], _∷_, _++_}
-use mathlib.Core.Bool.{Bool, true, false}
+use mathlib.Core.Bool.{Bool, true, false, _&&_}
 use native.Mathlib.Omega.{arith}
 use lib.ListN.{length, length-append}
+use lib.Dec.{leb}
 use Rattle.window.specs.Memory.{if_then_else_}
+use Rattle.window.specs.Name.{isName}
+use Rattle.window.specs.Tests.{both}
 use Rattle.register.specs.Words.{part}
-use Rattle.register.specs.Module.{Module, properModule}
+use Rattle.register.specs.Module.{Module, named-ok, ascending, properModule}
 use Rattle.register.specs.Encode.{exportWords, moduleWords}
 use Rattle.register.specs.Decode.{readModule}
 use Rattle.register.specs.CheckComplete.{length-exportWords}
 use Rattle.register.specs.declared.exports.Found.the-variants.{At, Nothing}
-use Rattle.register.specs.Read.Read.{moduleBytes, placeFrom, placeAfter, recordAt, recordEnd, moduleAt, recordOf}
+use Rattle.register.specs.Read.Read.{moduleBytes, placeFrom, placeAfter, recordAt, recordEnd, moduleAt, recordOf, Sorted}
 
 -- the words of a module do not depend on where its names stand
 pub module-bytes : (q : ℕ) (m : Module) → moduleBytes m ≡ 4 * length (moduleWords q m)
@@ -43,6 +46,14 @@ pub stands-name
     → part names (recordAt records place .«name_offset») (recordAt records place .«name_length») ≡ m .name
 unfolding recordAt moduleAt readModule
 stands-name s = ap (λ (x : Module). x .name) (s .back)
+
+pub sorted-at : {records names : List ℕ} {place : ℕ} {m : Module} → RecordStands records names place m → Sorted records names place
+unfolding Sorted properModule
+sorted-at {m = m} s =
+    let t : Bool = named-ok (m .named) && ascending (m .named) in
+    let p = both (isName (m .name)) (leb (length (m .segments)) 16 && t) (s .proper) in
+    let q = both (leb (length (m .segments)) 16) t (p .1) in
+    rw (s .back) (both (named-ok (m .named)) (ascending (m .named)) (q .1) .1)
 
 -- the records of the modules, one after another
 pub data RecordsStand (records names : List ℕ) : ℕ → List Module → Type 0 where

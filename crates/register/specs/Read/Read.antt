@@ -7,7 +7,7 @@ use lib.ListN.{length, take, drop, getD}
 use lib.Dec.{eqb, ltb}
 use Rattle.window.specs.Memory.{if_then_else_}
 use Rattle.register.specs.Words.{same, wordsIn}
-use Rattle.register.specs.Module.{Export, Module}
+use Rattle.register.specs.Module.{Export, Module, ascending}
 use Rattle.register.specs.Encode.{flag}
 use Rattle.register.specs.Decode.{readModule, readModules, settled, body, isRegister}
 use Rattle.register.specs.declared.exports.Found.{Found}
@@ -88,6 +88,10 @@ recordEnd r = r .place + 4 * (8 + (r .segments + (3 * r .named + r .indexed)))
 
 unfoldable pub moduleAt : List ℕ → List ℕ → ℕ → Module
 moduleAt records names place = readModule (wordsIn (drop place records)) names
+
+-- the exports of the record at `place` stand in ascending order of their names
+unfoldable pub Sorted : List ℕ → List ℕ → ℕ → Type 0
+Sorted records names place = ascending (moduleAt records names place .named) ≡ true
 
 -- the first words of a module's record at `place`, its names standing from `offset` on
 abbrev pub recordOf : ℕ → ℕ → Module → Record

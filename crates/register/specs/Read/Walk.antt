@@ -10,8 +10,8 @@ use Rattle.register.specs.Module.{Module}
 use Rattle.register.specs.declared.exports.Found.the-variants as found
 use Rattle.register.specs.declared.read.Symbol.{Symbol}
 use Rattle.register.specs.declared.read.Symbol.the-variants.{At, Nothing}
-use Rattle.register.specs.Read.Read.{Encoded, modulesOf, moduleBytes, placeFrom, exportOf, orElse, lookupIn, recordAt, recordEnd}
-use Rattle.register.specs.Read.Places.{RecordStands, stands-end, RecordsStand, next}
+use Rattle.register.specs.Read.Read.{Encoded, modulesOf, moduleBytes, placeFrom, exportOf, orElse, lookupIn, recordAt, recordEnd, Sorted}
+use Rattle.register.specs.Read.Places.{RecordStands, stands-end, sorted-at, RecordsStand, next}
 use Rattle.register.specs.Read.Encoded.{modules-stand, module-count}
 
 -- a sum that fits 64 bits is what it is modulo 2^64
@@ -71,6 +71,10 @@ module _ {A : Type 0} (f : ℕ → List Module → A) (records names : List ℕ)
       -- the record at `place` ends inside the buffer
       pub walk-fits : recordEnd (recordAt records place) ≤ length records
       walk-fits = let s = walk-turn .stands in omega (arith, stands-end s, s .inside)
+
+      -- its exports are sorted
+      pub walk-sorted : Sorted records names place
+      walk-sorted = sorted-at (walk-turn .stands)
 
       -- the answer is found at the record at `place`
       pub walk-stops

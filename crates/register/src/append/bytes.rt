@@ -27,7 +27,7 @@ pub(crate) fn fits(free: usize, from: usize, count: usize) -> bool
 }
 
 // Copies `source` into the buffer from `place` on, as far as there are bytes.
-pub(crate) fn copy_into(buffer: &mut [u8], place: usize, source: &[u8])
+pub fn copy_into(buffer: &mut [u8], place: usize, source: &[u8])
     ensures { λ _. ⌜ now (buffer .exit) ≡ sets (now (buffer .entry)) place (now (source .entry)) ⌝ }
 {
     let mut i: usize = 0;

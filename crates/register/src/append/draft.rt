@@ -2,10 +2,8 @@
 ghost use mathlib.Core.Path.{_≡_};
 ghost use Prim.Native.Nat.{_+_, _*_, _≤_, _<_};
 ghost use lib.ListN.{length};
-ghost use Rattle.register.specs.Append.Draft.{pushWord, opened, countUp, pushListed, addExport, putExport, finishRecord, givenUp};
+ghost use Rattle.register.specs.Append.Draft.{pushWord, opened, countUp, pushListed, exportFits, finishRecord, givenUp};
 use crate::append::bytes;
-use crate::exports;
-use crate::exports::Found;
 
 // Where a record's words and names begin and end in the two buffers.
 pub struct Draft {
@@ -42,14 +40,17 @@ fn push_word(records: &mut [u8], draft: Draft, value: u32) -> Drafted
     })
 }
 
-// Whether the record's first eight words come before its end, and its end is in the buffer.
-fn is_open(records: &[u8], draft: Draft) -> bool
+// Whether the record's first eight words come before its end, its end is in the buffer, and its names' end is a word.
+pub fn is_open(records: &[u8], draft: Draft) -> bool
     ensures { λ r. ⌜ r ≡ opened draft (now (records .entry)) ⌝ }
 {
     if !bytes::fits(draft.end, draft.start, 32) {
         return false;
     }
-    draft.end <= bytes::room(records.len())
+    if bytes::room(records.len()) < draft.end {
+        return false;
+    }
+    draft.last <= 0xFFFF_FFFF
 }
 
 // Adds one to word number `field` of the record.
@@ -93,67 +94,14 @@ pub fn push_indexed(records: &mut [u8], draft: Draft, address: u32) -> Drafted
     push_listed(records, draft, 7, address)
 }
 
-// Writes a named export: three words, its name, and the count.
-fn add_export(
-    records: &mut [u8],
-    names: &mut [u8],
-    draft: Draft,
-    name: &[u8],
-    address: u32,
-) -> Drafted
-    requires { ⌜ draft .start + 32 ≤ length (now records) ⌝ }
-    ensures { λ r. ⌜ (r, now (records .exit), now (names .exit))
-        ≡ addExport (now (records .entry)) (now (names .entry)) draft (now (name .entry)) address ⌝ }
+// Whether there is room for an export whose name has `count` bytes.
+pub fn has_room(records: &[u8], names: &[u8], draft: Draft, count: usize) -> bool
+    ensures { λ r. ⌜ r ≡ exportFits (now (records .entry)) (now (names .entry)) draft count ⌝ }
 {
-    let end = draft.end;
-    let last = draft.last;
-    let count = name.len();
-    if !bytes::fits(bytes::room(records.len()), end, 12) {
-        return Drafted::Full;
+    if !bytes::fits(bytes::room(records.len()), draft.end, 12) {
+        return false;
     }
-    if !bytes::fits(bytes::room(names.len()), last, count) {
-        return Drafted::Full;
-    }
-    window::store32(records, end, last as u32);
-    window::store32(records, end + 4, count as u32);
-    window::store32(records, end + 8, address);
-    count_up(records, draft, 6);
-    bytes::copy_into(names, last, name);
-    Drafted::Open(Draft {
-        start: draft.start,
-        end: end + 12,
-        names: draft.names,
-        last: last + count,
-    })
-}
-
-// Gives the record an export: a later one of the same name replaces the address of an earlier one.
-pub fn put_export(
-    records: &mut [u8],
-    names: &mut [u8],
-    draft: Draft,
-    name: &[u8],
-    address: u32,
-) -> Drafted
-    ensures { λ r. ⌜ (r, now (records .exit), now (names .exit))
-        ≡ putExport (now (records .entry)) (now (names .entry)) draft (now (name .entry)) address ⌝ }
-{
-    if !is_open(records, draft) {
-        return Drafted::Full;
-    }
-    let start = draft.start;
-    let from = start + 4 * (8 + (window::load32(records, start + 20) as usize));
-    let to = from + 12 * (window::load32(records, start + 24) as usize);
-    if draft.end < to {
-        return Drafted::Full;
-    }
-    match exports::find_export(&records[from..to], names, name) {
-        Found::At(k) => {
-            window::store32(records, from + 12 * k + 8, address);
-            Drafted::Open(draft)
-        }
-        Found::Nothing => add_export(records, names, draft, name, address),
-    }
+    bytes::fits(bytes::room(names.len()), draft.last, count)
 }
 
 // Counts the record in the header: it stands.
@@ -161,9 +109,6 @@ pub fn finish_record(records: &mut [u8], draft: Draft)
     ensures { λ _. ⌜ now (records .exit) ≡ finishRecord (now (records .entry)) draft ⌝ }
 {
     if !is_open(records, draft) {
-        return;
-    }
-    if 0xFFFF_FFFF < draft.last {
         return;
     }
     let count = window::load32(records, 0);

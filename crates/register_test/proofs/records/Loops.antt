@@ -11,7 +11,7 @@ use borrow.Author.Tests.{eq-eqb, ne-eqb, le-leb}
 use Rattle.window.specs.Memory.{if_then_else_}
 use Rattle.window.specs.Name.{noZero}
 use Rattle.register.specs.Words.{part, wordsIn, words-drop, length-words, part-words}
-use Rattle.register.specs.Module.{distinct}
+use Rattle.register.specs.Module.{ascending}
 use Rattle.register.specs.Decode.{moduleSize, exportsIn}
 use Rattle.register.specs.Check.{nameOk, exportsEnd, fixedOk, exportPart, moduleEnd, modulesOk}
 use Rattle.register.specs.CheckSound.{named, fixed}
@@ -78,14 +78,14 @@ module _ (ws names : List ℕ) (q : ℕ) where
   unfolding moduleEnd
   module-bad s z = rw (← s, z)
 
-  pub module-twice
-      : {t u : Bool} (es : List ℕ) → t ≡ fixedOk ws names q → t ≡ true → es ≡ exportPart ws → u ≡ distinct (exportsIn es names) → u ≡ false
+  pub module-disordered
+      : {t u : Bool} (es : List ℕ) → t ≡ fixedOk ws names q → t ≡ true → es ≡ exportPart ws → u ≡ ascending (exportsIn es names) → u ≡ false
       → Bad ≡ moduleEnd ws names q
   unfolding moduleEnd
-  module-twice es s z e d y = rw (← s, z, ← e, ← d, y)
+  module-disordered es s z e d y = rw (← s, z, ← e, ← d, y)
 
   pub module-end
-      : {t u : Bool} {r : End} {l : ℕ} (es : List ℕ) → t ≡ fixedOk ws names q → t ≡ true → es ≡ exportPart ws → u ≡ distinct (exportsIn es names)
+      : {t u : Bool} {r : End} {l : ℕ} (es : List ℕ) → t ≡ fixedOk ws names q → t ≡ true → es ≡ exportPart ws → u ≡ ascending (exportsIn es names)
       → u ≡ true → l ≡ getD ws 4 0 → r ≡ exportsEnd (length es / 3) es names 0 (q + l) → r ≡ moduleEnd ws names q
   unfolding moduleEnd
   module-end es s z e d y el f = f ∙ rw (el, e, ← s, z, ← e, ← d, y)
@@ -122,7 +122,7 @@ left-over r place = length-words (drop place r) ∙ ap (λ x. x / 4) (length-dro
 pub module-fits
     : (ws names : List ℕ) (q : ℕ) {e : End} {q′ : ℕ} → e ≡ moduleEnd ws names q → e ≡ At q′ → moduleSize ws ≤ length ws
 unfolding moduleEnd
-module-fits ws names q {q′ = q′} s z = go (fixedOk ws names q) (distinct (exportsIn (exportPart ws) names)) refl (sym s ∙ z)
+module-fits ws names q {q′ = q′} s z = go (fixedOk ws names q) (ascending (exportsIn (exportPart ws) names)) refl (sym s ∙ z)
   where
     go
         : (a b : Bool) → fixedOk ws names q ≡ a

@@ -1,6 +1,6 @@
 -- Five steps, one after another: `links`.
 use mathlib.Core.Path.{_∙_}
-use Rattle.linker.specs.Calls.Linked.{still-encoded, links}
+use Rattle.linker.specs.Calls.Linked.{still-encoded, still-sorted, links}
 use borrow.Author.Needs.{needs}
 use Rattle.linker.proofs.calls.link.Statement.{statement}
 use Rattle.linker.proofs.calls.link.Tie as tie
@@ -25,9 +25,12 @@ apply-exports-to-loaded-requires c κs =
     let p19 = c .before .before .before .before .before .before .before .before .before .before .before .before .before .before .before .before .before .before .before in
     let p28 = p19 .before .before .before .before .before .before .before .before .before in
     let p37 = p28 .before .before .before .before .before .before .before .before .before in
-    let a = p37 .args in
-    still-encoded (a .at) (a .records .now) (a .names .now) (a .missing .now) (a .given) (a .auto-link) (a .fix-level) (a .w .now, a .trace .now) (p28 .list .ensures) _ _
-    (p19 .apply-import-named-symbols .ensures)
+    let a = p37 .args in (
+      still-encoded (a .at) (a .records .now) (a .names .now) (a .missing .now) (a .given) (a .auto-link) (a .fix-level) (a .w .now, a .trace .now) (p28 .list .ensures) _ _
+          (p19 .apply-import-named-symbols .ensures),
+      still-sorted (a .at) (a .records .now) (a .names .now) (a .missing .now) (a .given) (a .auto-link) (a .fix-level) (a .w .now, a .trace .now) (p28 .list .ensures) _ _
+          (p19 .apply-import-named-symbols .ensures) (p37 .pre .1),
+    )
 
 fix-requires : tie.Need-fix-requires
 fix-requires c κs = search needs

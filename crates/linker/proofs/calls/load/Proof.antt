@@ -46,13 +46,16 @@ link-requires c κs =
     let p12 = p5 .before .before .before .before .before .before .before in
     let p14 = p12 .before .before in
     let p23 = p14 .before .before .before .before .before .before .before .before .before in
-    let p30 = p23 .before .before .before .before .before .before .before in
+    let p26 = p23 .before .before .before in
+    let p30 = p26 .before .before .before .before in
     let p33 = p30 .before .before .before in
     let a = p33 .args in
     let b = buffers (a .w .now) (a .records .now) (a .names .now) (a .missing .now) in
     let g = p33 .good .1 .1 .1 .1 .1 .1 .0 in
+    let l =
     load-linkable (a .at) (a .given) (a .auto-link) (a .fix-level) b (a .trace .now) (p23 .rebase .ensures) (p14 .add-record .ensures) (p33 .pre) (p5 .if1 .left)
-    (λ i. omega (arith, p12 .slice-known8 .given i)) (λ i. omega (arith, p30 .slice-known3 .given i)) (omega (arith, g .1 .1 .0 .1)) (omega (arith, g .1 .1 .1 .0 .1))
+    (λ i. omega (arith, p12 .slice-known8 .given i)) (λ i. omega (arith, p30 .slice-known3 .given i)) (omega (arith, g .1 .1 .0 .1)) (omega (arith, g .1 .1 .1 .0 .1)) in
+    (l .0, l .1 _ (p26 .used-bytes .ensures))
 
 same-length-5 : tie.Need-same-length-5
 same-length-5 c = search needs

@@ -1,6 +1,6 @@
 -- By whether a module has the base: `unload-none`, `unload-done`.
 use Rattle.linker_spec.specs.Outcome.{buffers}
-use Rattle.linker.proofs.calls.Calls.{unload-none, unload-stands, unload-done}
+use Rattle.linker.proofs.calls.Calls.{unload-none, unload-stands, unload-sorted, unload-done}
 use borrow.Author.Needs.{needs}
 use Rattle.linker.proofs.calls.unload.Statement.{statement}
 use Rattle.linker.proofs.calls.unload.Tie as tie
@@ -28,7 +28,15 @@ returns c =
     unload-none (a .at) (a .base) b (a .trace .now) (p9 .pre) (p2 .first-with-base .ensures) (c .enum-told .given .1)
 
 reset-importers-requires : tie.Need-reset-importers-requires
-reset-importers-requires c κs = search needs
+reset-importers-requires c κs =
+    let p5 = c .before .before .before .before .before in
+    let p7 = p5 .before .before in
+    let p14 = p7 .before .before .before .before .before .before .before in
+    let a = p14 .args in
+    let b = buffers (a .w .now) (a .records .now) (a .names .now) (a .missing .now) in (
+      (_, p14 .pre),
+      unload-sorted (a .at) (a .base) b (a .trace .now) (p14 .pre) (p7 .first-with-base .ensures) _ (p5 .place .given .1),
+    )
 
 unlist-requires : tie.Need-unlist-requires
 unlist-requires c κs = search needs

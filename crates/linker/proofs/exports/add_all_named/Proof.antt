@@ -1,123 +1,151 @@
-use Prim.Native.Nat.{_+_, _-_, _≤_}
-use mathlib.Core.Path.{_≡_, refl, _∙_}
+use Prim.Native.Nat.{_-_}
 use native.Mathlib.Omega.{arith}
 use lib.ListN.{length}
+use borrow.Rule.Slice.PartMut.{same-len-mid}
 use borrow.Author.Needs.{needs}
-use Rattle.layout.specs.Header.{exportNamedSymbolTableOffset}
-use Rattle.layout.specs.Segments.{field-word}
-use Rattle.register.specs.declared.append.draft.Drafted.the-variants.{Open}
-use Rattle.linker.specs.Exports.Modules.{DraftStep, Unindexed}
-use Rattle.linker.proofs.exports.Laws.{no-turn, turn-open, turn-full, WithNamedTo, named-to, named-done}
+use borrow.Author.Tests.{not-true, not-false}
+use Rattle.register.specs.Append.Draft.{room-inside, room-word}
+use Rattle.linker.proofs.exports.Laws.{shut-named, full-named, written-named, open-draft}
+use Rattle.linker.proofs.waiting.Laws.{open-ends}
 use Rattle.linker.proofs.exports.add_all_named.Statement.{statement}
 use Rattle.linker.proofs.exports.add_all_named.Tie as tie
 
-abbrev Inv-loop : tie.InvT-loop
-Inv-loop at w base records₀ names₀ table count last₀ i₀ records names last i =
-    (length records ≡ length records₀)
-    × (length names ≡ length names₀)
-    × (i ≤ count)
-    × DraftStep Unindexed (λ m. WithNamedTo at w base m 0) (λ m. WithNamedTo at w base m i) last₀ records₀ names₀ (Open last) records names
+is-open-requires : tie.Need-is-open-requires
+is-open-requires c κs = search needs
 
-abbrev μ-loop : tie.MeasureT-loop
-μ-loop at w base records₀ names₀ table count last₀ i₀ records names last i = count - i
+same-length : tie.Need-same-length
+same-length c = search needs
 
-field-requires : tie.Need-field-requires Inv-loop μ-loop
-field-requires c κs = search needs
+returns : tie.Need-returns
+returns c = shut-named _ _ _ _ (c .before .is-open .ensures) (not-true _ (c .if1 .taken))
 
-field-requires-2 : tie.Need-field-requires-2 Inv-loop μ-loop
-field-requires-2 c κs = search needs
+gather-all-named-requires : tie.Need-gather-all-named-requires
+gather-all-named-requires c κs = let o = open-draft _ _ (c .before .before .before .is-open .ensures) (not-false _ (c .before .before .if1 .left)) in (o .1, omega (arith, o .2))
 
-loop-holds : tie.Need-loop-holds Inv-loop μ-loop
-loop-holds c = (refl, refl, omega arith, no-turn _ _ _ _ _)
+enum-known-last : tie.Need-enum-known-last
+enum-known-last c = search needs
 
-add-named-requires : tie.Need-add-named-requires Inv-loop μ-loop
-add-named-requires c κs = search needs
-
-enum-told : tie.Need-enum-told Inv-loop μ-loop
+enum-told : tie.Need-enum-told
 enum-told c = search needs
 
-same-length : tie.Need-same-length Inv-loop μ-loop
-same-length c =
-    let b₄ = c .before .before .before .before in
-    let b₈ = b₄ .before .before .before .before in
-    b₄ .before .before .add-named .kept .1 .1 .1 .1 .1 .0 ∙ b₈ .before .before .loop .inv .0
+same-length-2 : tie.Need-same-length-2
+same-length-2 c = search needs
 
-same-length-2 : tie.Need-same-length-2 Inv-loop μ-loop
-same-length-2 c =
-    let b₄ = c .before .before .before .before in
-    let b₈ = b₄ .before .before .before .before in
-    b₄ .before .before .add-named .kept .1 .1 .1 .1 .1 .1 .0 ∙ b₈ .before .before .loop .inv .1
+same-length-3 : tie.Need-same-length-3
+same-length-3 c = search needs
 
-returns : tie.Need-returns Inv-loop μ-loop
-returns c =
-    let b₄ = c .before .before .before .before in
-    let b₈ = b₄ .before .before .before .before in
-    let b₁₂ = b₈ .before .before .before .before in
-    let b₁₆ = b₁₂ .before .before .before .before in
-    let a = b₁₆ .args in
-    let l = b₈ .before .before .loop in
-    named-done (a .at) (a .w .now) (a .base) _ _ _ _ _ _ _ (b₈ .before .before .before .field2 .ensures)
-    (turn-full Unindexed (WithNamedTo (a .at) (a .w .now) (a .base)) _ _ _ _ _ _ (l .i) (l .inv .3) _ _ _
-    (b₄ .before .before .add-named .ensures (b₁₂ .field .ensures ∙ field-word (a .at) (a .base) exportNamedSymbolTableOffset (a .w .now)))
-    _ (named-to (a .at) (a .w .now) (a .base) (l .i + 1) _ (omega (arith, b₈ .before .loop-test .taken))) (c .enum-told .given .1))
-
-enum-known-next : tie.Need-enum-known-next Inv-loop μ-loop
-enum-known-next c = search needs
-
-add-i : tie.Need-add-i Inv-loop μ-loop
-add-i c = omega arith
-
-loop-less : tie.Need-loop-less Inv-loop μ-loop
-loop-less c = omega arith
-
-loop-again : tie.Need-loop-again Inv-loop μ-loop
-loop-again c =
-    let b₄ = c .before .before .before .before in
-    let b₈ = b₄ .before .before .before .before in
-    let b₁₂ = b₈ .before .before .before .before in
-    let b₁₆ = b₁₂ .before .before .before .before in
-    let a = b₁₆ .before .args in
-    let l = b₈ .before .before .before .loop in (
-      b₄ .before .before .before .add-named .kept .1 .1 .1 .1 .1 .0 ∙ l .inv .0,
-      b₄ .before .before .before .add-named .kept .1 .1 .1 .1 .1 .1 .0 ∙ l .inv .1,
-      omega (arith, b₈ .before .before .loop-test .taken),
-      turn-open Unindexed (WithNamedTo (a .at) (a .w .now) (a .base)) _ _ _ _ _ _ (l .i) (l .inv .3) _ _ _
-          (b₄ .before .before .before .add-named .ensures
-          (b₁₂ .before .field .ensures ∙ field-word (a .at) (a .base) exportNamedSymbolTableOffset (a .w .now))) _ (c .before .next .given .1),
-    )
-
-same-length-3 : tie.Need-same-length-3 Inv-loop μ-loop
-same-length-3 c = c .before .loop .inv .0
-
-same-length-4 : tie.Need-same-length-4 Inv-loop μ-loop
-same-length-4 c = c .before .loop .inv .1
-
-returns-2 : tie.Need-returns-2 Inv-loop μ-loop
+returns-2 : tie.Need-returns-2
 returns-2 c =
-    let a = c .before .before .before .before .before .before .before .args in
-    let l = c .before .loop in
-    named-done (a .at) (a .w .now) (a .base) (l .i) _ _ _ _ _ _
-    (let e : l .i ≡ c .before .before .field2 .result = omega (arith, l .inv .2, c .loop-test .left) in e ∙ c .before .before .field2 .ensures)
-    (l .inv .3)
+    let b₄ = c .before .before .before .before in
+    let b₈ = b₄ .before .before .before .before in
+    let b₁₂ = b₈ .before .before .before .before in
+    full-named _ _ _ _ (b₁₂ .before .before .before .args .at) (b₁₂ .before .before .before .args .w .now) _ _ _ (b₄ .before .before .gather-all-named .ensures .1) (c .enum-told .given .1)
+
+sub-write-names : tie.Need-sub-write-names
+sub-write-names c =
+    let b₄ = c .before .before .before .before in
+    let e = open-ends _ _ _ _ (b₄ .before .before .before .gather-all-named .ensures .0) (c .before .last .given .1) in e .0
+
+part-write-names-start : tie.Need-part-write-names-start
+part-write-names-start c =
+    let b₄ = c .before .before .before .before in
+    let e = open-ends _ _ _ _ (b₄ .before .before .before .gather-all-named .ensures .0) (c .before .last .given .1) in omega (arith, e .0)
+
+part-write-names-end : tie.Need-part-write-names-end
+part-write-names-end c =
+    let b₄ = c .before .before .before .before in
+    let e = open-ends _ _ _ _ (b₄ .before .before .before .gather-all-named .ensures .0) (c .before .last .given .1) in omega (arith, e .0, e .1, room-inside (length (b₄ .before .before .before .gather-all-named .last .1 .1 .1 .0)))
+
+cast-write-names : tie.Need-cast-write-names
+cast-write-names c =
+    let b₄ = c .before .before .before .before in
+    let b₈ = b₄ .before .before .before .before in
+    let e = open-ends _ _ _ _ (b₈ .before .before .gather-all-named .ensures .0) (b₄ .last .given .1) in omega (arith, e .2)
+
+write-names-requires : tie.Need-write-names-requires
+write-names-requires c κs = search needs
+
+sub-count : tie.Need-sub-count
+sub-count c =
+    let b₄ = c .before .before .before .before in
+    let b₈ = b₄ .before .before .before .before in
+    let b₁₂ = b₈ .before .before .before .before in
+    let e = open-ends _ _ _ _ (b₁₂ .before .before .before .gather-all-named .ensures .0) (b₈ .before .last .given .1) in e .0
+
+add-store32 : tie.Need-add-store32
+add-store32 c =
+    let b₄ = c .before .before .before .before in
+    let b₈ = b₄ .before .before .before .before in
+    let b₁₂ = b₈ .before .before .before .before in
+    let b₁₆ = b₁₂ .before .before .before .before in
+    let b₂₀ = b₁₆ .before .before .before .before in
+    let b₂₄ = b₂₀ .before .before .before .before in
+    let o = open-draft _ _ (b₂₀ .before .is-open .ensures) (not-false _ (b₂₀ .if1 .left)) in
+    omega (arith, o .0, o .1, room-word (length (b₂₄ .before .before .args .records .now)))
+
+cast-store32 : tie.Need-cast-store32
+cast-store32 c =
+    let b₄ = c .before .before .before .before in
+    let b₈ = b₄ .before .before .before .before in
+    let b₁₂ = b₈ .before .before .before .before in
+    let b₁₆ = b₁₂ .before .before .before .before in
+    let e = open-ends _ _ _ _ (b₁₆ .before .gather-all-named .ensures .0) (b₈ .before .before .before .last .given .1) in
+    omega (arith, e .1, room-word (length (b₁₆ .before .gather-all-named .last .1 .1 .1 .0)))
+
+store32-requires : tie.Need-store32-requires
+store32-requires c κs =
+    let b₄ = c .before .before .before .before in
+    let b₈ = b₄ .before .before .before .before in
+    let b₁₂ = b₈ .before .before .before .before in
+    let b₁₆ = b₁₂ .before .before .before .before in
+    let b₂₀ = b₁₆ .before .before .before .before in
+    let b₂₄ = b₂₀ .before .before .before .before in
+    let o = open-draft _ _ (b₂₀ .before .is-open .ensures) (not-false _ (b₂₀ .if1 .left)) in
+    let l = same-len-mid (b₂₄ .before .before .args .before .end) (b₈ .before .before .before .last .given .0 .0 .end - b₂₄ .before .before .args .before .end) (b₁₆ .before .gather-all-named .last .1 .1 .1 .0)
+    (b₄ .before .before .write-names .last .1 .1 .0) (b₄ .before .before .write-names .kept .1 .1 .0) in
+    omega (arith, o .0, o .1, l, b₁₆ .before .gather-all-named .kept .1 .1 .1 .0, room-inside (length (b₂₄ .before .before .args .records .now)))
+
+same-length-4 : tie.Need-same-length-4
+same-length-4 c = search needs
+
+same-length-5 : tie.Need-same-length-5
+same-length-5 c = search needs
+
+returns-3 : tie.Need-returns-3
+returns-3 c =
+    let b₄ = c .before .before .before .before in
+    let b₈ = b₄ .before .before .before .before in
+    let b₁₂ = b₈ .before .before .before .before in
+    let b₁₆ = b₁₂ .before .before .before .before in
+    let b₂₀ = b₁₆ .before .before .before .before in
+    let b₂₄ = b₂₀ .before .before .before .before in
+    let b₂₈ = b₂₄ .before .before .before .before in
+    let e = open-ends _ _ _ _ (b₂₀ .gather-all-named .ensures .0) (b₁₂ .before .before .last .given .1) in
+    written-named _ _ _ _ (b₂₈ .before .args .at) (b₂₈ .before .args .w .now) _ _ _ (b₂₀ .gather-all-named .ensures .1) _ (b₁₂ .before .before .last .given .1) (e .0)
+    (b₈ .before .write-names .ensures) (c .before .before .store32 .ensures)
 
 pub add-all-named-spec : {M : Type 1} → statement M
 add-all-named-spec =
     tie.close
     (tie.spec
-    Inv-loop
-    μ-loop
-    field-requires
-    field-requires-2
-    loop-holds
-    add-named-requires
-    enum-told
+    is-open-requires
     same-length
-    same-length-2
     returns
-    enum-known-next
-    add-i
-    loop-less
-    loop-again
+    gather-all-named-requires
+    enum-known-last
+    enum-told
+    same-length-2
     same-length-3
+    returns-2
+    sub-write-names
+    part-write-names-start
+    part-write-names-end
+    cast-write-names
+    write-names-requires
+    sub-count
+    add-store32
+    cast-store32
+    store32-requires
     same-length-4
-    returns-2)
+    same-length-5
+    returns-3)

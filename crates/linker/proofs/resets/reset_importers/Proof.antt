@@ -32,7 +32,7 @@ loop-holds c =
     let p5 = c .before .before .before .before .before in
     let a = p5 .args in
     let m = moduleAt (a .records .now) (a .names .now) (a .place) in
-    (refl, record-walk-starts (resetting (a .at) m (a .place)) (a .records .now) (a .names .now) (a .w .now, a .trace .now) (p5 .pre), refl)
+    (refl, record-walk-starts (resetting (a .at) m (a .place)) (a .records .now) (a .names .now) (a .w .now, a .trace .now) (p5 .pre .0), refl)
 
 record-at-requires : tie.Need-record-at-requires Inv-loop μ-loop
 record-at-requires c κs = search needs

@@ -3,7 +3,7 @@ use native.Mathlib.Omega.{arith}
 use borrow.Author.Tests.{not-true, not-false}
 use borrow.Author.Needs.{needs}
 use Rattle.register.specs.Words.{wordsIn}
-use Rattle.register_test.proofs.records.Loops.{fixed-size, fixed-name, size-bytes, export-words, module-bad, module-twice, module-end}
+use Rattle.register_test.proofs.records.Loops.{fixed-size, fixed-name, size-bytes, export-words, module-bad, module-disordered, module-end}
 use Rattle.register_test.proofs.records.module_end.Statement.{statement}
 use Rattle.register_test.proofs.records.module_end.Tie as tie
 
@@ -49,14 +49,14 @@ part-list-end c = let w = wordsIn (c .before .before .before .before .before .be
     (fixed-size _ _ _ (c .before .before .before .fixed-ok .ensures) (not-false _ (c .before .before .if1 .left))) in
     omega (arith, c .before .word .ensures, c .word2 .ensures)
 
-distinct-exports-requires : tie.Need-distinct-exports-requires
-distinct-exports-requires c κs = search needs
+ascending-exports-requires : tie.Need-ascending-exports-requires
+ascending-exports-requires c κs = search needs
 
 returns-2 : tie.Need-returns-2
-returns-2 c = module-twice _ _ _ _ (c .before .before .before .before .before .before .fixed-ok .ensures)
+returns-2 c = module-disordered _ _ _ _ (c .before .before .before .before .before .before .fixed-ok .ensures)
     (not-false _ (c .before .before .before .before .before .if1 .left))
     (export-words _ _ (c .before .before .before .before .word .ensures) (c .before .before .before .word2 .ensures) refl)
-    (c .before .distinct-exports .ensures)
+    (c .before .ascending-exports .ensures)
     (not-true _ (c .if2 .taken))
 
 word-requires-3 : tie.Need-word-requires-3
@@ -79,7 +79,7 @@ returns-3 c = module-end _ _ _ _ (c .before .before .before .before .before .bef
     (not-false _ (c .before .before .before .before .before .before .before .if1 .left))
     (export-words _ _ (c .before .before .before .before .before .before .word .ensures)
     (c .before .before .before .before .before .word2 .ensures) refl)
-    (c .before .before .before .distinct-exports .ensures)
+    (c .before .before .before .ascending-exports .ensures)
     (not-false _ (c .before .before .if2 .left))
     (c .before .word3 .ensures)
     (c .exports-end .ensures)
@@ -101,7 +101,7 @@ module-end-spec =
     sub-list
     part-list-start
     part-list-end
-    distinct-exports-requires
+    ascending-exports-requires
     returns-2
     word-requires-3
     cast-exports-end

@@ -33,7 +33,7 @@ loop-holds c =
     let p5 = c .before .before .before .before .before in
     let a = p5 .args in
     let m = moduleAt (a .records .now) (a .names .now) (a .place) in
-    (omega arith, refl, record-walk-starts (serving (a .at) m) (a .records .now) (a .names .now) (a .w .now, a .trace .now) (p5 .pre), refl)
+    (omega arith, refl, record-walk-starts (serving (a .at) m) (a .records .now) (a .names .now) (a .w .now, a .trace .now) (p5 .pre .0), refl)
 
 record-at-requires : tie.Need-record-at-requires Inv-loop μ-loop
 record-at-requires c κs = search needs
@@ -68,7 +68,7 @@ loop-again c =
       p5 .serve .kept .1 .0 ∙ p10 .loop .inv .1,
       served-turn (a .at) m (a .records .now) (a .names .now) (p10 .loop .next)
           (p10 .loop .k) (p10 .loop .w, p10 .loop .trace) {end = end} (p10 .loop .inv .2) (p10 .loop .inv .0) (omega (arith, p9 .loop-test .taken, p11 .module-count .ensures))
-          (p8 .record-at .ensures) (unwrapped (c .record-end .ensures) (omega (arith, f))) (p5 .serve .ensures),
+          (p8 .record-at .ensures) (unwrapped (c .record-end .ensures) (omega (arith, f, p16 .good .1 .1 .1 .0))) (p5 .serve .ensures),
       p5 .serve .kept .1 .1 .0 ∙ p10 .loop .inv .3,
     )
 

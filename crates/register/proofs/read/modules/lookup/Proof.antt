@@ -4,7 +4,7 @@ use mathlib.Core.Path.{sym, _∙_}
 use native.Mathlib.Omega.{arith}
 use borrow.Author.Needs.{needs}
 use Rattle.register.specs.Read.Read.{lookupIn}
-use Rattle.register.specs.Read.Walk.{Walk, walk-starts, walk-ends, lookup-none, unwrapped}
+use Rattle.register.specs.Read.Walk.{Walk, walk-starts, walk-ends, walk-sorted, lookup-none, unwrapped}
 use Rattle.register.proofs.read.Searches.{end-fits, lookup-found, lookup-lacks, lookup-skips}
 use Rattle.register.proofs.read.modules.lookup.Statement.{statement}
 use Rattle.register.proofs.read.modules.lookup.Tie as tie
@@ -26,7 +26,7 @@ record-at-requires : tie.Need-record-at-requires Inv-loop μ-loop
 record-at-requires c κs = search needs
 
 export-named-requires : tie.Need-export-named-requires Inv-loop μ-loop
-export-named-requires c κs = search needs
+export-named-requires c κs = walk-sorted _ _ _ (c .before .before .before .before .loop .inv) (omega arith)
 
 enum-known-address : tie.Need-enum-known-address Inv-loop μ-loop
 enum-known-address c = search needs

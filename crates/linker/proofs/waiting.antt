@@ -1,0 +1,2 @@
+-- What the proofs of `linker::waiting` share.
+pub mod Laws

@@ -1,0 +1,2 @@
+-- What the proofs of `register::exports` share.
+mod Laws

@@ -1,0 +1,2 @@
+-- What the proofs of `register_test::ascending` share.
+mod Laws

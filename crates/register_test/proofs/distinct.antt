@@ -1,2 +1,0 @@
--- What the proofs of `register_test::distinct` share.
-mod Laws
