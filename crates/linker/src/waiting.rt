@@ -2,7 +2,7 @@
 // record: two words, where its name stands in the image and its address. So no more room is needed than the record takes, and the names
 // are written once, in order.
 ghost use mathlib.Core.Path.{_≡_};
-ghost use mathlib.Core.List.{List, []};
+ghost use mathlib.Core.List.{List};
 ghost use mathlib.Core.Bool.{true};
 ghost use Prim.Native.Nat.{ℕ, _+_, _*_, _/_, _^_, _≤_, _<_};
 ghost use lib.ListN.{length, take};

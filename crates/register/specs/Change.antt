@@ -5,17 +5,16 @@ pub mod Encoded
 pub mod Kept
 pub mod Remove
 pub mod Left
-use Prim.Native.Nat.{ℕ, zero, suc, _+_, _≤_, _<_}
+use Prim.Native.Nat.{ℕ, zero, suc, _+_}
 use mathlib.Core.List.{List, [], _∷_, _++_}
-use mathlib.Core.Bool.{Bool, true, false}
+use mathlib.Core.Bool.{Bool}
 use lib.ListN.{length}
 use lib.Dec.{ltb}
 use Rattle.window.specs.Memory.{if_then_else_}
 use Rattle.window.specs.Name.{orderOf}
 use Rattle.window.specs.declared.name.NameOrder.{NameOrder}
 use Rattle.window.specs.declared.name.NameOrder.the-variants.{Before, Same, After}
-use Rattle.register.specs.declared.words.Crs.{Crs}
-use Rattle.register.specs.declared.words.Crs.the-variants.{Unknown, Known}
+use Rattle.register.specs.declared.words.Crs.the-variants.{Known}
 use Rattle.register.specs.Module.{Export, Module, Register}
 
 -- a module with its name and nothing else yet

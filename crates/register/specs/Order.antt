@@ -7,9 +7,9 @@ use native.Mathlib.Omega.{arith}
 use native.Mathlib.Decide.{decLt}
 use lib.ListN.{length, take, drop, getD, set}
 use lib.Dec.{ltb, eqb}
-use borrow.Author.Tests.{lt-ltb, le-ltb, ltb-true, ltb-false, eq-eqb, ne-eqb}
+use borrow.Author.Tests.{ltb-true, ltb-false, eq-eqb, ne-eqb}
 use Rattle.window.specs.Memory.{if_then_else_}
-use Rattle.window.specs.Name.{orderOf, order-self, order-same, order-turned, turned, before-trans}
+use Rattle.window.specs.Name.{orderOf, order-same, order-turned, turned, before-trans}
 use Rattle.window.specs.declared.name.NameOrder.{NameOrder}
 use Rattle.window.specs.declared.name.NameOrder.the-variants.{Before, Same, After}
 use Rattle.window.specs.Tests.{both, also}
@@ -18,7 +18,7 @@ use Rattle.register.specs.declared.exports.Found.{Found}
 use Rattle.register.specs.declared.exports.Found.the-variants.{At, Nothing}
 use Rattle.register.specs.declared.exports.Position.{Position}
 use Rattle.register.specs.declared.exports.Position.the-variants as position
-use Rattle.register.specs.Module.{Export, findFrom, findExport, isBefore, ascending}
+use Rattle.register.specs.Module.{Export, findFrom, isBefore, ascending}
 use Rattle.register.specs.Change.{byOrder, putNamed}
 
 unfoldable pub isSame : NameOrder → Bool

@@ -2,8 +2,8 @@
 -- export's address.
 use Prim.Native.Nat.{ℕ, zero, suc, _+_, _-_, _*_, _/_, _^_, _≤_, _<_}
 use mathlib.Core.Path.{_≡_, refl, sym, ap, _∙_, subst}
-use mathlib.Core.List.{List, [], _∷_, _++_, append-assoc}
-use mathlib.Core.Bool.{Bool, true}
+use mathlib.Core.List.{List, [], _∷_, _++_}
+use mathlib.Core.Bool.{true}
 use native.Mathlib.Omega.{arith}
 use lib.ListN.{length, take, drop, getD, set, length-append, length-drop, length-set, take-append-drop}
 use lib.Seq.{sets, drop-at, length-take-le, take-all}
@@ -11,12 +11,12 @@ use Rattle.window.specs.Access.{run}
 use Rattle.window.specs.Name.{nameAt, orderOf}
 use Rattle.window.specs.Word.{setWordIn}
 use Rattle.window.specs.declared.name.NameOrder.{NameOrder}
-use Rattle.register.specs.Words.{part, flat, wordsIn, words-drop, length-words}
+use Rattle.register.specs.Words.{part, flat, wordsIn}
 use Rattle.register.specs.Buffers.{Below, length-flat}
 use Rattle.register.specs.Module.{Export, ascending}
 use Rattle.register.specs.Encode.{exportWords, exportNames}
 use Rattle.register.specs.Change.{putNamed}
-use Rattle.register.specs.Order.{anExport, nameIn, positionOf, put-at, put-before}
+use Rattle.register.specs.Order.{nameIn, positionOf, put-at, put-before}
 use Rattle.register.specs.declared.exports.Position.{Position}
 use Rattle.register.specs.declared.exports.Position.the-variants.{At, Before}
 use Rattle.register.specs.Append.Sets.{sets-append, sets-over, flat-append, change-laid, words-of}

@@ -1,16 +1,16 @@
 -- A record begun, finished or given up: the buffers are then the encoding with one module more, or as they were.
-use Prim.Native.Nat.{ℕ, zero, suc, _+_, _-_, _*_, _/_, _%_, _^_, _≤_, _<_}
+use Prim.Native.Nat.{ℕ, zero, suc, _+_, _-_, _*_, _%_, _^_, _≤_, _<_}
 use mathlib.Core.Path.{_≡_, refl, sym, ap, _∙_, subst}
 use mathlib.Core.List.{List, [], _∷_, _++_, append-assoc, append-nil}
 use mathlib.Core.Bool.{Bool, true, false, _&&_}
 use native.Mathlib.Omega.{arith}
-use lib.ListN.{length, take, drop, getD, set, replicate, length-append, length-set, length-drop, length-replicate, replicate-append-replicate}
-use lib.Seq.{sets, sets-eq, drop-length, set-append-left, set-append-seam}
+use lib.ListN.{length, getD, set, replicate, length-append, length-set, length-replicate, replicate-append-replicate}
+use lib.Seq.{sets, set-append-left, set-append-seam}
 use lib.Dec.{leb, ltb}
 use borrow.Author.Tests.{lt-ltb, le-leb}
 use Rattle.window.specs.Memory.{if_then_else_}
 use Rattle.window.specs.Word.{wordIn, setWordIn}
-use Rattle.register.specs.Words.{flat, bytesOf, wordsIn, length-words, word-row}
+use Rattle.register.specs.Words.{flat, bytesOf, wordsIn, word-row}
 use Rattle.register.specs.Module.{Module, Register, proper}
 use Rattle.register.specs.Decode.{settled-other, encodes}
 use Rattle.register.specs.CheckIs.{size-words, long, word₀, word₃, word₄}

@@ -1,19 +1,15 @@
 -- Which module the buffers hold while it is written, and that each step gives them the module with one thing more.
-use Prim.Native.Nat.{ℕ, zero, suc, _+_, _-_, _*_, _/_, _%_, _^_, _≤_, _<_}
-use mathlib.Core.Path.{_≡_, refl, sym, ap, _∙_, subst}
+use Prim.Native.Nat.{ℕ, _+_, _-_, _*_, _^_, _≤_, _<_}
+use mathlib.Core.Path.{_≡_, ap}
 use mathlib.Core.List.{List, [], _∷_, _++_, append-assoc, append-nil}
-use mathlib.Core.Bool.{Bool, true, false, _&&_}
 use native.Mathlib.Omega.{arith}
 use native.Mathlib.Decide.{decLt, ℕ-discrete}
-use lib.ListN.{length, take, drop, getD, set, length-append}
-use lib.Seq.{sets, length-sets, sets-eq, set-out, set-append-left, getD-set-same, getD-set-other}
-use lib.Dec.{leb}
-use borrow.Author.Tests.{leb-true}
-use Rattle.window.specs.Memory.{if_then_else_}
+use lib.ListN.{length, getD, set, length-append}
+use lib.Seq.{sets, set-out, getD-set-same, getD-set-other}
 use Rattle.register.specs.Words.{flat}
 use Rattle.register.specs.Module.{Export, Module}
 use Rattle.register.specs.Encode.{exportWords, exportNames, moduleNames, moduleWords, flag}
-use Rattle.register.specs.Change.{newModule, withSegment, withIndexed, withNamed}
+use Rattle.register.specs.Change.{withSegment, withIndexed, withNamed}
 use Rattle.register.specs.CheckComplete.{length-exportWords}
 use Rattle.register.specs.Buffers.{Below}
 use Rattle.register.specs.declared.append.draft.Draft.{Draft}

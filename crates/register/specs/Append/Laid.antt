@@ -1,8 +1,8 @@
 -- Each step on a buffer that holds the words of a record from the draft's start on: the words that it then holds.
-use Prim.Native.Nat.{ℕ, zero, suc, _+_, _-_, _*_, _/_, _%_, _^_, _≤_, _<_}
+use Prim.Native.Nat.{ℕ, zero, suc, _+_, _-_, _*_, _%_, _^_, _≤_, _<_}
 use mathlib.Core.Path.{_≡_, refl, sym, ap, _∙_}
-use mathlib.Core.List.{List, [], _∷_, _++_, append-assoc, append-nil}
-use mathlib.Core.Bool.{Bool, true, false, _&&_}
+use mathlib.Core.List.{List, [], _∷_, _++_, append-assoc}
+use mathlib.Core.Bool.{Bool, true, false}
 use native.Mathlib.Omega.{arith}
 use lib.ListN.{length, take, drop, getD, set, length-append, length-drop, List·getD-append}
 use lib.Seq.{sets, length-sets, sets-eq, drop-at, drop-drop, drop-append-le, take-append-le, length-take-le}
@@ -10,12 +10,12 @@ use lib.Dec.{leb}
 use borrow.Author.Tests.{leb-true}
 use Rattle.window.specs.Memory.{if_then_else_}
 use Rattle.window.specs.Word.{wordIn, setWordIn}
-use Rattle.register.specs.Words.{part, flat, wordsIn, part-words}
-use Rattle.register.specs.Buffers.{Below, length-flat}
+use Rattle.register.specs.Words.{part, flat}
+use Rattle.register.specs.Buffers.{Below}
 use Rattle.register.specs.declared.append.draft.Draft.{Draft}
 use Rattle.register.specs.declared.append.draft.Drafted.{Drafted}
 use Rattle.register.specs.declared.append.draft.Drafted.the-variants.{Open, Full}
-use Rattle.register.specs.Append.Sets.{push-laid, change-laid, word-laid, words-of}
+use Rattle.register.specs.Append.Sets.{push-laid, change-laid, word-laid}
 use Rattle.register.specs.Append.Draft.{roomIn, longer, countUp, opened, pushListed}
 
 -- a part of what was laid

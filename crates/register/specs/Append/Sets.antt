@@ -1,14 +1,13 @@
 -- Runs of stores: one after another, one inside another, and stores of words into the bytes of words.
-use Prim.Native.Nat.{ℕ, zero, suc, _+_, _-_, _*_, _/_, _%_, _^_, _≤_, _<_}
+use Prim.Native.Nat.{ℕ, zero, suc, _+_, _-_, _*_, _^_, _≤_, _<_}
 use mathlib.Core.Path.{_≡_, refl, sym, ap, _∙_}
 use mathlib.Core.List.{List, [], _∷_, _++_, append-assoc, append-nil}
 use native.Mathlib.Omega.{arith}
-use native.Mathlib.Numerals.{add-one}
-use lib.ListN.{length, take, drop, getD, set, length-append, length-set}
-use lib.Seq.{sets, length-sets, sets-eq, set-set, set-comm, getD-set-same, getD-set-other, getD-append-add, getD-take, drop-append-le, take-append-le}
+use lib.ListN.{length, getD, set, length-set}
+use lib.Seq.{sets, set-set, set-comm, getD-set-same, getD-set-other}
 use Rattle.window.specs.Word.{wordIn, setWordIn}
 use Rattle.window.specs.Bytes.{byteOf}
-use Rattle.register.specs.Words.{part, bytesOf, flat, wordsIn, word-row, part-words}
+use Rattle.register.specs.Words.{bytesOf, flat, wordsIn, word-row}
 use Rattle.register.specs.Buffers.{Below, length-flat, words-flat}
 
 pub sets-append : (l : List ℕ) (i : ℕ) (vs us : List ℕ) → sets l i (vs ++ us) ≡ sets (sets l i vs) (i + length vs) us

@@ -1,14 +1,12 @@
 -- The steps on buffers that hold a module: where there is room they hold the module with one thing more, else nothing changed.
-use Prim.Native.Nat.{ℕ, zero, suc, _+_, _-_, _*_, _/_, _%_, _^_, _≤_, _<_}
+use Prim.Native.Nat.{ℕ, _+_, _-_, _*_, _^_, _≤_, _<_}
 use mathlib.Core.Path.{_≡_, refl, sym, ap, _∙_, subst}
 use mathlib.Core.List.{List, [], _∷_, _++_}
-use mathlib.Core.Bool.{Bool, true, false, _&&_}
+use mathlib.Core.Bool.{true}
 use native.Mathlib.Omega.{arith}
 use lib.ListN.{length, getD, set, length-append, length-set}
 use lib.Seq.{sets, length-sets}
-use lib.Dec.{leb}
-use borrow.Author.Tests.{leb-true, le-leb, lt-leb}
-use Rattle.window.specs.Memory.{if_then_else_}
+use borrow.Author.Tests.{le-leb, lt-leb}
 use Rattle.window.specs.Word.{setWordIn}
 use Rattle.window.specs.Tests.{also}
 use Rattle.register.specs.Words.{flat}
@@ -18,7 +16,6 @@ use Rattle.register.specs.Change.{withSegment, withIndexed, withNamed}
 use Rattle.register.specs.Buffers.{Below, length-flat}
 use Rattle.register.specs.CheckComplete.{length-exportWords}
 use Rattle.register.specs.declared.append.draft.Draft.{Draft}
-use Rattle.register.specs.declared.append.draft.Drafted.{Drafted}
 use Rattle.register.specs.declared.append.draft.Drafted.the-variants.{Open, Full}
 use Rattle.register.specs.Append.Sets.{sets-append, flat-append, change-laid}
 use Rattle.register.specs.Append.Draft.{roomIn, room-inside, room-word, longer, opened, pushListed}
