@@ -1,8 +1,13 @@
 /* The linker of CRO modules: three calls over memory that the host lends.
  *
+ * target/lib/libfillqhano.a, which host/build makes, has the calls as fillqhano_initialize, fillqhano_load and fillqhano_unload.
+ * A host that links the library as it was proved, target/staticlib/libfillqhano.a, where they are `initialize`, `load` and
+ * `unload`, defines FILLQHANO_PLAIN_NAMES before it includes this; all below then calls those.
+ *
  * A lent buffer is passed as two arguments, a pointer to its first byte and its length in bytes. The pointers must be
  * valid for their lengths, not null even where a length is 0, and the buffers, `*value`, `*touched` and `*first` included,
- * must not overlap.
+ * must not overlap. The inline functions at the end take structs in place of long lists of arguments, and allow a null pointer
+ * where a length is 0.
  * A call keeps no pointer, allocates nothing, and has no state but the buffers. Every call ends on any bytes and
  * any arguments.
  *
@@ -14,20 +19,16 @@
  *   end keeps its bytes inside.
  *
  * The register: what stands between calls. All bytes 0 is a register without modules.
- *   records  at least 32 bytes: 8 header words, then one record per module; at most 64 modules. A record's named exports
+ *   records  at least FILLQHANO_RECORDS_LEAST bytes: 8 header words, then one record per module, at most FILLQHANO_MODULES. A
+ *            record takes 32 bytes, 4 a segment (of at most 16) and indexed export, and 12 a named export. Its named exports
  *            ascend by name: bytes as unsigned numbers, a name before those that extend it
- *   names    any length: the names of modules and exports
- *   missing  exactly 32,896 bytes: 64 slots of a 16-bit length and 512 bytes, the names that no module provided
- *   Only these calls write it, and the three buffers go together.
+ *   names    any length: the names of modules and exports, each of at most FILLQHANO_NAME bytes
+ *   missing  exactly FILLQHANO_MISSING bytes: 64 slots of a 16-bit length and 512 bytes, the names that no module provided
+ *   Only these calls write it, and the three buffers go together. Every call looks at all their bytes.
  *
- * What a call answers, tested in the order 3, 4, 1, 2, 5:
- *   0  done
- *   1  the module's magic is neither CRO0 nor CRS0; nothing has changed (initialize and load)
- *   2  a segment is bad; the window has been written up to there (load)
- *   3  the window breaks its rule; nothing has changed
- *   4  the three buffers are no register; nothing has changed
- *   5  64 modules stand, or the module's record or its names have no room; the window has been written (initialize and load)
- * The register is unchanged by 1 to 5, and *value is 0 then.
+ * What a call answers: an enum fillqhano_number, tested in the order 3, 4, 1, 2, 5. The register is unchanged by 1 to 5, and
+ * *value is 0 then. After a 2 or a 5 the image has been rebased, in part or whole: before the call is made again, its bytes have
+ * to be put back as they were.
  *
  * Touches: *touched becomes 1 if an access of the call had a byte outside the window, and *first the address where the first
  * such access started, in the order of accesses of the Rust that this was ported from; else both become 0. A touch may start
@@ -45,40 +46,145 @@
 extern "C" {
 #endif
 
+/* Sizes in bytes, and the most modules that can stand. */
+#define FILLQHANO_PAGE 4096u
+#define FILLQHANO_RECORDS_LEAST 32u
+#define FILLQHANO_MISSING 32896u
+#define FILLQHANO_NAME 512u
+#define FILLQHANO_MODULES 64u
+
+enum fillqhano_number {
+    FILLQHANO_DONE = 0,
+    FILLQHANO_NOT_A_CRO = 1,    /* the magic is neither CRO0 nor CRS0; nothing has changed (initialize and load) */
+    FILLQHANO_BAD_SEGMENT = 2,  /* a segment is bad; the window has been written up to there (load) */
+    FILLQHANO_BAD_WINDOW = 3,   /* the window breaks its rule; nothing has changed */
+    FILLQHANO_BAD_REGISTER = 4, /* the three buffers are no register; nothing has changed */
+    FILLQHANO_FULL = 5          /* 64 modules stand, or the module's record or its names have no room; the window has been
+                                   written: rebased, its imports reset (initialize and load) */
+};
+
+#ifdef FILLQHANO_PLAIN_NAMES
+#define fillqhano_initialize initialize
+#define fillqhano_load load
+#define fillqhano_unload unload
+#endif
+
 /* Takes in the static module (CRS) at `base`, `size` bytes long. *value becomes 0. */
-uint32_t initialize(uint32_t at,
-                    uint8_t *window, size_t window_length,
-                    uint8_t *records, size_t records_length,
-                    uint8_t *names, size_t names_length,
-                    uint8_t *missing, size_t missing_length,
-                    uint32_t base, uint32_t size,
-                    uint32_t *value, uint32_t *touched, uint32_t *first);
+uint32_t fillqhano_initialize(uint32_t at,
+                              uint8_t *window, size_t window_length,
+                              uint8_t *records, size_t records_length,
+                              uint8_t *names, size_t names_length,
+                              uint8_t *missing, size_t missing_length,
+                              uint32_t base, uint32_t size,
+                              uint32_t *value, uint32_t *touched, uint32_t *first);
 
 /* Loads the module at `base`, `size` bytes long, its data and bss segments at the addresses given, with their sizes.
  * auto_link: 0, or anything else for a module whose named exports others may use.
  * fix_level: 1, 2 or 3 drops the tables that the level says; any other level drops none.
  * *value becomes the bytes of the module that are left after fixing, 0 where the level drops nothing. */
-uint32_t load(uint32_t at,
-              uint8_t *window, size_t window_length,
-              uint8_t *records, size_t records_length,
-              uint8_t *names, size_t names_length,
-              uint8_t *missing, size_t missing_length,
-              uint32_t base, uint32_t size,
-              uint32_t data_segment, uint32_t data_segment_size,
-              uint32_t bss_segment, uint32_t bss_segment_size,
-              uint32_t auto_link, uint32_t fix_level,
-              uint32_t *value, uint32_t *touched, uint32_t *first);
+uint32_t fillqhano_load(uint32_t at,
+                        uint8_t *window, size_t window_length,
+                        uint8_t *records, size_t records_length,
+                        uint8_t *names, size_t names_length,
+                        uint8_t *missing, size_t missing_length,
+                        uint32_t base, uint32_t size,
+                        uint32_t data_segment, uint32_t data_segment_size,
+                        uint32_t bss_segment, uint32_t bss_segment_size,
+                        uint32_t auto_link, uint32_t fix_level,
+                        uint32_t *value, uint32_t *touched, uint32_t *first);
 
 /* Unloads the first module whose record has `base`: the batches of auto-linked modules that it served go back to their
  * handlers, it leaves its list, its offsets become those of its file, and its record and names leave the register.
  * *value becomes 1, or 0 where no module has that base; then nothing has changed. */
-uint32_t unload(uint32_t at,
-                uint8_t *window, size_t window_length,
-                uint8_t *records, size_t records_length,
-                uint8_t *names, size_t names_length,
-                uint8_t *missing, size_t missing_length,
-                uint32_t base,
-                uint32_t *value, uint32_t *touched, uint32_t *first);
+uint32_t fillqhano_unload(uint32_t at,
+                          uint8_t *window, size_t window_length,
+                          uint8_t *records, size_t records_length,
+                          uint8_t *names, size_t names_length,
+                          uint8_t *missing, size_t missing_length,
+                          uint32_t base,
+                          uint32_t *value, uint32_t *touched, uint32_t *first);
+
+/* The same by structs. A buffer of length 0 may be null here. */
+
+struct fillqhano_window {
+    uint32_t at;
+    uint8_t *bytes;
+    size_t length;
+};
+
+/* The register's three buffers. */
+struct fillqhano_linker {
+    uint8_t *records;
+    size_t records_length;
+    uint8_t *names;
+    size_t names_length;
+    uint8_t *missing;
+    size_t missing_length;
+};
+
+struct fillqhano_load_arguments {
+    uint32_t base, size;
+    uint32_t data_segment, data_segment_size;
+    uint32_t bss_segment, bss_segment_size;
+    uint32_t auto_link, fix_level;
+};
+
+struct fillqhano_answer {
+    uint32_t number; /* an enum fillqhano_number */
+    uint32_t value;
+    uint32_t touched, first;
+};
+
+/* Gives null pointers an address each; nothing is read there. */
+static inline void fillqhano_no_nulls(struct fillqhano_linker *linker, struct fillqhano_window *window, uint8_t addresses[4])
+{
+    if (!window->bytes)
+        window->bytes = addresses;
+    if (!linker->records)
+        linker->records = addresses + 1;
+    if (!linker->names)
+        linker->names = addresses + 2;
+    if (!linker->missing)
+        linker->missing = addresses + 3;
+}
+
+static inline struct fillqhano_answer fillqhano_linker_initialize(struct fillqhano_linker linker, struct fillqhano_window window,
+                                                                  uint32_t base, uint32_t size)
+{
+    struct fillqhano_answer answer = {0, 0, 0, 0};
+    uint8_t addresses[4];
+    fillqhano_no_nulls(&linker, &window, addresses);
+    answer.number = fillqhano_initialize(window.at, window.bytes, window.length, linker.records, linker.records_length,
+                                         linker.names, linker.names_length, linker.missing, linker.missing_length, base, size,
+                                         &answer.value, &answer.touched, &answer.first);
+    return answer;
+}
+
+static inline struct fillqhano_answer fillqhano_linker_load(struct fillqhano_linker linker, struct fillqhano_window window,
+                                                            struct fillqhano_load_arguments given)
+{
+    struct fillqhano_answer answer = {0, 0, 0, 0};
+    uint8_t addresses[4];
+    fillqhano_no_nulls(&linker, &window, addresses);
+    answer.number = fillqhano_load(window.at, window.bytes, window.length, linker.records, linker.records_length,
+                                   linker.names, linker.names_length, linker.missing, linker.missing_length,
+                                   given.base, given.size, given.data_segment, given.data_segment_size,
+                                   given.bss_segment, given.bss_segment_size, given.auto_link, given.fix_level,
+                                   &answer.value, &answer.touched, &answer.first);
+    return answer;
+}
+
+static inline struct fillqhano_answer fillqhano_linker_unload(struct fillqhano_linker linker, struct fillqhano_window window,
+                                                              uint32_t base)
+{
+    struct fillqhano_answer answer = {0, 0, 0, 0};
+    uint8_t addresses[4];
+    fillqhano_no_nulls(&linker, &window, addresses);
+    answer.number = fillqhano_unload(window.at, window.bytes, window.length, linker.records, linker.records_length,
+                                     linker.names, linker.names_length, linker.missing, linker.missing_length, base,
+                                     &answer.value, &answer.touched, &answer.first);
+    return answer;
+}
 
 #ifdef __cplusplus
 }

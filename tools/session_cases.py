@@ -1,30 +1,25 @@
 #!/usr/bin/env python3
 """Makes the stored sessions that the program session_cases runs, and the output that it must give.
 
-There are two kinds. The texts of the first come from the unchanged Rust: sessions of host/differential's families, and
-sessions made here that fill the register, with what that program says of them. The second kind is written by hand from
-document 01, "The session program", and docs/DECISIONS.md, A40 to A48: each file with its text and a line of reason.
+There are two kinds. The first 114 are sessions of host/differential's families and sessions that fill the register, made from
+seeds when the program was written. Their files are kept as they are stored: they are their own source. Their texts are the Rust's;
+host/differential/tests/session_texts.rs runs each file on the Rust and holds its text to what that gives. The second kind is
+written by hand from document 01, "The session program", and docs/DECISIONS.md, A40 to A48: each file with its text and a line of
+reason. The same test holds those of them to the Rust that it can answer.
 
 No case has number 4: the register starts as one and every call leaves one. None has a 65th module, since a session has
 at most 64 steps; number 5 is for want of record or name bytes. Number 3 has no counterpart in the Rust and is by hand.
 
-Run from the root of the repository: python3 tools/session_cases.py [--list] [DIFFERENTIAL]
-It writes crates/session_cases/stdin and stdout. With the path of the program `differential`, built with the Rust's
-sources at hand, the first kind is made anew; without it those stored are kept. --list prints what each case stands for.
+Run from the root of the repository: python3 tools/session_cases.py [--list]
+It writes crates/session_cases/stdin and stdout. --list prints what each case stands for.
 """
 import collections
-import os
-import random
 import re
 import struct
-import subprocess
 import sys
-import tempfile
 
 FOLDER = 'crates/session_cases/'
-SEED = '7'
-TAKEN = {'well-laid': 34, 'damaged': 34, 'overlapping': 30}  # how many sessions of each family
-FILLING = 16
+FROM_THE_RUST = 114
 AT = 0x100000  # where most windows stand
 PAGE = 0x1000
 TOP = 0xFFFFFFFF
@@ -81,80 +76,6 @@ def importing(names, more=(), batch=0x150):
     """An image with named imports of the names at the offsets, all with the batch at 0x150, one entry that writes nothing."""
     table = b''.join(words(name, batch) for name in names)
     return {0x100: 0x180, 0x104: len(names), 0x180: table, 0x150: words(0, 0x100, 0), **dict(more)}
-
-
-# --- Sessions from the Rust.
-
-def numbers(text):
-    return set(re.findall(r'^\d+ \w+ (\d)', text, re.M))
-
-
-def chosen(kept, count):
-    """Half of them those whose calls gave the most different numbers, half the first of the others; none is long."""
-    kept = [case for case in kept if len(stored(case[1])) <= 7000]
-    varied = sorted(kept, key=lambda case: -len(numbers(case[2])))[:count // 2]
-    rest = [case for case in kept if case not in varied]
-    return varied + rest[:count - len(varied)]
-
-
-def from_families(differential):
-    cases = []
-    with tempfile.TemporaryDirectory() as folder:
-        subprocess.run([differential, '--seed', SEED, '--sessions', '200', '--keep', folder], check=True, stdout=subprocess.DEVNULL)
-        for family, count in TAKEN.items():
-            kept = []
-            for number in range(200):
-                path = os.path.join(folder, '%s-%d.' % (family, number))
-                if os.path.exists(path + 'session'):
-                    file, text = open(path + 'session', 'rb').read(), open(path + 'expected').read()
-                    kept.append(('%s, session %d of seed %s' % (family, number, SEED), file, text))
-            cases += chosen(kept, count)
-    return cases
-
-
-def filling(number):
-    """A session of modules with many exports and imports, whose names are the ends of one long string."""
-    draw = random.Random(number)
-    pages = draw.choice([1, 2, 4])
-    window = bytearray(pages * PAGE)
-    end = len(window) - 1
-    window[end - 600:end] = b'x' * 600
-    bases = [AT + 0x300 * k for k in range((len(window) - 0x300) // 0x300)][:draw.randint(2, 8)]
-
-    def name(base, length):
-        return AT + end - length - base
-
-    for base in bases:
-        longest, named, imports = draw.randint(1, 600), draw.choice([0, 1, 8, 24]), draw.choice([0, 1, 3, 12])
-        exports = [(name(base, max(1, longest - k)), 0) for k in range(named)]
-        missing = [name(base, draw.randint(1, 600)) for k in range(imports)]
-        fields = exporting(exports, {0x0C0: name(base, draw.randint(1, 300)), 0x0C4: 1})
-        fields.update({0x100: 0x240, 0x104: imports, 0x150: words(0, 0x100, 0)})
-        fields[0x240] = b''.join(words(m, 0x150) for m in missing)
-        fields.update({0x0D8: 0x2A0, 0x0DC: draw.choice([0, 3, 100, 1000, 2000, 3900])})
-        start = base - AT
-        window[start:start + 0x300] = image(fields, draw.choice([b'CRO0', b'CRS0']), 0x300)
-    steps = [initialize(bases[0], 0x300)] if draw.random() < 0.5 else []
-    for k in range(draw.randint(4, 14)):
-        base = draw.choice(bases)
-        steps.append(unload(base) if draw.random() < 0.2 else load(base, 0x300, auto=draw.choice([0, 1, 1]), level=draw.randint(0, 3)))
-    return session(steps, bytes(window))
-
-
-def from_filling(differential):
-    """Those of the sessions made here that the Rust runs to their end; every second one of them has a number 5."""
-    cases, number = [], 0
-    with tempfile.TemporaryDirectory() as folder:
-        path = os.path.join(folder, 'session')
-        while len(cases) < FILLING:
-            number += 1
-            file = filling(number)
-            with open(path, 'wb') as out:
-                out.write(file)
-            run = subprocess.run([differential, '--file', path], stdout=subprocess.PIPE, text=True)
-            if run.returncode == 0 and ('5' in numbers(run.stdout) or len(cases) % 2):
-                cases.append(('filling, session %d' % number, file, run.stdout))
-    return cases
 
 
 # --- Sessions by hand.
@@ -450,17 +371,17 @@ def read_stored():
     return cases
 
 
+def numbers(text):
+    return set(re.findall(r'^\d+ \w+ (\d)', text, re.M))
+
+
 def main():
-    asked = [word for word in sys.argv[1:] if word != '--list']
-    if asked:
-        rust = from_families(asked[0]) + from_filling(asked[0])
-        first = [(reason, stored(file), text) for reason, file, text in rust]
-    else:
-        families = [family for family, count in {**TAKEN, 'filling': FILLING}.items() for _ in range(count)]
-        first = [(family,) + both for family, both in zip(families, read_stored())]
+    kept = [('from the Rust',) + both for both in read_stored()[:FROM_THE_RUST]]
+    if len(kept) < FROM_THE_RUST:
+        sys.exit('of the %d sessions from the Rust only %d are stored' % (FROM_THE_RUST, len(kept)))
     for group in GROUPS:
         group()
-    cases = first + [(reason, stored(file), text) for reason, file, text in CASES]
+    cases = kept + [(reason, stored(file), text) for reason, file, text in CASES]
     with open(FOLDER + 'stdin', 'wb') as out:
         out.write(words(len(cases)) + b''.join(data for _, data, _ in cases))
     with open(FOLDER + 'stdout', 'w') as out:
@@ -469,7 +390,7 @@ def main():
         for k, (reason, data, text) in enumerate(cases):
             print('%d %s: %s' % (k + 1, reason, 'bad' if text == BAD else 'numbers ' + ' '.join(sorted(numbers(text)))))
     tally = collections.Counter('bad' if text == BAD else 'run' for _, _, text in cases)
-    print('%d cases: %d from the Rust, %d by hand; %d bad files' % (len(cases), len(first), len(CASES), tally['bad']))
+    print('%d cases: %d from the Rust, %d by hand; %d bad files' % (len(cases), len(kept), len(CASES), tally['bad']))
 
 
 if __name__ == '__main__':

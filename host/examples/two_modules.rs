@@ -1,7 +1,7 @@
 //! A static module and a module that imports from it: loaded, looked at, unloaded.
 //! `cargo run --release --example two_modules`
 
-use fillqhano::{Error, Linker};
+use fillqhano::{Error, Linker, LoadArguments, Window};
 use sessions::image::{tag, Image, Relocation};
 
 const AT: u32 = 0x0010_0000;
@@ -25,15 +25,17 @@ fn images() -> (Image, Image) {
 
 fn main() -> Result<(), Error> {
     // in an emulator this is the guest's memory, and the title has read the modules into it
-    let mut window = vec![0; 0x3000];
+    let mut memory = vec![0; 0x3000];
     let (provider, user) = images();
     let (provider, user) = (provider.bytes(), user.bytes());
-    window[..provider.len()].copy_from_slice(&provider);
-    window[0x1000..0x1000 + user.len()].copy_from_slice(&user);
+    memory[..provider.len()].copy_from_slice(&provider);
+    memory[0x1000..0x1000 + user.len()].copy_from_slice(&user);
 
     let mut linker = Linker::new();
-    linker.initialize(AT, &mut window, AT, 0x1000)?;
-    let fixed = linker.load(AT, &mut window, AT + 0x1000, 0x1000, 0, 0, 0, 0, true, 1)?;
+    let mut window = Window { at: AT, bytes: &mut memory };
+    linker.initialize(&mut window, AT, 0x1000)?;
+    let user = LoadArguments { base: AT + 0x1000, size: 0x1000, auto_link: true, fix_level: 1, ..Default::default() };
+    let fixed = linker.load(&mut window, user)?;
     println!("{fixed:#x} bytes of the module are left");
     for module in linker.modules() {
         println!("{module:?}, {} exports", module.exports().len());
@@ -42,9 +44,14 @@ fn main() -> Result<(), Error> {
         println!("nothing exports {}", name.escape_ascii());
     }
     let word = 0x1000 + 0x138 + 0x20;
-    println!("the import holds {:02x?}", &window[word..word + 4]);
+    println!("the import holds {:02x?}", &window.bytes[word..word + 4]);
     // a module with bad offsets may make the linker read or write outside the window; these two do not
     assert_eq!(linker.touch(), None);
-    assert!(linker.unload(AT, &mut window, AT + 0x1000)?);
+
+    // the guest's memory and this are all that a saved state needs
+    let saved = linker.to_bytes();
+    let mut linker = Linker::from_bytes(&saved).expect("these bytes are a saved state");
+    println!("{} bytes of saved state", saved.len());
+    assert!(linker.unload(&mut window, user.base)?);
     Ok(())
 }

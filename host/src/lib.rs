@@ -13,86 +13,87 @@
 //! first of them started.
 //!
 //! ```
-//! use fillqhano::{Error, Linker};
+//! use fillqhano::{Error, Linker, LoadArguments, Window};
 //!
 //! // One page at 0x100000 with the smallest module: a header whose code is 0x10 bytes from 0x138 on.
-//! let mut window = vec![0u8; 0x1000];
-//! window[0x80..0x84].copy_from_slice(b"CRO0");
-//! window[0xB0..0xB4].copy_from_slice(&0x138u32.to_le_bytes());
-//! window[0xB4..0xB8].copy_from_slice(&0x10u32.to_le_bytes());
+//! let mut memory = vec![0u8; 0x1000];
+//! memory[0x80..0x84].copy_from_slice(b"CRO0");
+//! memory[0xB0..0xB4].copy_from_slice(&0x138u32.to_le_bytes());
+//! memory[0xB4..0xB8].copy_from_slice(&0x10u32.to_le_bytes());
 //!
 //! let mut linker = Linker::new();
-//! let at = 0x100000;
-//! assert_eq!(linker.load(at, &mut window, 0x100800, 0x800, 0, 0, 0, 0, true, 1), Err(Error::NotACro));
-//! assert_eq!(linker.load(at, &mut window, 0x100000, 0x1000, 0, 0, 0, 0, true, 1), Ok(0x1000));
+//! let mut window = Window { at: 0x100000, bytes: &mut memory };
+//! let module = LoadArguments { base: 0x100000, size: 0x1000, auto_link: true, fix_level: 1, ..Default::default() };
+//! let nothing = LoadArguments { base: 0x100800, size: 0x800, ..module };
+//! assert_eq!(linker.load(&mut window, nothing), Err(Error::NotACro));
+//! assert_eq!(linker.load(&mut window, module), Ok(0x1000));
 //! assert_eq!(linker.modules().next().unwrap().base(), 0x100000);
 //! assert_eq!(linker.touch(), None);
-//! assert_eq!(linker.unload(at, &mut window, 0x100000), Ok(true));
+//! assert_eq!(linker.unload(&mut window, 0x100000), Ok(true));
 //! assert!(linker.is_empty());
 //! ```
+//!
+//! Guest memory that is kept in pages becomes a window by being in a row: the host keeps the pages of the area that modules
+//! lie in one after another in one buffer, or copies them there before a call and back after it.
 
-pub mod calls;
+#![deny(missing_docs)]
+
+mod error;
+pub mod raw;
 mod register;
+mod state;
+mod window;
 
-use calls::{Answer, Lent};
+use raw::{Answer, Buffers};
 
+pub use error::Error;
 pub use register::{Module, Modules, MISSING_LENGTH};
+pub use state::StateError;
+pub use window::Window;
 
-/// Why a call was refused. The register is then as it was.
-#[derive(Debug, Clone, Copy, PartialEq, Eq)]
-pub enum Error {
-    /// The magic is neither CRO0 nor CRS0. Nothing has changed.
-    NotACro,
-    /// A segment does not fit its place. The window has been written up to there.
-    BadSegment,
-    /// The window's address or length is no multiple of 4,096, or it is empty or passes 2^32. Nothing has changed.
-    BadWindow,
-    /// The register's buffers are no register. Nothing has changed. A [`Linker`]'s own are always one.
-    BadRegister,
-    /// 64 modules stand, or the module's record or names have no room. The window has been written: the module is rebased
-    /// and its imports are reset, but it is not linked.
-    Full,
+/// A part of the guest's address space.
+#[derive(Debug, Clone, Copy, PartialEq, Eq, Hash, Default)]
+pub struct Area {
+    /// The address of its first byte.
+    pub at: u32,
+    /// Its bytes.
+    pub size: u32,
 }
 
-impl Error {
-    /// The number of this refusal.
-    pub fn number(self) -> u32 {
-        match self {
-            Error::NotACro => 1,
-            Error::BadSegment => 2,
-            Error::BadWindow => 3,
-            Error::BadRegister => 4,
-            Error::Full => 5,
-        }
-    }
+/// What a load is asked for. By default everything is 0, and nothing is linked to the module by name.
+#[derive(Debug, Clone, Copy, PartialEq, Eq, Hash, Default)]
+pub struct LoadArguments {
+    /// Where the module's image lies.
+    pub base: u32,
+    /// The image's bytes.
+    pub size: u32,
+    /// What is lent to its data segment, which must not be larger.
+    pub data_segment: Area,
+    /// What is lent to its bss segment, which must not be larger.
+    pub bss_segment: Area,
+    /// Whether later modules may import its named exports.
+    pub auto_link: bool,
+    /// Which tables are dropped once it is linked: more with each of the levels 1, 2 and 3, none with any other.
+    pub fix_level: u32,
 }
 
-impl std::fmt::Display for Error {
-    fn fmt(&self, f: &mut std::fmt::Formatter<'_>) -> std::fmt::Result {
-        f.write_str(match self {
-            Error::NotACro => "no CRO or CRS module",
-            Error::BadSegment => "a segment does not fit its place",
-            Error::BadWindow => "the window is not whole pages",
-            Error::BadRegister => "the buffers are no register",
-            Error::Full => "no room for the module's record",
-        })
-    }
-}
-
-impl std::error::Error for Error {}
-
-/// The modules that are linked in, and the three calls that change them. Linkers are equal if their registers are.
+/// The modules that are linked in, and the three calls that change them. Linkers are equal if the same stands in them.
+///
+/// It begins small and grows: before a call that takes a module in, there is room for the most that the module's counts and names
+/// ask for, up to a limit. Bytes that a refused call did not use go back; what a module that was taken in did not use stays
+/// for the next one, until [`Linker::shrink_to_fit`]. Every call looks at all the bytes that there are.
 #[derive(Clone)]
 pub struct Linker {
     records: Vec<u8>,
     names: Vec<u8>,
     missing: Vec<u8>,
+    limit: usize,
     touch: Option<u32>,
 }
 
 impl PartialEq for Linker {
     fn eq(&self, other: &Linker) -> bool {
-        self.buffers() == other.buffers()
+        self.standing() == other.standing()
     }
 }
 
@@ -105,97 +106,101 @@ impl Default for Linker {
 }
 
 impl Linker {
-    /// The bytes that [`Linker::new`] gives the records, and as many the names.
-    pub const ROOM: usize = 0x40000;
+    /// The limit of [`Linker::new`], 4 MiB: some 100,000 exports with names of 40 bytes.
+    pub const LIMIT: usize = 0x40_0000;
 
-    /// A linker without modules, with room for some 15,000 exports.
+    /// A linker without modules.
     pub fn new() -> Linker {
-        Linker::with_room(Self::ROOM, Self::ROOM)
+        Linker::with_limit(Self::LIMIT)
     }
 
-    /// A linker without modules. A record takes 32 bytes, 4 a segment and indexed export, and 12 a named export; the
-    /// records' header takes 32 more, and there are at least these. Names take their bytes. Each call looks at all bytes
-    /// of both buffers, so they should not be far larger than needed.
-    pub fn with_room(records: usize, names: usize) -> Linker {
-        let records = vec![0; records.max(register::HEADER)];
-        Linker { records, names: vec![0; names], missing: vec![0; MISSING_LENGTH], touch: None }
+    /// A linker without modules that takes at most so many bytes for its records, and as many for its names. A module whose
+    /// record or names would pass that is refused by [`Error::Full`], whatever its header asks for.
+    ///
+    /// A record takes 32 bytes, 4 a segment and indexed export, and 12 a named export; the records' header takes 32 more, and
+    /// these are there whatever the limit. Names take their bytes.
+    pub fn with_limit(limit: usize) -> Linker {
+        let records = vec![0; register::HEADER];
+        Linker { records, names: Vec::new(), missing: vec![0; MISSING_LENGTH], limit, touch: None }
     }
 
-    /// A linker from the buffers of another one, as a saved state keeps them; none if they are no register, as where the named
-    /// exports of a module do not ascend by name.
-    pub fn from_buffers(records: Vec<u8>, names: Vec<u8>, missing: Vec<u8>) -> Option<Linker> {
-        let mut linker = Linker { records, names, missing, touch: None };
-        // a page of zeros is no module, so this call tests the register and changes nothing; it has no touch
-        let tested = linker.initialize(0, &mut [0; 0x1000], 0, 0);
-        (tested == Err(Error::NotACro)).then_some(linker)
+    /// Sets the limit of the calls that follow. What stands is kept.
+    pub fn set_limit(&mut self, limit: usize) {
+        self.limit = limit;
     }
 
-    /// The three buffers that are the linker's whole state: records, names, missing names.
-    pub fn buffers(&self) -> (&[u8], &[u8], &[u8]) {
-        (&self.records, &self.names, &self.missing)
+    /// Gives back the bytes that no module uses.
+    pub fn shrink_to_fit(&mut self) {
+        let (records, names) = self.used();
+        self.cut(records, names);
+        self.records.shrink_to_fit();
+        self.names.shrink_to_fit();
     }
 
-    /// Makes room for more. What stands is kept.
-    pub fn grow(&mut self, records: usize, names: usize) {
-        self.records.resize(self.records.len() + records, 0);
-        self.names.resize(self.names.len() + names, 0);
+    /// What stands: the static module's base, the records without their header, the names, and the missing names.
+    fn standing(&self) -> (Option<u32>, &[u8], &[u8], &[u8]) {
+        let (records, names) = self.used();
+        let missing = register::SLOT * register::missing_count(&self.records);
+        (self.crs(), &self.records[register::HEADER..records], &self.names[..names], &self.missing[..missing])
     }
 
-    fn lent<'a>(&'a mut self, at: u32, window: &'a mut [u8]) -> Lent<'a> {
-        Lent { at, window, records: &mut self.records, names: &mut self.names, missing: &mut self.missing }
+    /// Drops the bytes from these on, which no module uses.
+    fn cut(&mut self, records: usize, names: usize) {
+        self.records.truncate(records);
+        self.names.truncate(names);
     }
 
-    /// Keeps the call's touch; gives its value, or the refusal that its number says.
+    fn lend<'a>(&'a mut self, window: &'a mut Window) -> Buffers<'a> {
+        let Linker { records, names, missing, .. } = self;
+        Buffers { at: window.at, window: window.bytes, records, names, missing }
+    }
+
+    /// Keeps the call's touch; gives its value, or its refusal.
     fn value_of(&mut self, answer: Answer) -> Result<u32, Error> {
         self.touch = answer.touch();
         match answer.number {
             0 => Ok(answer.value),
-            1 => Err(Error::NotACro),
-            2 => Err(Error::BadSegment),
-            3 => Err(Error::BadWindow),
-            4 => Err(Error::BadRegister),
-            _ => Err(Error::Full),
+            number => Err(Error::of(number)),
         }
     }
 
-    /// Takes in the static module, whose exports every other module links against.
-    pub fn initialize(&mut self, at: u32, window: &mut [u8], base: u32, size: u32) -> Result<(), Error> {
-        let answer = calls::initialize(self.lent(at, window), base, size);
-        self.value_of(answer).map(|_| ())
+    /// Grows to what is used and the most that the module at this base can take, or to the limit.
+    fn make_room(&mut self, window: &Window, base: u32) {
+        let (records, names) = self.used();
+        let most = window.most_room(base, self.limit);
+        grow(&mut self.records, self.limit.min(records + most.records));
+        grow(&mut self.names, self.limit.min(names + most.names));
     }
 
-    /// Rebases, relocates and links a module. Gives how much of it is left after fixing, 0 where the level fixes nothing.
-    #[allow(clippy::too_many_arguments)]
-    pub fn load(
-        &mut self,
-        at: u32,
-        window: &mut [u8],
-        base: u32,
-        size: u32,
-        data_segment: u32,
-        data_segment_size: u32,
-        bss_segment: u32,
-        bss_segment_size: u32,
-        auto_link: bool,
-        fix_level: u32,
-    ) -> Result<u32, Error> {
-        let answer = calls::load(
-            self.lent(at, window),
-            base,
-            size,
-            data_segment,
-            data_segment_size,
-            bss_segment,
-            bss_segment_size,
-            auto_link as u32,
-            fix_level,
-        );
+    /// Makes a call that takes in the module at this base. It is lent all bytes that there are, and not only as many as
+    /// the image asks for, since an image may make its counts and names greater while it is rebased.
+    fn take_in(&mut self, window: &mut Window, base: u32, call: impl FnOnce(Buffers) -> Answer) -> Result<u32, Error> {
+        let (records, names) = (self.records.len(), self.names.len());
+        self.make_room(window, base);
+        let answer = call(self.lend(window));
+        if answer.number != 0 {
+            self.cut(records, names);
+        }
         self.value_of(answer)
     }
 
+    /// Takes in the static module, whose exports every other module links against.
+    pub fn initialize(&mut self, window: &mut Window, base: u32, size: u32) -> Result<(), Error> {
+        self.take_in(window, base, |buffers| raw::initialize(buffers, base, size)).map(|_| ())
+    }
+
+    /// Rebases, relocates and links a module. Gives how much of it is left after fixing, 0 where the level fixes nothing.
+    pub fn load(&mut self, window: &mut Window, arguments: LoadArguments) -> Result<u32, Error> {
+        let LoadArguments { base, size, data_segment, bss_segment, auto_link, fix_level } = arguments;
+        let (data, bss) = (data_segment, bss_segment);
+        self.take_in(window, base, |buffers| {
+            raw::load(buffers, base, size, data.at, data.size, bss.at, bss.size, auto_link as u32, fix_level)
+        })
+    }
+
     /// Takes out the first module at this base. Gives whether there was one.
-    pub fn unload(&mut self, at: u32, window: &mut [u8], base: u32) -> Result<bool, Error> {
-        let answer = calls::unload(self.lent(at, window), base);
+    pub fn unload(&mut self, window: &mut Window, base: u32) -> Result<bool, Error> {
+        let answer = raw::unload(self.lend(window), base);
         self.value_of(answer).map(|value| value != 0)
     }
 
@@ -230,6 +235,7 @@ impl Linker {
         register::count(&self.records)
     }
 
+    /// Whether no module stands.
     pub fn is_empty(&self) -> bool {
         self.len() == 0
     }
@@ -237,6 +243,13 @@ impl Linker {
     /// How many bytes of the records and of the names are in use.
     pub fn used(&self) -> (usize, usize) {
         register::used(&self.records)
+    }
+}
+
+/// Makes a buffer at least so long; what is new is 0.
+fn grow(buffer: &mut Vec<u8>, length: usize) {
+    if buffer.len() < length {
+        buffer.resize(length, 0);
     }
 }
 

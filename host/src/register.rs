@@ -2,7 +2,7 @@
 
 /// The bytes of the missing list: 64 slots of a 16-bit length and 512 bytes.
 pub const MISSING_LENGTH: usize = 64 * SLOT;
-const SLOT: usize = 2 + 512;
+pub(crate) const SLOT: usize = 2 + 512;
 
 /// The bytes of the records' header.
 pub(crate) const HEADER: usize = 32;
@@ -26,9 +26,14 @@ pub(crate) fn used(records: &[u8]) -> (usize, usize) {
     ((word(records, 12) as usize).max(HEADER), word(records, 16) as usize)
 }
 
+/// How many names are missing.
+pub(crate) fn missing_count(records: &[u8]) -> usize {
+    word(records, 20) as usize
+}
+
 /// The missing names, oldest first.
 pub(crate) fn missing<'a>(records: &[u8], missing: &'a [u8]) -> impl Iterator<Item = &'a [u8]> {
-    missing.chunks_exact(SLOT).take(word(records, 20) as usize).map(|slot| {
+    missing.chunks_exact(SLOT).take(missing_count(records)).map(|slot| {
         let length = u16::from_le_bytes([slot[0], slot[1]]) as usize;
         &slot[2..2 + length]
     })
@@ -48,10 +53,12 @@ impl<'a> Module<'a> {
         word(self.record, 4 * index)
     }
 
+    /// The address that it was loaded at.
     pub fn base(&self) -> u32 {
         self.field(0)
     }
 
+    /// Its size, as the call that took it in was given it.
     pub fn size(&self) -> u32 {
         self.field(1)
     }

@@ -1,12 +1,12 @@
-//! The wrapper: what it reads from the register, and its refusals.
+//! The wrapper: what it reads from the register, its refusals, its room, and saved states.
 
-use fillqhano::{Error, Linker, MISSING_LENGTH};
+use fillqhano::{Area, Error, Linker, LoadArguments, StateError, Window, MISSING_LENGTH};
 use sessions::image::{tag, Image, Relocation};
 
 const AT: u32 = 0x0010_0000;
 
 /// A module of two exports by name, two by index, and an import that nothing provides.
-fn window() -> Vec<u8> {
+fn memory() -> Vec<u8> {
     let image = Image {
         name: b"module".to_vec(),
         handler: tag(0, 4),
@@ -16,19 +16,38 @@ fn window() -> Vec<u8> {
         imports: vec![(b"nobody's".to_vec(), vec![Relocation { tag: tag(0, 12), kind: 2, addend: 0 }])],
         ..Image::default()
     };
-    let mut window = image.bytes();
-    window.resize(0x2000, 0);
-    window
+    let mut memory = image.bytes();
+    memory.resize(0x2000, 0);
+    memory
 }
 
-fn load(linker: &mut Linker, window: &mut [u8]) -> Result<u32, Error> {
-    linker.load(AT, window, AT, 0x1000, AT + 0x1000, 8, AT + 0x1100, 16, true, 1)
+fn window(memory: &mut [u8]) -> Window<'_> {
+    Window { at: AT, bytes: memory }
+}
+
+const MODULE: LoadArguments = LoadArguments {
+    base: AT,
+    size: 0x1000,
+    data_segment: Area { at: AT + 0x1000, size: 8 },
+    bss_segment: Area { at: AT + 0x1100, size: 16 },
+    auto_link: true,
+    fix_level: 1,
+};
+
+fn load(linker: &mut Linker, memory: &mut [u8]) -> Result<u32, Error> {
+    linker.load(&mut window(memory), MODULE)
+}
+
+/// A linker in which the module stands.
+fn loaded() -> Linker {
+    let mut linker = Linker::new();
+    load(&mut linker, &mut memory()).unwrap();
+    linker
 }
 
 #[test]
 fn modules_are_read() {
-    let mut linker = Linker::new();
-    load(&mut linker, &mut window()).unwrap();
+    let linker = loaded();
     let module = linker.modules().next().unwrap();
     assert_eq!((module.base(), module.size(), module.auto_link(), module.name()), (AT, 0x1000, true, &b"module"[..]));
     let segments: Vec<u32> = module.segments().collect();
@@ -47,48 +66,164 @@ fn modules_are_read() {
 #[test]
 fn a_static_module_is_known() {
     let mut linker = Linker::new();
-    let mut window = window();
-    window[0x80..0x84].copy_from_slice(b"CRS0");
-    linker.initialize(AT, &mut window, AT, 0x1000).unwrap();
+    let mut memory = memory();
+    memory[0x80..0x84].copy_from_slice(b"CRS0");
+    let mut window = window(&mut memory);
+    linker.initialize(&mut window, AT, 0x1000).unwrap();
     assert_eq!(linker.crs(), Some(AT));
-    assert_eq!(linker.unload(AT, &mut window, AT), Ok(true));
+    assert_eq!(linker.unload(&mut window, AT), Ok(true));
     assert_eq!((linker.crs(), linker.is_empty()), (Some(AT), true));
-    assert_eq!(linker.unload(AT, &mut window, AT), Ok(false));
+    assert_eq!(linker.unload(&mut window, AT), Ok(false));
 }
 
 #[test]
 fn refusals_are_told_apart() {
     let mut linker = Linker::new();
     let fresh = linker.clone();
-    let mut window = window();
-    assert_eq!(linker.unload(AT, &mut window[..0xFFF], AT), Err(Error::BadWindow));
-    assert_eq!(linker.initialize(AT + 1, &mut window, AT, 0), Err(Error::BadWindow));
-    assert_eq!(linker.initialize(AT, &mut window, AT + 0x1000, 0), Err(Error::NotACro));
-    assert_eq!(linker.load(AT, &mut window, AT, 0x1000, 0, 7, 0, 16, true, 0), Err(Error::BadSegment));
-    assert!(linker == fresh);
+    let mut memory = memory();
+    assert_eq!(linker.unload(&mut window(&mut memory[..0xFFF]), AT), Err(Error::BadWindow));
+    assert_eq!(linker.initialize(&mut Window { at: AT + 1, bytes: &mut memory }, AT, 0), Err(Error::BadWindow));
+    assert_eq!(linker.initialize(&mut window(&mut memory), AT + 0x1000, 0), Err(Error::NotACro));
+    let short = LoadArguments { data_segment: Area { at: 0, size: 7 }, ..MODULE };
+    assert_eq!(linker.load(&mut window(&mut memory), short), Err(Error::BadSegment));
+    assert!(linker == fresh && linker.buffers() == fresh.buffers());
 }
 
 #[test]
-fn a_full_linker_grows() {
-    let mut linker = Linker::with_room(0, 0);
-    let mut window = window();
-    let before = window.clone();
-    assert_eq!(load(&mut linker, &mut window), Err(Error::Full));
-    linker.grow(0x100, 0x100);
-    assert_eq!(load(&mut linker, &mut before.clone()), Ok(0x1000));
-}
-
-#[test]
-fn buffers_make_a_linker_again() {
+fn by_default_nothing_is_lent() {
+    let arguments = LoadArguments { base: AT, size: 0x1000, ..Default::default() };
     let mut linker = Linker::new();
-    load(&mut linker, &mut window()).unwrap();
+    assert_eq!(linker.load(&mut window(&mut page(&[])), arguments), Ok(0));
+    assert!(!linker.modules().next().unwrap().auto_link());
+    // the module's data needs 8 bytes
+    assert_eq!(linker.load(&mut window(&mut memory()), arguments), Err(Error::BadSegment));
+}
+
+/// The bytes that the linker has for its records and its names.
+fn lengths(linker: &Linker) -> (usize, usize) {
+    (linker.buffers().0.len(), linker.buffers().1.len())
+}
+
+#[test]
+fn a_linker_grows_with_its_modules() {
+    let mut linker = Linker::new();
+    assert_eq!(lengths(&linker), (32, 0));
+    let mut memory = memory();
+    load(&mut linker, &mut memory).unwrap();
+    // used, the most that the image can need of it (here all, and a module's name has at most 512 bytes), and a page
+    assert_eq!(lengths(&linker), (32 + 80 + 0x1000, 512 + 2 + 0x1000));
+    // the next one has no names of its own
+    let (records, names) = linker.used();
+    assert_eq!(linker.initialize(&mut window(&mut page(&[])), AT, 0x1000), Ok(()));
+    assert_eq!(lengths(&linker), (records + 32 + 0x1000, names + 512 + 0x1000));
+    linker.shrink_to_fit();
+    assert_eq!(lengths(&linker), linker.used());
+    assert_eq!(linker.len(), 2);
+    assert_eq!(linker.unload(&mut window(&mut memory), AT), Ok(true));
+}
+
+#[test]
+fn sixty_four_modules_are_the_most() {
+    let mut linker = Linker::new();
+    for _ in 0..64 {
+        assert_eq!(load_page(&mut linker, &mut page(&[]), AT, 0), Ok(0));
+    }
+    let before = lengths(&linker);
+    let mut more = page(&[(0xB0, 0x138)]);
+    assert_eq!(load_page(&mut linker, &mut more, AT, 0), Err(Error::Full));
+    assert_eq!((linker.len(), lengths(&linker)), (64, before));
+    // the image has been rebased, so it is another one if it is loaded again
+    assert_eq!(more[0xB0..0xB4], (AT + 0x138).to_le_bytes());
+}
+
+#[test]
+fn a_limit_bounds_what_a_count_asks_for() {
+    const LIMIT: usize = 0x8000;
+    let mut linker = Linker::with_limit(LIMIT);
+    // exports by name, all but 484 of them outside the window, and as many by index as can be counted
+    for (field, count, answer) in [(0xD4, 0x10000, Ok(0)), (0xDC, u32::MAX, Err(Error::Full))] {
+        assert_eq!(load_page(&mut linker, &mut page(&[(0xD0, 0xE0), (field, count)]), AT, 0), answer);
+        assert!(lengths(&linker).0 <= LIMIT && lengths(&linker).1 <= LIMIT);
+    }
+    // an exact fit passes, and a byte less does not; then a greater limit does
+    let (records, _) = loaded().used();
+    for (limit, answer) in [(records - 1, Err(Error::Full)), (records, Ok(0x1000)), (0, Err(Error::Full))] {
+        assert_eq!(load(&mut Linker::with_limit(limit), &mut memory()), answer, "{limit}");
+    }
+    let mut linker = Linker::with_limit(0);
+    assert_eq!(load(&mut linker, &mut memory()), Err(Error::Full));
+    assert_eq!(lengths(&linker), (32, 0));
+    linker.set_limit(records);
+    // the image's bytes are those of before: the ones that the refused call left are rebased
+    assert_eq!(load(&mut linker, &mut memory()), Ok(0x1000));
+}
+
+/// A page whose only module entry lies so that a rebase moves the word at this place like a pointer.
+fn rewriting(place: u32, words: &[(usize, u32)]) -> Vec<u8> {
+    page(&[&[(0xF0, place), (0xF4, 1)], words].concat())
+}
+
+#[test]
+fn an_image_that_rewrites_its_counts_may_find_no_room() {
+    // the count of indexed exports, 1, becomes 0x100001, which no page of bytes has room for
+    let image = rewriting(0xDC, &[(0xDC, 1)]);
+    let mut linker = Linker::new();
+    assert_eq!(load_page(&mut linker, &mut image.clone(), AT, 0), Err(Error::Full));
+    assert_eq!(lengths(&linker), (32, 0));
+    // all that there is is lent, not only what the count asked for
+    let mut roomy = Linker::from_buffers(vec![0; 0x50_0000], Vec::new(), vec![0; MISSING_LENGTH]).unwrap();
+    assert_eq!(load_page(&mut roomy, &mut image.clone(), AT, 0), Ok(0));
+    assert_eq!(roomy.modules().next().unwrap().indexed_exports().len(), 0x10_0001);
+}
+
+#[test]
+fn a_state_is_saved_with_the_bytes_in_use_alone() {
+    let linker = loaded();
+    let (records, names) = linker.used();
+    let bytes = linker.to_bytes();
+    // and one missing name
+    assert_eq!(bytes.len(), 8 + records + names + 514);
+    let again = Linker::from_bytes(&bytes).unwrap();
+    assert!(again == linker && again.to_bytes() == bytes);
+    assert_eq!(again.missing().collect::<Vec<_>>(), [b"nobody's"]);
+    let empty = Linker::from_bytes(&Linker::new().to_bytes()).unwrap();
+    assert!(empty == Linker::new() && empty != linker);
+}
+
+#[test]
+fn a_state_that_is_none_says_why() {
+    let bytes = loaded().to_bytes();
+    let length = bytes.len();
+    let wrong = |found, expected| StateError::WrongLength { found, expected };
+    let broken = |at: usize, byte| {
+        let mut bytes = bytes.clone();
+        bytes[at] = byte;
+        Linker::from_bytes(&bytes).unwrap_err()
+    };
+    assert_eq!(Linker::from_bytes(&[]).unwrap_err(), StateError::NotAState);
+    assert_eq!(broken(0, b'X'), StateError::NotAState);
+    assert_eq!(broken(4, 2), StateError::UnknownForm(2));
+    assert_eq!(Linker::from_bytes(&bytes[..length - 1]).unwrap_err(), wrong(length - 1, length));
+    assert_eq!(Linker::from_bytes(&[&bytes[..], &[0]].concat()).unwrap_err(), wrong(length + 1, length));
+    assert_eq!(Linker::from_bytes(&bytes[..20]).unwrap_err(), wrong(20, 40));
+    // 65 modules; names that claim a byte more; a second missing name
+    assert_eq!(broken(8, 65), StateError::NotARegister);
+    assert_eq!(broken(8 + 16, bytes[8 + 16] + 1), wrong(length, length + 1));
+    assert_eq!(broken(8 + 20, 2), wrong(length, length + 514));
+    assert_eq!(wrong(1, 2).to_string(), "the saved state has 1 bytes, and its header asks for 2");
+}
+
+#[test]
+fn buffers_of_the_raw_layer_make_a_linker() {
+    let linker = loaded();
     let (records, names, missing) = linker.buffers();
     let (records, names, missing) = (records.to_vec(), names.to_vec(), missing.to_vec());
-    let again = Linker::from_buffers(records.clone(), names.clone(), missing.clone());
-    assert!(again == Some(linker));
-    assert!(Linker::from_buffers(vec![0; 31], names.clone(), missing.clone()).is_none());
-    assert!(Linker::from_buffers(records.clone(), names, vec![0; MISSING_LENGTH - 1]).is_none());
-    assert!(Linker::from_buffers(records, Vec::new(), missing).is_none());
+    let of =
+        |records: &[u8], names: &[u8], missing: &[u8]| Linker::from_buffers(records.to_vec(), names.to_vec(), missing.to_vec());
+    assert!(of(&records, &names, &missing) == Ok(linker));
+    assert_eq!(of(&[0; 31], &names, &missing), Err(StateError::NotARegister));
+    assert_eq!(of(&records, &names, &missing[1..]), Err(StateError::NotARegister));
+    assert_eq!(of(&records, &[], &missing), Err(StateError::NotARegister));
 }
 
 /// A page with these words, and a magic at the page's 0x080.
@@ -101,32 +236,32 @@ fn page(words: &[(usize, u32)]) -> Vec<u8> {
     page
 }
 
-fn load_page(linker: &mut Linker, window: &mut [u8], base: u32, level: u32) -> Result<u32, Error> {
-    linker.load(AT, window, base, 0x1000, 0, 0, 0, 0, true, level)
+fn load_page(linker: &mut Linker, memory: &mut [u8], base: u32, fix_level: u32) -> Result<u32, Error> {
+    linker.load(&mut window(memory), LoadArguments { base, size: 0x1000, auto_link: true, fix_level, ..Default::default() })
 }
 
 #[test]
 fn a_module_inside_has_no_touch() {
     let mut linker = Linker::new();
-    let mut window = page(&[(0xB0, 0x138), (0xB4, 0x10)]);
+    let mut memory = page(&[(0xB0, 0x138), (0xB4, 0x10)]);
     assert_eq!(linker.touch(), None);
-    assert_eq!((linker.unload(AT, &mut window, AT), linker.touch()), (Ok(false), None));
-    assert_eq!((load_page(&mut linker, &mut window, AT + 0x800, 1), linker.touch()), (Err(Error::NotACro), None));
-    assert_eq!((load_page(&mut linker, &mut window, AT, 1), linker.touch()), (Ok(0x1000), None));
-    assert_eq!((linker.unload(AT, &mut window, AT), linker.touch()), (Ok(true), None));
+    assert_eq!((linker.unload(&mut window(&mut memory), AT), linker.touch()), (Ok(false), None));
+    assert_eq!((load_page(&mut linker, &mut memory, AT + 0x800, 1), linker.touch()), (Err(Error::NotACro), None));
+    assert_eq!((load_page(&mut linker, &mut memory, AT, 1), linker.touch()), (Ok(0x1000), None));
+    assert_eq!((linker.unload(&mut window(&mut memory), AT), linker.touch()), (Ok(true), None));
 }
 
 #[test]
 fn a_touch_is_of_the_last_call() {
     let mut linker = Linker::new();
-    let mut window = page(&[]);
+    let mut memory = page(&[]);
     // the magic outside, and half outside: where it starts, not its first byte outside
-    assert_eq!((load_page(&mut linker, &mut window, AT + 0xFFE, 0), linker.touch()), (Err(Error::NotACro), Some(AT + 0x107E)));
-    assert_eq!((load_page(&mut linker, &mut window, AT + 0xF7E, 0), linker.touch()), (Err(Error::NotACro), Some(AT + 0xFFE)));
-    assert_eq!((load_page(&mut linker, &mut window, AT, 0), linker.touch()), (Ok(0), None));
+    assert_eq!((load_page(&mut linker, &mut memory, AT + 0xFFE, 0), linker.touch()), (Err(Error::NotACro), Some(AT + 0x107E)));
+    assert_eq!((load_page(&mut linker, &mut memory, AT + 0xF7E, 0), linker.touch()), (Err(Error::NotACro), Some(AT + 0xFFE)));
+    assert_eq!((load_page(&mut linker, &mut memory, AT, 0), linker.touch()), (Ok(0), None));
     // a bad window is not accessed
-    assert_eq!((load_page(&mut linker, &mut window, AT + 0xFFE, 0), linker.touch()), (Err(Error::NotACro), Some(AT + 0x107E)));
-    assert_eq!((load_page(&mut linker, &mut window[..0xFFF], AT, 0), linker.touch()), (Err(Error::BadWindow), None));
+    assert_eq!((load_page(&mut linker, &mut memory, AT + 0xFFE, 0), linker.touch()), (Err(Error::NotACro), Some(AT + 0x107E)));
+    assert_eq!((load_page(&mut linker, &mut memory[..0xFFF], AT, 0), linker.touch()), (Err(Error::BadWindow), None));
 }
 
 #[test]
@@ -135,9 +270,9 @@ fn a_cut_write_is_a_touch() {
     let segment = [(0xC8, 0x200), (0xCC, 1), (0x200, 0xFF0), (0x204, 0x10)];
     let relocation = [(0x128, 0x210), (0x12C, 1), (0x210, 0xE0), (0x214, 2)];
     let mut linker = Linker::new();
-    let mut window = page(&[segment, relocation].concat());
-    assert_eq!((load_page(&mut linker, &mut window, AT, 0), linker.touch()), (Ok(0), Some(AT + 0xFFE)));
-    assert_eq!(window[0xFFC..], [0, 0, 0xF0, 0x0F]);
+    let mut memory = page(&[segment, relocation].concat());
+    assert_eq!((load_page(&mut linker, &mut memory, AT, 0), linker.touch()), (Ok(0), Some(AT + 0xFFE)));
+    assert_eq!(memory[0xFFC..], [0, 0, 0xF0, 0x0F]);
 }
 
 #[test]
@@ -145,9 +280,11 @@ fn a_touch_may_start_at_address_0() {
     // a static module at the top, whose list fields lie at address 0
     const TOP: u32 = 0xFFFF_F000;
     let mut linker = Linker::new();
-    let mut window = page(&[(0xFF8, u32::from_le_bytes(*b"CRS0"))]);
-    assert_eq!(linker.initialize(TOP, &mut window, 0xFFFF_FF78, 0x138), Ok(()));
+    let mut memory = page(&[(0xFF8, u32::from_le_bytes(*b"CRS0"))]);
+    let mut window = Window { at: TOP, bytes: &mut memory };
+    assert_eq!(linker.initialize(&mut window, 0xFFFF_FF78, 0x138), Ok(()));
     assert_eq!(linker.touch(), Some(0x28));
-    assert_eq!(linker.load(TOP, &mut window, TOP, 0x1000, 0, 0, 0, 0, true, 0), Ok(0));
+    let arguments = LoadArguments { base: TOP, size: 0x1000, auto_link: true, ..Default::default() };
+    assert_eq!(linker.load(&mut window, arguments), Ok(0));
     assert_eq!(linker.touch(), Some(0));
 }

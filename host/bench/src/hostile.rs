@@ -1,8 +1,8 @@
 //! Loads of a small module, one of whose counts is 2^24 or 2^32 - 1. Each side does each in a process of its own, which
 //! may use a minute and 4 GiB.
 
-use crate::work::{call, AT};
-use fillqhano::Linker;
+use crate::work::AT;
+use fillqhano::{Linker, Window};
 use oracle::Oracle;
 use sessions::image::{tag, FromModule, Image, Internal, Relocation, COUNTS};
 use sessions::{Call, Step};
@@ -74,7 +74,10 @@ pub fn one(side: &str, case: &str, count: &str) {
     let (mut window, step) = session(case, count.parse().unwrap());
     let start = crate::clock::now();
     let answer = match side {
-        "linker" => call(&mut Linker::new(), &mut window, &step),
+        "linker" => {
+            let answer = step.call(&mut Linker::new(), &mut Window { at: AT, bytes: &mut window });
+            (answer.number, answer.value)
+        }
         _ => match Oracle::new(AT, window) {
             Some(mut oracle) => oracle.call(&step),
             None => return println!("no sources"),
@@ -99,7 +102,7 @@ fn session(hostile: Hostile, count: u32) -> (Vec<u8>, Step) {
         Hostile::Entry(offset) => put(entry + offset, count),
         Hostile::Batch => put(import + 4, 0xF00),
     }
-    (window, Step { call: Call::Load, auto_link: 1, level: 1, ..Step::initialize(AT, size) })
+    (window, Step { call: Call::Load, auto_link: 1, fix_level: 1, ..Step::initialize(AT, size) })
 }
 
 /// A module that has one of each, and imports from itself.

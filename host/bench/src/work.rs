@@ -1,7 +1,7 @@
 //! The rows of the benchmark: what stands before, and the calls that are timed.
 
 use crate::clock::now;
-use fillqhano::Linker;
+use fillqhano::{Linker, Window};
 use oracle::Oracle;
 use sessions::image::{tag, FromModule, Image, Internal, Relocation, BSS_SEGMENT, CODE_SEGMENT};
 use sessions::{Call, Step};
@@ -16,8 +16,6 @@ pub const AT: u32 = 0x0010_0000;
 pub struct Work {
     pub name: &'static str,
     window: Vec<u8>,
-    /// The bytes of the records, and of the names.
-    room: usize,
     first: Vec<Step>,
     timed: Vec<Step>,
 }
@@ -31,8 +29,8 @@ impl Work {
             register_test(),
             table_moves(),
             batch_walks(),
-            many_exports("5,000 named exports, as many imports", 5_000, 0x60000),
-            many_exports("20,000 named exports, as many imports", 20_000, 0x180000),
+            many_exports("5,000 named exports, as many imports", 5_000),
+            many_exports("20,000 named exports, as many imports", 20_000),
         ]
     }
 
@@ -49,19 +47,21 @@ impl Work {
 
     /// The linker and the window after the calls that come first.
     fn linker(&self) -> (Linker, Vec<u8>) {
-        let mut linker = Linker::with_room(self.room, self.room);
-        let mut window = self.window.clone();
+        let mut linker = Linker::new();
+        let mut bytes = self.window.clone();
+        let mut window = Window { at: AT, bytes: &mut bytes };
         for step in &self.first {
-            assert_eq!(call(&mut linker, &mut window, step).0, 0, "{}: {step:x?}", self.name);
+            assert_eq!(step.call(&mut linker, &mut window).number, 0, "{}: {step:x?}", self.name);
         }
-        (linker, window)
+        (linker, bytes)
     }
 
     fn time_linker(&self, ready: &(Linker, Vec<u8>)) -> Duration {
-        let (mut linker, mut window) = ready.clone();
+        let (mut linker, mut bytes) = ready.clone();
+        let mut window = Window { at: AT, bytes: &mut bytes };
         let start = now();
         for step in &self.timed {
-            std::hint::black_box(call(&mut linker, &mut window, step));
+            std::hint::black_box(step.call(&mut linker, &mut window));
         }
         now() - start
     }
@@ -77,26 +77,6 @@ impl Work {
         }
         Some(now() - start)
     }
-}
-
-pub fn call(linker: &mut Linker, window: &mut [u8], step: &Step) -> (u32, u32) {
-    let answer = match step.call {
-        Call::Initialize => linker.initialize(AT, window, step.base, step.size).map(|()| 0),
-        Call::Load => linker.load(
-            AT,
-            window,
-            step.base,
-            step.size,
-            step.data,
-            step.data_size,
-            step.bss,
-            step.bss_size,
-            step.auto_link != 0,
-            step.level,
-        ),
-        Call::Unload => linker.unload(AT, window, step.base).map(|left| left as u32),
-    };
-    answer.map_or_else(|error| (error.number(), 0), |value| (0, value))
 }
 
 /// Images in a window, one after the other, each with the call that takes it in.
@@ -125,14 +105,15 @@ impl Stage {
         self.steps.push(match is_static {
             true => Step::initialize(base, size),
             false => {
-                Step { call: Call::Load, base, size, data, data_size: lent.0, bss, bss_size: lent.1, auto_link: 1, level: 1 }
+                let load = Step { call: Call::Load, base, size, auto_link: 1, fix_level: 1, ..Step::default() };
+                Step { data_segment: data, data_segment_size: lent.0, bss_segment: bss, bss_segment_size: lent.1, ..load }
             }
         });
     }
 
-    fn work(self, name: &'static str, room: usize, first: usize, timed: Vec<Step>) -> Work {
+    fn work(self, name: &'static str, first: usize, timed: Vec<Step>) -> Work {
         let first = self.steps[..first].to_vec();
-        Work { name, window: self.window, room, first, timed }
+        Work { name, window: self.window, first, timed }
     }
 }
 
@@ -168,7 +149,7 @@ fn large_module() -> Work {
     image.internal = internal.into_iter().map(|relocation| Internal { relocation, symbol: 0 }).collect();
     stage.add(image);
     let timed = vec![stage.steps[1]];
-    stage.work("load of a large module", 0x40000, 1, timed)
+    stage.work("load of a large module", 1, timed)
 }
 
 /// A module of a scene: exports, imports from its neighbour and from the static module, by name, index and tag.
@@ -196,12 +177,12 @@ fn scene_swap() -> Work {
     }
     let swaps = (0..10).flat_map(|swap| {
         let step = stage.steps[1 + 2 * swap];
-        [Step::unload(step.base), Step { level: 0, ..step }]
+        [Step::unload(step.base), Step { fix_level: 0, ..step }]
     });
     let timed = swaps.collect();
     // level 0 keeps the tables, so that a module that was unloaded can be loaded again
-    stage.steps.iter_mut().for_each(|step| step.level = 0);
-    stage.work("ten scene swaps among 24 modules", 0x40000, 25, timed)
+    stage.steps.iter_mut().for_each(|step| step.fix_level = 0);
+    stage.work("ten scene swaps among 24 modules", 25, timed)
 }
 
 /// 64 modules of 16 exports and 16 imports, the static one among them.
@@ -211,7 +192,7 @@ fn many_small() -> Work {
         stage.add(scene_module(number, 16));
     }
     let timed = stage.steps[1..].to_vec();
-    stage.work("63 loads of small modules", 0x40000, 1, timed)
+    stage.work("63 loads of small modules", 1, timed)
 }
 
 /// A call that is refused for its magic: all the linker does is to test the register. The Rust has no such test.
@@ -221,7 +202,7 @@ fn register_test() -> Work {
         stage.add(scene_module(number, 100));
     }
     let timed = vec![Step::initialize(stage.steps[1].base + 0x1000, 0)];
-    stage.work("the register's test alone, 25 modules", 0x40000, 25, timed)
+    stage.work("the register's test alone, 25 modules", 25, timed)
 }
 
 /// 100,000 entries of import tables whose pointers move, and that no module entry uses.
@@ -239,7 +220,7 @@ fn table_moves() -> Work {
     let header = (stage.steps[1].base - AT) as usize;
     stage.window[header + 0xF4..header + 0xF8].fill(0);
     let timed = vec![stage.steps[1]];
-    stage.work("moves of 100,000 table entries", 0x40000, 1, timed)
+    stage.work("moves of 100,000 table entries", 1, timed)
 }
 
 /// A module leaves and comes from which another imports 50 symbols, each in 4,000 places.
@@ -251,14 +232,14 @@ fn batch_walks() -> Work {
     image.imports = (0..50).map(|index| (export(2, index), relocations(&mut next, 4000))).collect();
     stage.add(image);
     stage.add(with_exports(empty("exporter", 0x1000), 2, 50));
-    stage.steps.iter_mut().for_each(|step| step.level = 0);
+    stage.steps.iter_mut().for_each(|step| step.fix_level = 0);
     let exporter = stage.steps[2];
     let timed = vec![Step::unload(exporter.base), exporter];
-    stage.work("100 walks of batches of 4,000 entries", 0x40000, 3, timed)
+    stage.work("100 walks of batches of 4,000 entries", 3, timed)
 }
 
 /// Only names: so many exports, and as many imports of one relocation each, from a static module of as many exports.
-fn many_exports(name: &'static str, count: u32, room: usize) -> Work {
+fn many_exports(name: &'static str, count: u32) -> Work {
     let mut stage = Stage::new();
     stage.add(with_exports(empty("static", 4 * count), 0, count));
     let mut image = with_exports(empty("exports", 4 * count), 1, count);
@@ -266,5 +247,5 @@ fn many_exports(name: &'static str, count: u32, room: usize) -> Work {
     image.imports = (0..count).map(|index| (export(0, index), relocations(&mut next, 1))).collect();
     stage.add(image);
     let timed = vec![stage.steps[1]];
-    stage.work(name, room, 1, timed)
+    stage.work(name, 1, timed)
 }

@@ -1,10 +1,11 @@
 //! One session on both sides. The Rust goes first: a call that it cannot finish in time is not made on the linker.
 
+use crate::asked::Asked;
 use crate::encoding::is_encoded;
 use crate::faults::{self, Told};
 use crate::touches::{Beginning, End};
 use crate::under_test::{self, Buffers};
-use fillqhano::calls::Answer;
+use fillqhano::raw::Answer;
 use fillqhano::Linker;
 use oracle::memory::Watch;
 use oracle::Oracle;
@@ -34,6 +35,10 @@ pub struct Tally {
     pub high_differences: u64,
     /// Calls that need too many accesses, which end their session.
     pub cut: u64,
+    /// Refusals for want of room though the buffers grow, and 64 modules do not stand: for the wrapper's limit, and for
+    /// counts or names that the image rewrites while it is rebased.
+    pub limited: u64,
+    pub rewritten: u64,
     /// Refusals for want of room of a module without names, whose window is told by the model alone, not by the Rust.
     pub unseen: u64,
     /// Calls with a bad window or register, compared with document 01.
@@ -59,6 +64,8 @@ impl AddAssign for Tally {
         self.high_batches += other.high_batches;
         self.high_differences += other.high_differences;
         self.cut += other.cut;
+        self.limited += other.limited;
+        self.rewritten += other.rewritten;
         self.unseen += other.unseen;
         self.refused += other.refused;
     }
@@ -120,7 +127,7 @@ struct Run<'a> {
 impl<'a> Run<'a> {
     fn new(session: &'a Session, told: Told) -> Option<Run<'a>> {
         let oracle = Oracle::new(session.at, session.window.clone())?;
-        let buffers = Buffers::new(session.at, session.window.clone(), session.records, session.names);
+        let buffers = Buffers::of(session);
         let done = Compared { tally: Tally::default(), answers: Vec::new(), state: State::default(), mismatch: None };
         Some(Run { session, told, oracle, buffers, done })
     }
@@ -145,8 +152,9 @@ impl<'a> Run<'a> {
             let state = self.oracle.state();
             let seen = self.window_seen(step, number, &state, &model);
             doubt = self.doubt(number, seen, &model);
-            if number == 0 && !has_room(&state, self.session) {
+            if number == 0 && !has_room(&state, self.buffers.lent(step)) {
                 self.done.tally.unseen += seen.is_none() as u64;
+                doubt = doubt.or(self.full_though_it_grows(step, &state, &model));
                 expected = Answer::new(5, 0, model.touch);
                 let before = &self.done.state;
                 self.oracle.refuse_last(before.crs, before.missing.len(), model.window);
@@ -177,6 +185,21 @@ impl<'a> Run<'a> {
         let same_touch = model.touch == touch || number == 0 && model.touch.is_none();
         let same = ended == number && same_touch && seen.is_none_or(|seen| seen == model.window);
         (!same).then(|| format!("the model gives {ended}, touch {:x?}, and the Rust {number}, touch {touch:x?}", model.touch))
+    }
+
+    /// Where the buffers grow and 64 modules do not stand, a call finds no room only for the limit, or because the image
+    /// rewrites its own counts or names; gives what is wrong if it is neither.
+    fn full_though_it_grows(&mut self, step: &Step, state: &State, model: &Beginning) -> Option<String> {
+        let limit = self.buffers.limit.filter(|_| state.modules.len() <= 64)?;
+        let (records, names) = room(state);
+        if records > limit || names > limit {
+            self.done.tally.limited += 1;
+            return None;
+        }
+        self.done.tally.rewritten += 1;
+        let before = Asked::of(self.session.at, &self.buffers.window, step.base, step.base);
+        let after = Asked::of(self.session.at, &model.window, step.base, 0);
+        (before == after).then(|| "no room, and neither counts nor names have changed".into())
     }
 
     /// Makes the call on the linker and compares.
@@ -216,11 +239,16 @@ fn points_to_name(window: &[u8], place: u32) -> bool {
     (0xC0..0xC4).any(|offset| window.get(place.wrapping_add(offset) as usize).is_some_and(|&byte| byte != 0))
 }
 
-/// Whether the register has room for the last module, by document 01.
-fn has_room(state: &State, session: &Session) -> bool {
+/// The bytes of records and of names that what stands takes, by document 01.
+fn room(state: &State) -> (usize, usize) {
     let rooms = state.modules.iter().map(|module| module.room());
-    let (records, names) = rooms.fold((32, 0), |sum, room| (sum.0 + room.0, sum.1 + room.1));
-    state.modules.len() <= 64 && records <= session.records && names <= session.names
+    rooms.fold((32, 0), |sum, room| (sum.0 + room.0, sum.1 + room.1))
+}
+
+/// Whether so many bytes of records and of names have room for what stands, by document 01.
+fn has_room(state: &State, lent: (usize, usize)) -> bool {
+    let (records, names) = room(state);
+    state.modules.len() <= 64 && records <= lent.0 && names <= lent.1
 }
 
 /// What differs between the Rust's answer, window and state and the linker's, if anything does.

@@ -1,9 +1,10 @@
-//! The five families of sessions. Counts are capped so that runs stay fast: a header's count stays below some thousands,
+//! The six families of sessions. Counts are capped so that runs stay fast: a header's count stays below some thousands,
 //! unless the session itself changes it; a call that then needs too many accesses is cut.
 
-use sessions::modules::Modules;
+use fillqhano::Linker;
 use sessions::image::{COUNTS, HEADER};
-use sessions::{Call, Random, Session, Step};
+use sessions::modules::Modules;
+use sessions::{Call, Random, Room, Session, Step};
 
 #[derive(Debug, Clone, Copy, PartialEq, Eq)]
 pub enum Family {
@@ -17,10 +18,13 @@ pub enum Family {
     Filling,
     /// Modules of which something reaches over an edge of the window.
     Reaching,
+    /// Sessions of the other kinds by the host's wrapper, whose buffers grow.
+    Growing,
 }
 
 impl Family {
-    pub const ALL: [Family; 5] = [Family::WellLaid, Family::Damaged, Family::Overlapping, Family::Filling, Family::Reaching];
+    pub const ALL: [Family; 6] =
+        [Family::WellLaid, Family::Damaged, Family::Overlapping, Family::Filling, Family::Reaching, Family::Growing];
 
     pub fn name(self) -> &'static str {
         match self {
@@ -29,6 +33,7 @@ impl Family {
             Family::Overlapping => "overlapping",
             Family::Filling => "filling",
             Family::Reaching => "reaching",
+            Family::Growing => "growing",
         }
     }
 
@@ -41,6 +46,7 @@ impl Family {
             Family::Overlapping => overlapping(&mut random),
             Family::Filling => filling(&mut random),
             Family::Reaching => reaching(&mut random),
+            Family::Growing => growing(&mut random),
         }
     }
 }
@@ -64,7 +70,7 @@ fn any_step(random: &mut Random, modules: &Modules, index: u32) -> Step {
     }
     if step.call == Call::Load {
         step.auto_link = random.pick(&[1, 1, 1, 0, 2]);
-        step.level = random.pick(&[0, 1, 1, 1, 2, 3, 4, u32::MAX]);
+        step.fix_level = random.pick(&[0, 1, 1, 1, 2, 3, 4, u32::MAX]);
     }
     if !first && random.below(3) == 0 {
         step = Step::unload(step.base);
@@ -146,7 +152,7 @@ fn damage(random: &mut Random, session: &mut Session) {
 /// Changes a segment: its offset, its size or its kind. Enough is lent for whatever comes of it.
 fn damage_segment(random: &mut Random, session: &mut Session, base: u32) {
     for step in session.steps.iter_mut().filter(|step| step.call == Call::Load && step.base == base) {
-        (step.data_size, step.bss_size) = (0x1000, 0x1000);
+        (step.data_segment_size, step.bss_segment_size) = (0x1000, 0x1000);
     }
     let place = base.wrapping_sub(session.at);
     let window = &mut session.window;
@@ -192,10 +198,10 @@ fn damage_step(random: &mut Random, session: &mut Session) {
         (_, Call::Unload) => step.base = step.base.wrapping_add(4),
         (1, _) => step.size = word,
         (_, Call::Initialize) => step.size = 0,
-        (2, _) => step.data = word,
-        (3, _) => step.data_size = word,
-        (4, _) => step.bss = word,
-        _ => step.bss_size = word,
+        (2, _) => step.data_segment = word,
+        (3, _) => step.data_segment_size = word,
+        (4, _) => step.bss_segment = word,
+        _ => step.bss_segment_size = word,
     }
 }
 
@@ -221,8 +227,7 @@ fn overlapping(random: &mut Random) -> Session {
     let top = 0u32.wrapping_sub(length);
     let anywhere = 0x1000 * random.below(0xF_FFF0);
     let at = random.pick(&[0, 0, 0x1000, 0x1000, 0x2000, anywhere, top, top - 0x1000]);
-    let mut session =
-        Session { at, window: vec![0; length as usize], records: Session::ROOM, names: Session::ROOM, steps: Vec::new() };
+    let mut session = Session { at, window: vec![0; length as usize], room: Room::PROGRAM, steps: Vec::new() };
     let count = random.from_to(1, 4);
     let mut bases = vec![soup_base(random, at, length)];
     while (bases.len() as u32) < count {
@@ -346,12 +351,12 @@ fn soup_step(random: &mut Random, session: &Session, base: u32, index: u32) -> S
             call: Call::Load,
             base,
             size,
-            data: address(random),
-            data_size: random.pick(&[0, 0x10, 0x400, 0x4000, u32::MAX]),
-            bss: address(random),
-            bss_size: random.pick(&[0, 0x10, 0x400, 0x4000, u32::MAX]),
+            data_segment: address(random),
+            data_segment_size: random.pick(&[0, 0x10, 0x400, 0x4000, u32::MAX]),
+            bss_segment: address(random),
+            bss_segment_size: random.pick(&[0, 0x10, 0x400, 0x4000, u32::MAX]),
             auto_link: random.pick(&[1, 1, 1, 0, 7]),
-            level: random.pick(&[0, 1, 1, 2, 3, 4]),
+            fix_level: random.pick(&[0, 1, 1, 2, 3, 4]),
         },
     }
 }
@@ -376,13 +381,14 @@ fn filling(random: &mut Random) -> Session {
         }
     }
     if long || random.once_in(4) {
-        (session.records, session.names) = (1 << 16, 1 << 16);
+        session.room = Room::Bytes { records: 1 << 16, names: 1 << 16 };
         return session;
     }
     let room = random.pick(&[32, 100, 400, 1000, 3000, 16_384]);
-    session.records = (room + random.below(room)) as usize;
+    let records = (room + random.below(room)) as usize;
     let room = random.pick(&[0, 1, 30, 100, 400, 2000, 16_384]);
-    session.names = (room + random.below(room + 1)) as usize;
+    let names = (room + random.below(room + 1)) as usize;
+    session.room = Room::Bytes { records, names };
     session
 }
 
@@ -426,7 +432,7 @@ fn reaching(random: &mut Random) -> Session {
         session.steps.push(Step { base, ..step });
     }
     if random.once_in(4) {
-        (session.records, session.names) = (32 + random.below(400) as usize, random.below(100) as usize);
+        session.room = Room::Bytes { records: 32 + random.below(400) as usize, names: random.below(100) as usize };
     }
     cap_counts(random, &mut session);
     session
@@ -437,7 +443,7 @@ fn move_to(session: &mut Session, at: u32) {
     let by = at.wrapping_sub(session.at);
     session.at = at;
     for step in &mut session.steps {
-        for address in [&mut step.base, &mut step.data, &mut step.bss] {
+        for address in [&mut step.base, &mut step.data_segment, &mut step.bss_segment] {
             *address = address.wrapping_add(by);
         }
     }
@@ -501,8 +507,8 @@ fn reach(random: &mut Random, session: &mut Session) {
         _ => {
             for step in session.steps.iter_mut().filter(|step| step.call == Call::Load && step.base == base) {
                 match random.once_in(2) {
-                    true => step.data = edge,
-                    false => step.bss = edge,
+                    true => step.data_segment = edge,
+                    false => step.bss_segment = edge,
                 }
             }
         }
@@ -567,4 +573,17 @@ fn segments_across(random: &mut Random, session: &mut Session, base: u32) {
     put(&mut session.window, great, 0x007A_7A7A);
     put_wrapped(session, place.wrapping_add(0xC8), great.wrapping_sub(12 * before).wrapping_sub(place));
     put_wrapped(session, place.wrapping_add(0xCC), before + random.below(3));
+}
+
+/// Where a limit is met it is often a small one: the wrapper's own is far above what these windows can ask for.
+fn growing(random: &mut Random) -> Session {
+    let mut session = match random.below(4) {
+        0 => well_laid(random),
+        1 => damaged(random),
+        2 => overlapping(random),
+        _ => filling(random),
+    };
+    let small = random.pick(&[0, 0x40, 0x200, 0x800]) + random.below(0x400) as usize;
+    session.room = Room::Growing { limit: if random.once_in(4) { small } else { Linker::LIMIT } };
+    session
 }

@@ -3,7 +3,7 @@
 
 use crate::encoding::encode;
 use crate::under_test::{state, Buffers};
-use fillqhano::calls::Answer;
+use fillqhano::raw::Answer;
 use oracle::memory::{Kind, Outside, Watch};
 use sessions::{Random, Step};
 
@@ -26,7 +26,8 @@ fn first_of(watch: &Watch, counts: fn(&Outside) -> bool) -> Option<u32> {
 
 /// Makes the call on a copy with one of eight faults. Gives its number, or what differs from a refusal that changes nothing.
 pub fn refused(buffers: &Buffers, step: &Step, random: &mut Random) -> Result<u32, String> {
-    let mut broken = buffers.clone();
+    // the library's own functions, since the wrapper takes no such register
+    let mut broken = Buffers { limit: None, ..buffers.clone() };
     let number = break_one(&mut broken, random);
     let before = broken.clone();
     let given = broken.call(step);

@@ -7,9 +7,9 @@
 use crate::encoding::is_encoded;
 use crate::faults;
 use crate::under_test::{state, Buffers};
-use fillqhano::calls::Answer;
-use sessions::modules::{Modules, Placed};
+use fillqhano::raw::Answer;
 use sessions::image::Relocation;
+use sessions::modules::{Modules, Placed};
 use sessions::{Call, Random, Step};
 use std::ops::Range;
 
@@ -73,7 +73,10 @@ fn image_area(member: &Placed) -> Range<u32> {
 /// A member's image, data and bss. A static module's are all in its image.
 fn areas(member: &Placed) -> impl Iterator<Item = Range<u32>> {
     let step = &member.step;
-    let lent = [step.data..step.data + step.data_size, step.bss..step.bss + step.bss_size];
+    let lent = [
+        step.data_segment..step.data_segment + step.data_segment_size,
+        step.bss_segment..step.bss_segment + step.bss_segment_size,
+    ];
     std::iter::once(image_area(member)).chain(lent).filter(|area| !area.is_empty())
 }
 
@@ -297,8 +300,8 @@ fn segment(member: &Placed, index: u32) -> Option<Range<u32>> {
     let (offset, size) = (word(entry), word(entry + 4));
     let start = match index {
         _ if member.image.static_base.is_some() => offset,
-        2 if size > 0 => member.step.data,
-        3 if size > 0 => member.step.bss,
+        2 if size > 0 => member.step.data_segment,
+        3 if size > 0 => member.step.bss_segment,
         _ if offset > 0 => member.step.base + offset,
         _ => 0,
     };

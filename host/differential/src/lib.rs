@@ -1,5 +1,7 @@
 //! The linker and the Rust on the same sessions, all that they leave compared call by call.
 
+mod asked;
+pub mod cases;
 pub mod compare;
 pub mod encoding;
 pub mod families;

@@ -5,7 +5,8 @@
 use differential::compare::{compare, Compared, Mismatch, Tally};
 use differential::families::Family;
 use differential::history::{run_pair, Seen};
-use differential::{shrink, stored, text};
+use differential::stored::{self, Answers};
+use differential::{shrink, text};
 use sessions::Session;
 use std::path::{Path, PathBuf};
 use std::process::ExitCode;
@@ -59,22 +60,23 @@ fn run(asked: Asked) -> Result<(), String> {
     }
     compare_pairs(&asked)?;
     let gate = asked.seed == SEED && asked.sessions == SESSIONS;
-    if compare(&Family::WellLaid.session(0, 0)).is_none() {
-        println!("the Rust's sources are not at hand: its stored answers are replayed");
-        return replay();
+    if !oracle::AT_HAND {
+        let calls = replay()?;
+        println!("the Rust itself was NOT compared, its sources are not at hand: {calls} of its stored answers, 0 mismatches");
+        return Ok(());
     }
-    let answers = compare_all(&asked)?;
+    let (answers, calls) = compare_all(&asked)?;
     if asked.store {
-        return std::fs::write(STORED, answers).map_err(|error| format!("{STORED}: {error}"));
+        return std::fs::write(STORED, answers.text()).map_err(|error| format!("{STORED}: {error}"));
     }
-    if gate && answers != std::fs::read_to_string(STORED).unwrap_or_default() {
+    if gate && answers.text() != std::fs::read_to_string(STORED).unwrap_or_default() {
         return Err("the stored answers are not those of the Rust: `differential --store` writes them".into());
     }
     if gate {
-        replay()
-    } else {
-        Ok(())
+        println!("{} stored answers replayed, 0 mismatches", replay()?);
     }
+    println!("the Rust itself was compared: {calls} calls, 0 mismatches");
+    Ok(())
 }
 
 /// Demand 3 by running.
@@ -95,16 +97,14 @@ fn compare_pairs(asked: &Asked) -> Result<(), String> {
     Ok(())
 }
 
-fn replay() -> Result<(), String> {
+fn replay() -> Result<u64, String> {
     let answers = std::fs::read_to_string(STORED).map_err(|error| format!("{STORED}: {error}"))?;
-    let calls = stored::replay(&answers, SEED)?;
-    println!("{calls} stored answers replayed, 0 mismatches");
-    Ok(())
+    stored::replay(&answers, SEED)
 }
 
-/// Compares the sessions of every family; gives the Rust's answers.
-fn compare_all(asked: &Asked) -> Result<String, String> {
-    let mut answers = String::new();
+/// Compares the sessions of every family; gives the Rust's answers, and how many calls were compared.
+fn compare_all(asked: &Asked) -> Result<(Answers, u64), String> {
+    let mut answers = Answers::default();
     let mut all = Tally::default();
     for family in Family::ALL {
         let mut tally = Tally::default();
@@ -115,7 +115,7 @@ fn compare_all(asked: &Asked) -> Result<String, String> {
                 println!("{} session {number} of seed {}", family.name(), asked.seed);
                 return Err(smallest(&session, mismatch));
             }
-            stored::write(&mut answers, family, number, &compared.answers);
+            answers.add(family, number, &compared.answers);
             if let Some(folder) = &asked.keep {
                 keep(&folder.join(format!("{}-{number}", family.name())), &session, &compared)?;
             }
@@ -125,8 +125,7 @@ fn compare_all(asked: &Asked) -> Result<String, String> {
         all += tally;
     }
     show("all", &all);
-    println!("{} calls compared, 0 mismatches", all.compared());
-    Ok(answers)
+    Ok((answers, all.compared()))
 }
 
 fn show(name: &str, tally: &Tally) {
@@ -143,6 +142,10 @@ fn show(name: &str, tally: &Tally) {
     println!(
         "  set apart: odd names {}, high batches {} equal and {} not",
         tally.odd_names, tally.high_batches, tally.high_differences
+    );
+    println!(
+        "  5 where buffers grow: {} for the limit, {} for counts or names that the image rewrites",
+        tally.limited, tally.rewritten
     );
     println!("  not compared: too long {}; no room, with the model's window alone {}", tally.cut, tally.unseen);
 }
@@ -174,7 +177,7 @@ fn smallest(session: &Session, found: Mismatch) -> String {
     let path = std::env::temp_dir().join("mismatch.session");
     let written = std::fs::write(&path, session.to_file());
     let mut text = format!("step {}: {}\n", mismatch.step + 1, mismatch.what);
-    text += &format!("records {} bytes, names {} bytes, window at {:#x}\n", session.records, session.names, session.at);
+    text += &format!("{:?}, window at {:#x}\n", session.room, session.at);
     for step in &session.steps {
         text += &format!("{step:x?}\n");
     }

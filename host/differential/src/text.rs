@@ -3,15 +3,13 @@
 
 use crate::compare::Compared;
 use crate::under_test::Buffers;
-use fillqhano::calls::Answer;
-use sessions::{Call, Session, Step};
+use fillqhano::raw::Answer;
+use sessions::{Call, Room, Session, Step};
 use std::fmt::Write;
 
 /// Whether the session program takes the session, with the register's sizes that it has.
 pub fn is_taken(session: &Session) -> bool {
-    session.steps.len() <= 64
-        && session.window.len() <= 0x8000
-        && (session.records, session.names) == (Session::ROOM, Session::ROOM)
+    session.steps.len() <= 64 && session.window.len() <= 0x8000 && session.room == Room::PROGRAM
 }
 
 /// What it prints; none if not every call was compared.
@@ -37,7 +35,7 @@ pub fn printed(session: &Session, compared: &Compared) -> Option<String> {
 
 /// Runs the session on the linker; gives a line for each step, with its touch.
 pub fn steps_with_touches(session: &Session) -> String {
-    let mut buffers = Buffers::new(session.at, session.window.clone(), session.records, session.names);
+    let mut buffers = Buffers::of(session);
     let mut text = String::new();
     for (index, step) in session.steps.iter().enumerate() {
         let answer = buffers.call(step);

@@ -175,8 +175,8 @@ impl Module {
             }
             let lent = match segment.kind {
                 _ if segment.size == 0 => None,
-                DATA => Some((step.data, step.data_size)),
-                BSS => Some((step.bss, step.bss_size)),
+                DATA => Some((step.data_segment, step.data_segment_size)),
+                BSS => Some((step.bss_segment, step.bss_segment_size)),
                 _ => None,
             };
             if let Some((address, size)) = lent {

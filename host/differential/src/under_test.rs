@@ -1,8 +1,10 @@
-//! The linker under test: the three calls over a window and a register, by the library's own functions.
+//! The linker under test: the three calls over a window and a register, by the library's own functions or, where the register
+//! grows, by the host's wrapper.
 
-use fillqhano::calls::{self, Answer, Lent};
-use fillqhano::{Linker, MISSING_LENGTH};
-use sessions::{Call, Module, State, Step};
+use crate::asked::Asked;
+use fillqhano::raw::{self, Answer};
+use fillqhano::{Linker, Window, MISSING_LENGTH};
+use sessions::{Call, Module, Room, Session, State, Step};
 
 /// The buffers that a session lends.
 #[derive(Clone, PartialEq, Eq)]
@@ -12,27 +14,69 @@ pub struct Buffers {
     pub records: Vec<u8>,
     pub names: Vec<u8>,
     pub missing: Vec<u8>,
+    /// The wrapper's limit, where it makes the calls.
+    pub limit: Option<usize>,
 }
 
 impl Buffers {
     pub fn new(at: u32, window: Vec<u8>, records: usize, names: usize) -> Buffers {
-        Buffers { at, window, records: vec![0; records], names: vec![0; names], missing: vec![0; MISSING_LENGTH] }
+        let missing = vec![0; MISSING_LENGTH];
+        Buffers { at, window, records: vec![0; records], names: vec![0; names], missing, limit: None }
+    }
+
+    /// Those that a session begins with.
+    pub fn of(session: &Session) -> Buffers {
+        let (at, window) = (session.at, session.window.clone());
+        match session.room {
+            Room::Bytes { records, names } => Buffers::new(at, window, records, names),
+            Room::Growing { limit } => Buffers { limit: Some(limit), ..Buffers::new(at, window, 32, 0) },
+        }
     }
 
     pub fn call(&mut self, step: &Step) -> Answer {
-        let lent = Lent {
+        match self.limit {
+            None => self.call_library(step),
+            Some(limit) => self.call_wrapper(step, limit),
+        }
+    }
+
+    fn call_library(&mut self, step: &Step) -> Answer {
+        let lent = raw::Buffers {
             at: self.at,
             window: &mut self.window,
             records: &mut self.records,
             names: &mut self.names,
             missing: &mut self.missing,
         };
-        let &Step { base, size, data, data_size, bss, bss_size, auto_link, level, .. } = step;
+        let &Step { base, size, data_segment, data_segment_size, bss_segment, bss_segment_size, .. } = step;
+        let (data, bss) = ((data_segment, data_segment_size), (bss_segment, bss_segment_size));
         match step.call {
-            Call::Initialize => calls::initialize(lent, base, size),
-            Call::Load => calls::load(lent, base, size, data, data_size, bss, bss_size, auto_link, level),
-            Call::Unload => calls::unload(lent, base),
+            Call::Initialize => raw::initialize(lent, base, size),
+            Call::Load => raw::load(lent, base, size, data.0, data.1, bss.0, bss.1, step.auto_link, step.fix_level),
+            Call::Unload => raw::unload(lent, base),
         }
+    }
+
+    fn call_wrapper(&mut self, step: &Step, limit: usize) -> Answer {
+        let mut linker = self.linker().expect("every call leaves a register");
+        linker.set_limit(limit);
+        let answer = step.call(&mut linker, &mut Window { at: self.at, bytes: &mut self.window });
+        let (records, names, missing) = linker.buffers();
+        (self.records, self.names, self.missing) = (records.to_vec(), names.to_vec(), missing.to_vec());
+        answer
+    }
+
+    /// The bytes of records and of names that a call is lent. Where they grow: to what is used, the most that the image asks
+    /// for, and a page.
+    pub fn lent(&self, step: &Step) -> (usize, usize) {
+        let lengths = (self.records.len(), self.names.len());
+        let Some(limit) = self.limit else {
+            return lengths;
+        };
+        let used = self.linker().expect("every call leaves a register").used();
+        let asked = Asked::of(self.at, &self.window, step.base, step.base);
+        let needed = |used: usize, most: usize| limit.min(used + most + 0x1000);
+        (lengths.0.max(needed(used.0, asked.records())), lengths.1.max(needed(used.1, asked.names())))
     }
 
     pub fn register(&self) -> (&[u8], &[u8], &[u8]) {
@@ -41,7 +85,7 @@ impl Buffers {
 
     /// The host's wrapper over a copy of the register; none if it is no register.
     pub fn linker(&self) -> Option<Linker> {
-        Linker::from_buffers(self.records.clone(), self.names.clone(), self.missing.clone())
+        Linker::from_buffers(self.records.clone(), self.names.clone(), self.missing.clone()).ok()
     }
 }
 

@@ -5,7 +5,7 @@ use differential::compare::compare;
 use differential::under_test::{state, Buffers};
 use oracle::Oracle;
 use sessions::image::{tag, Image, Relocation};
-use sessions::{Call, Session, Step};
+use sessions::{Call, Room, Session, Step};
 
 const AT: u32 = 0x0010_0000;
 
@@ -18,7 +18,7 @@ fn session(at: u32, image: &Image, pages: usize) -> Session {
     let size = window.len() as u32;
     assert!(window.len() <= 0x1000 * pages);
     window.resize(0x1000 * pages, 0);
-    Session { at, window, records: 0x4000, names: 0x4000, steps: vec![load(at, size)] }
+    Session { at, window, room: Room::PROGRAM, steps: vec![load(at, size)] }
 }
 
 fn module() -> Image {
@@ -27,7 +27,7 @@ fn module() -> Image {
 
 /// The linker after the session's steps, and each step's number and value.
 fn linker(session: &Session) -> (Buffers, Vec<(u32, u32)>) {
-    let mut buffers = Buffers::new(session.at, session.window.clone(), session.records, session.names);
+    let mut buffers = Buffers::of(session);
     let answers = session.steps.iter().map(|step| called(&mut buffers, step)).collect();
     (buffers, answers)
 }
@@ -96,7 +96,7 @@ fn line_3_seventeen_segments() {
 fn line_4_the_fixed_size_wraps() {
     // a module at address 0, whose code ends at 0xFFFFF000 or right after it
     let mut session = session(0, &module(), 1);
-    session.steps[0] = Step { level: 1, size: u32::MAX, ..session.steps[0] };
+    session.steps[0] = Step { fix_level: 1, size: u32::MAX, ..session.steps[0] };
     for (end, fixed) in [(0xFFFF_F000u32, 0xFFFF_F000), (0xFFFF_F001, 0), (0xFFFF_FFFF, 0)] {
         session.window[0xB4..0xB8].copy_from_slice(&(end - 0x138).to_le_bytes());
         assert_eq!(linker(&session).1, [(0, fixed)]);
@@ -128,7 +128,7 @@ fn line_6_a_module_count_of_65() {
 #[test]
 fn lines_7_and_8_no_room() {
     let mut session = session(AT, &module(), 1);
-    session.records = 32;
+    session.room = Room::Bytes { records: 32, names: 0x4000 };
     assert_eq!(linker(&session).1, [(5, 0)]);
     assert!(compare(&session).is_none_or(|compared| compared.mismatch.is_none()));
     // a page of zeros is 1, also where there is no room

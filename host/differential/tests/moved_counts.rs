@@ -5,7 +5,7 @@
 use differential::compare::compare;
 use differential::under_test::{state, Buffers};
 use oracle::Oracle;
-use sessions::{Call, Session, Step};
+use sessions::{Call, Room, Session, Step};
 
 const AT: u32 = 0x1000;
 const INDEXED_COUNT: u32 = 0xDC;
@@ -27,7 +27,7 @@ fn session(table: u32, pointer: u32, records: usize) -> Session {
         window[at as usize..][..4].copy_from_slice(&word.to_le_bytes());
     }
     let load = Step { call: Call::Load, auto_link: 1, ..Step::initialize(AT, 0x1000) };
-    Session { at: AT, window, records, names: 1, steps: vec![load] }
+    Session { at: AT, window, room: Room::Bytes { records, names: 1 }, steps: vec![load] }
 }
 
 fn indexed_count(window: &[u8]) -> u32 {
@@ -36,7 +36,7 @@ fn indexed_count(window: &[u8]) -> u32 {
 
 /// The call's answer, the count that it left in the header, and the indexed exports recorded.
 fn linker(session: &Session) -> ((u32, u32), u32, usize) {
-    let mut buffers = Buffers::new(session.at, session.window.clone(), session.records, session.names);
+    let mut buffers = Buffers::of(session);
     let answer = buffers.call(&session.steps[0]);
     let modules = state(&buffers.linker().unwrap()).modules;
     (

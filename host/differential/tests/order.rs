@@ -4,14 +4,15 @@
 use differential::compare::compare;
 use differential::encoding::{encode, is_encoded};
 use differential::under_test::{state, Buffers};
-use fillqhano::calls::Answer;
+use fillqhano::raw::Answer;
 use sessions::image::{tag, Image};
-use sessions::{Call, Session, Step};
+use sessions::{Call, Room, Session, Step};
 
 const AT: u32 = 0x0010_0000;
 const CODE: u32 = AT + 0x138;
 
 type Exports = Vec<(Vec<u8>, u32)>;
+type Change = fn(&mut Exports);
 
 /// Names in no order, one of them twice, the last one's tag unusable.
 fn session() -> Session {
@@ -22,11 +23,11 @@ fn session() -> Session {
     let size = window.len() as u32;
     window.resize(0x1000, 0);
     let load = Step { call: Call::Load, auto_link: 1, ..Step::initialize(AT, size) };
-    Session { at: AT, window, records: 0x200, names: 0x40, steps: vec![load] }
+    Session { at: AT, window, room: Room::Bytes { records: 0x200, names: 0x40 }, steps: vec![load] }
 }
 
 fn loaded(session: &Session) -> Buffers {
-    let mut buffers = Buffers::new(session.at, session.window.clone(), session.records, session.names);
+    let mut buffers = Buffers::of(session);
     assert_eq!(buffers.call(&session.steps[0]), Answer::new(0, 0, None));
     buffers
 }
@@ -48,7 +49,7 @@ fn a_records_exports_ascend() {
 }
 
 /// Wrong orders of the same exports, and one of them twice.
-const WRONG: [(&str, fn(&mut Exports)); 6] = [
+const WRONG: [(&str, Change); 6] = [
     ("two exchanged", |exports| exports.swap(1, 2)),
     ("the last two exchanged", |exports| exports.swap(3, 4)),
     ("the shorter first", |exports| exports.sort_by_key(|export| (export.0.len(), export.0.clone()))),

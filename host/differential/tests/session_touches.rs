@@ -1,38 +1,14 @@
 //! The program `touches` on the stored sessions (crates/session_cases): its lines are those of the session program, each with a
 //! touch behind it.
 
+use differential::cases;
 use differential::text::steps_with_touches;
 use sessions::Session;
 
-const STDIN: &[u8] = include_bytes!("../../../crates/session_cases/stdin");
-const STDOUT: &str = include_str!("../../../crates/session_cases/stdout");
-
-fn word(at: usize) -> usize {
-    u32::from_le_bytes(STDIN[at..at + 4].try_into().unwrap()) as usize
-}
-
-/// The stored session files, each laid out from its pieces, and what the session program prints for them.
-fn stored() -> Vec<(Vec<u8>, &'static str)> {
-    let mut at = 4;
-    let texts = STDOUT.split("case ").skip(1).map(|text| text.split_once('\n').unwrap().1);
-    texts
-        .map(|text| {
-            let (mut file, pieces) = (vec![0; word(at)], word(at + 4));
-            at += 8;
-            for _ in 0..pieces {
-                let (start, length) = (word(at), word(at + 4));
-                file[start..start + length].copy_from_slice(&STDIN[at + 8..at + 8 + length]);
-                at += 8 + length.next_multiple_of(4);
-            }
-            (file, text)
-        })
-        .collect()
-}
-
 #[test]
 fn numbers_and_values_are_the_session_programs() {
-    let cases = stored();
-    assert_eq!(cases.len(), word(0));
+    let cases = cases::all();
+    assert_eq!(cases.len(), cases::count());
     let (mut yes, mut no) = (0, 0);
     for (file, text) in cases.iter().filter(|case| case.1 != "session bad\n") {
         let session = Session::from_file(file).unwrap();

@@ -21,6 +21,9 @@ mod oracle;
 
 pub use oracle::Oracle;
 
+/// Whether the sources are at hand.
+pub const AT_HAND: bool = cfg!(sources);
+
 /// Whether accesses are counted and noted, which takes time.
 pub const WATCHED: bool = cfg!(feature = "watched");
 

@@ -26,12 +26,12 @@ impl Oracle {
                 memory,
                 step.base,
                 step.size,
-                step.data,
-                step.data_size,
-                step.bss,
-                step.bss_size,
+                step.data_segment,
+                step.data_segment_size,
+                step.bss_segment,
+                step.bss_segment_size,
                 step.auto_link != 0,
-                step.level,
+                step.fix_level,
             ),
             Call::Unload => {
                 manager.unload(memory, step.base);

@@ -2,11 +2,12 @@
 //! call in a form that both sides can give.
 
 pub mod image;
+mod linker;
 pub mod modules;
 mod random;
 mod session;
 mod state;
 
 pub use random::Random;
-pub use session::{Call, Session, Step};
+pub use session::{Call, Room, Session, Step};
 pub use state::{Module, State};

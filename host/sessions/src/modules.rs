@@ -1,7 +1,7 @@
 //! A static module and modules that import from each other, well laid and apart from each other in one window.
 
 use crate::image::{tag, FromModule, Image, Internal, Relocation, BSS_SEGMENT, CODE_SEGMENT, DATA_SEGMENT, READ_ONLY_SEGMENT};
-use crate::{Random, Session, Step};
+use crate::{Call, Random, Room, Session, Step};
 
 /// An image, its bytes, and the call that takes it in.
 #[derive(Debug, Clone)]
@@ -63,7 +63,7 @@ impl Modules {
     }
 
     pub fn session(&self, steps: Vec<Step>) -> Session {
-        Session { at: self.at, window: self.window(), records: Session::ROOM, names: Session::ROOM, steps }
+        Session { at: self.at, window: self.window(), room: Room::PROGRAM, steps }
     }
 }
 
@@ -171,14 +171,14 @@ fn place(random: &mut Random, mut image: Image, is_static: bool, next: &mut u32)
     image.static_base = is_static.then_some(base);
     let bytes = image.bytes();
     let size = bytes.len() as u32 + 4 * random.below(4);
-    let data = base + size + random.below(8);
-    let data_size = image.sizes[2] + random.below(5);
-    let bss = data + data_size + random.below(8);
-    let bss_size = image.sizes[3] + random.below(5);
-    let auto_link = 1;
-    let level = random.pick(&[0, 1, 1, 4]);
-    let load = Step { call: crate::Call::Load, base, size, data, data_size, bss, bss_size, auto_link, level };
-    *next = bss + bss_size + random.below(64);
+    let data_segment = base + size + random.below(8);
+    let data_segment_size = image.sizes[2] + random.below(5);
+    let bss_segment = data_segment + data_segment_size + random.below(8);
+    let bss_segment_size = image.sizes[3] + random.below(5);
+    let fix_level = random.pick(&[0, 1, 1, 4]);
+    let segments = Step { data_segment, data_segment_size, bss_segment, bss_segment_size, ..Step::default() };
+    let load = Step { call: Call::Load, base, size, auto_link: 1, fix_level, ..segments };
+    *next = bss_segment + bss_segment_size + random.below(64);
     let step = if is_static { Step::initialize(base, size) } else { load };
     Placed { step, image, bytes }
 }

@@ -1,8 +1,11 @@
-//! The three calls of the static library, as include/fillqhano.h declares them, over slices.
+//! The three calls as the static library has them, over slices: any bytes may be lent, and a number comes back.
+//!
+//! A host uses [`Linker`](crate::Linker), which owns the register and sees to its room. This layer is for one that keeps the
+//! register's buffers itself, as a program in C does; include/fillqhano.h says what each buffer holds.
 
 mod library {
     unsafe extern "C" {
-        pub fn initialize(
+        pub fn fillqhano_initialize(
             at: u32,
             window: *mut u8,
             window_length: usize,
@@ -19,7 +22,7 @@ mod library {
             first: *mut u32,
         ) -> u32;
 
-        pub fn load(
+        pub fn fillqhano_load(
             at: u32,
             window: *mut u8,
             window_length: usize,
@@ -42,7 +45,7 @@ mod library {
             first: *mut u32,
         ) -> u32;
 
-        pub fn unload(
+        pub fn fillqhano_unload(
             at: u32,
             window: *mut u8,
             window_length: usize,
@@ -61,21 +64,30 @@ mod library {
 }
 
 /// What a call is lent: the window with its address, and the register's three buffers. Any bytes will do.
-pub struct Lent<'a> {
+#[derive(Debug)]
+pub struct Buffers<'a> {
+    /// The address of the window's first byte.
     pub at: u32,
+    /// The window's bytes.
     pub window: &'a mut [u8],
+    /// The register's header and one record a module.
     pub records: &'a mut [u8],
+    /// The names of modules and exports.
     pub names: &'a mut [u8],
+    /// The names that no module provided.
     pub missing: &'a mut [u8],
 }
 
-/// What a call answers: a number, 0 to 5, a value, and its touch. `touched` is 1 if an access of the call had a byte outside
-/// the window, and `first` is where the first such access started; else both are 0.
+/// What a call answers.
 #[derive(Debug, Clone, Copy, PartialEq, Eq)]
 pub struct Answer {
+    /// 0 if the call is done, 1 to 5 if it is refused.
     pub number: u32,
+    /// A load's fixed size, 1 for an unload that removed a module, else 0.
     pub value: u32,
+    /// 1 if an access of the call had a byte outside the window, else 0.
     pub touched: u32,
+    /// Where the first such access started; 0 if there was none.
     pub first: u32,
 }
 
@@ -93,8 +105,8 @@ impl Answer {
 
 /// Calls a function of the library on what is lent and further arguments.
 macro_rules! call {
-    ($function:ident, $lent:ident, $($argument:expr),*) => {{
-        let Lent { at, window, records, names, missing } = $lent;
+    ($function:ident, $buffers:ident, $($argument:expr),*) => {{
+        let Buffers { at, window, records, names, missing } = $buffers;
         let mut answer = Answer { number: 0, value: u32::MAX, touched: u32::MAX, first: u32::MAX };
         // SAFETY: the pointers and lengths are those of four slices, which do not overlap as they are all mutable, and of
         // three words of a local. The library keeps no pointer.
@@ -119,13 +131,15 @@ macro_rules! call {
     }};
 }
 
-pub fn initialize(lent: Lent, base: u32, size: u32) -> Answer {
-    call!(initialize, lent, base, size)
+/// Takes in the static module.
+pub fn initialize(buffers: Buffers, base: u32, size: u32) -> Answer {
+    call!(fillqhano_initialize, buffers, base, size)
 }
 
+/// Loads a module. An `auto_link` other than 0 counts as 1.
 #[allow(clippy::too_many_arguments)]
 pub fn load(
-    lent: Lent,
+    buffers: Buffers,
     base: u32,
     size: u32,
     data_segment: u32,
@@ -135,9 +149,21 @@ pub fn load(
     auto_link: u32,
     fix_level: u32,
 ) -> Answer {
-    call!(load, lent, base, size, data_segment, data_segment_size, bss_segment, bss_segment_size, auto_link, fix_level)
+    call!(
+        fillqhano_load,
+        buffers,
+        base,
+        size,
+        data_segment,
+        data_segment_size,
+        bss_segment,
+        bss_segment_size,
+        auto_link,
+        fix_level
+    )
 }
 
-pub fn unload(lent: Lent, base: u32) -> Answer {
-    call!(unload, lent, base)
+/// Unloads the first module at this base.
+pub fn unload(buffers: Buffers, base: u32) -> Answer {
+    call!(fillqhano_unload, buffers, base)
 }

@@ -1,0 +1,95 @@
+//! Saved states: a linker's register as bytes, and a linker from them.
+
+use crate::register::{self, HEADER, MISSING_LENGTH, SLOT};
+use crate::{raw, Error, Linker, Window};
+
+/// What a saved state begins with: four bytes, and the number of its form.
+const MAGIC: [u8; 4] = *b"FQHS";
+const FORM: u32 = 1;
+const START: usize = 8;
+
+/// Why bytes are no saved state.
+#[derive(Debug, Clone, Copy, PartialEq, Eq)]
+#[non_exhaustive]
+pub enum StateError {
+    /// They do not begin as a saved state does.
+    NotAState,
+    /// They are in a form that this version does not know.
+    UnknownForm(u32),
+    /// Their own header asks for another number of bytes.
+    WrongLength {
+        /// How many there are.
+        found: usize,
+        /// How many there should be.
+        expected: usize,
+    },
+    /// The register in them is none, as where a module count is above 64 or the named exports of a module do not ascend.
+    NotARegister,
+}
+
+impl std::fmt::Display for StateError {
+    fn fmt(&self, f: &mut std::fmt::Formatter<'_>) -> std::fmt::Result {
+        match self {
+            StateError::NotAState => f.write_str("the bytes do not begin as a saved state does"),
+            StateError::UnknownForm(form) => write!(f, "the saved state has form {form}, which is not known here"),
+            StateError::WrongLength { found, expected } => {
+                write!(f, "the saved state has {found} bytes, and its header asks for {expected}")
+            }
+            StateError::NotARegister => f.write_str("the saved state holds no register"),
+        }
+    }
+}
+
+impl std::error::Error for StateError {}
+
+impl Linker {
+    /// The whole state as bytes, only those in use: what [`Linker::from_bytes`] takes. The limit and the last touch are not
+    /// part of it, and neither is the window, which the host saves with the guest's memory.
+    pub fn to_bytes(&self) -> Vec<u8> {
+        let (_, records, names, missing) = self.standing();
+        [&MAGIC, &FORM.to_le_bytes(), &self.records[..HEADER], records, names, missing].concat()
+    }
+
+    /// A linker from the bytes of a saved state, with the limit of [`Linker::new`].
+    pub fn from_bytes(bytes: &[u8]) -> Result<Linker, StateError> {
+        if bytes.len() < START || bytes[..4] != MAGIC {
+            return Err(StateError::NotAState);
+        }
+        let form = u32::from_le_bytes([bytes[4], bytes[5], bytes[6], bytes[7]]);
+        if form != FORM {
+            return Err(StateError::UnknownForm(form));
+        }
+        let register = &bytes[START..];
+        let wrong = |expected| StateError::WrongLength { found: bytes.len(), expected: START + expected };
+        if register.len() < HEADER {
+            return Err(wrong(HEADER));
+        }
+        let (records, names) = register::used(register);
+        let missing = SLOT * register::missing_count(register);
+        let expected = records + names + missing;
+        if register.len() != expected {
+            return Err(wrong(expected));
+        }
+        let (records, rest) = register.split_at(records);
+        let (names, missing) = rest.split_at(names);
+        let mut list = missing.to_vec();
+        list.resize(MISSING_LENGTH.max(list.len()), 0);
+        Linker::from_buffers(records.to_vec(), names.to_vec(), list)
+    }
+
+    /// A linker over the three buffers of a register, as a host of the [`raw`] layer has them.
+    pub fn from_buffers(records: Vec<u8>, names: Vec<u8>, missing: Vec<u8>) -> Result<Linker, StateError> {
+        let mut linker = Linker { records, names, missing, limit: Linker::LIMIT, touch: None };
+        // a page of zeros is no module, so this call tests the register and changes nothing
+        let answer = raw::initialize(linker.lend(&mut Window { at: 0, bytes: &mut [0; 0x1000] }), 0, 0);
+        if answer.number != Error::NotACro.number() {
+            return Err(StateError::NotARegister);
+        }
+        Ok(linker)
+    }
+
+    /// The three buffers: records, names, missing names. Those of [`Linker::from_buffers`], as the calls left them.
+    pub fn buffers(&self) -> (&[u8], &[u8], &[u8]) {
+        (&self.records, &self.names, &self.missing)
+    }
+}

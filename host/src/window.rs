@@ -1,0 +1,90 @@
+//! The window, and how much room the register needs for a module that lies in it.
+
+use std::ffi::CStr;
+
+/// The part of the guest's memory that modules and their segments lie in: the address of its first byte, a multiple of 4,096,
+/// and its bytes, whole pages, none past 2^32.
+#[derive(Debug)]
+pub struct Window<'a> {
+    /// The address of the first byte.
+    pub at: u32,
+    /// The guest's own bytes, in a row. A call works on them in place.
+    pub bytes: &'a mut [u8],
+}
+
+/// Where a header's fields are.
+const MAGIC: u32 = 0x080;
+const SEGMENT_COUNT: u32 = 0x0CC;
+const NAMED_EXPORTS: u32 = 0x0D0;
+const NAMED_EXPORT_COUNT: u32 = 0x0D4;
+const INDEXED_EXPORT_COUNT: u32 = 0x0DC;
+
+/// The bytes of a named export in its table, and the greatest length of a name.
+const NAMED_EXPORT: usize = 8;
+const NAME: usize = 512;
+
+/// What is added, for an image that makes its names or counts a little greater while it is rebased.
+const SPARE: usize = 0x1000;
+
+/// Bytes of records and of names.
+#[derive(Debug, Clone, Copy, PartialEq, Eq)]
+pub(crate) struct Room {
+    pub(crate) records: usize,
+    pub(crate) names: usize,
+}
+
+impl Window<'_> {
+    /// The bytes from an address on; none if it lies outside.
+    fn from(&self, address: u32) -> &[u8] {
+        self.bytes.get(address.wrapping_sub(self.at) as usize..).unwrap_or(&[])
+    }
+
+    /// The word at an address; bytes outside are 0.
+    fn word(&self, address: u32) -> u32 {
+        let byte = |index| self.from(address.wrapping_add(index)).first().copied().unwrap_or(0);
+        u32::from_le_bytes([byte(0), byte(1), byte(2), byte(3)])
+    }
+
+    /// The most that the record and the names of the module at this base can take, by its counts and names as they are now;
+    /// nothing where there is no module. What is above the limit need not be exact.
+    ///
+    /// A record has 32 bytes, 4 for each of at most 16 segments and each indexed export, and 12 for each named one, of which no
+    /// two have the same name. Entries of the table that lie all outside are one empty name, so the names are no more than the
+    /// entries that the window can hold, those at its edges, and that one.
+    pub(crate) fn most_room(&self, base: u32, limit: usize) -> Room {
+        let word = |field| self.word(base.wrapping_add(field));
+        if !matches!(&word(MAGIC).to_le_bytes(), b"CRO0" | b"CRS0") {
+            return Room { records: 0, names: 0 };
+        }
+        let count = |field| word(field) as usize;
+        let named = count(NAMED_EXPORT_COUNT).min(self.bytes.len() / NAMED_EXPORT + 3);
+        let records = 32 + 4 * count(SEGMENT_COUNT).min(16) + 12 * named + 4 * count(INDEXED_EXPORT_COUNT);
+        let names = NAME + self.export_names(base, named, limit).unwrap_or(NAME * named);
+        Room { records: records + SPARE, names: names + SPARE }
+    }
+
+    /// The bytes of the names of so many exports, or a number from the limit on; none where their table is not all inside.
+    fn export_names(&self, base: u32, named: usize, limit: usize) -> Option<usize> {
+        // an offset of 0 is not moved by the base, and neither are the names of a table at address 0
+        let moved = |offset: u32, by: u32| if offset == 0 { 0 } else { offset.wrapping_add(by) };
+        let table = moved(self.word(base.wrapping_add(NAMED_EXPORTS)), base);
+        let names_by = if table == 0 { 0 } else { base };
+        let entries = self.from(table).get(..NAMED_EXPORT * named)?;
+        let mut sum = 0;
+        for entry in entries.chunks_exact(NAMED_EXPORT) {
+            let name = moved(u32::from_le_bytes([entry[0], entry[1], entry[2], entry[3]]), names_by);
+            sum += self.name_length(name);
+            if sum >= limit {
+                break;
+            }
+        }
+        Some(sum)
+    }
+
+    /// The length of the name at an address; the one at 0 is empty.
+    fn name_length(&self, address: u32) -> usize {
+        let bytes = if address == 0 { &[] } else { self.from(address) };
+        let bytes = &bytes[..bytes.len().min(NAME)];
+        CStr::from_bytes_until_nul(bytes).map_or(bytes.len(), CStr::count_bytes)
+    }
+}
