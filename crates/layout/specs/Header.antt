@@ -130,9 +130,6 @@ staticRelocationTableOffset = 0x130
 abbrev pub staticRelocationNum : ℕ
 staticRelocationNum = 0x134
 
-abbrev pub lastRebased : ℕ
-lastRebased = staticRelocationTableOffset
-
 abbrev pub headerSize : ℕ
 headerSize = 0x138
 

@@ -88,7 +88,4 @@ pub const STATIC_RELOCATION_TABLE_OFFSET: u32 = 0x130;
 
 pub const STATIC_RELOCATION_NUM: u32 = 0x134;
 
-// The last field holding an offset that becomes an address on rebase.
-pub const LAST_REBASED: u32 = STATIC_RELOCATION_TABLE_OFFSET;
-
 pub const SIZE: u32 = 0x138;

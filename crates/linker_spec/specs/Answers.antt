@@ -116,7 +116,7 @@ module _ (at base symbol : ℕ) where
       let e : suc n + f ≡ n + suc f = omega arith in
       ap (λ (r : ℕ × List ℕ). r .0) (goes-on f entry n w (h .0)) ∙ yields-unmarked f (entry ⊕ relocationEntrySize) (suc n) _ (h .1) ∙ e
 
-  -- document 02, ask 4: "a walk of 0x1001 entries without an end mark still yields 0x1001"
+  -- request 4: "a walk of 0x1001 entries without an end mark still yields 0x1001"
   pub unmarked-yields
       : (batch : ℕ) (w : List ℕ) → Unmarked 0x1001 w batch → run at (walk batchLimit base symbol batch 0) w .0 ≡ 0x1001
   unmarked-yields batch w h = yields-unmarked batchLimit batch 0 w h

@@ -1,6 +1,6 @@
 //! `differential [--seed N] [--sessions M]`: M sessions of each family, compared with the Rust. With the gate's seed and
 //! number the stored answers are compared too, and `--store` writes them. `--file PATH` compares one session file and prints
-//! what the session program should. `--keep FOLDER` writes the sessions that it takes, and what it should print, to files.
+//! what the session program should.
 
 use differential::compare::{compare, Compared, Mismatch, Tally};
 use differential::families::Family;
@@ -8,7 +8,6 @@ use differential::history::{run_pair, Seen};
 use differential::stored::{self, Answers};
 use differential::{shrink, text};
 use sessions::Session;
-use std::path::{Path, PathBuf};
 use std::process::ExitCode;
 
 /// The gate's seed, and how many sessions of each family.
@@ -21,11 +20,10 @@ struct Asked {
     sessions: u64,
     store: bool,
     file: Option<String>,
-    keep: Option<PathBuf>,
 }
 
 fn asked() -> Result<Asked, String> {
-    let mut asked = Asked { seed: SEED, sessions: SESSIONS, store: false, file: None, keep: None };
+    let mut asked = Asked { seed: SEED, sessions: SESSIONS, store: false, file: None };
     let mut words = std::env::args().skip(1);
     while let Some(word) = words.next() {
         let mut value = || words.next().ok_or(format!("{word} needs a value"));
@@ -33,7 +31,6 @@ fn asked() -> Result<Asked, String> {
             "--seed" => asked.seed = value()?.parse().map_err(|_| "--seed needs a number")?,
             "--sessions" => asked.sessions = value()?.parse().map_err(|_| "--sessions needs a number")?,
             "--file" => asked.file = Some(value()?),
-            "--keep" => asked.keep = Some(value()?.into()),
             "--store" => asked.store = true,
             _ => return Err(format!("what is {word}?")),
         }
@@ -116,9 +113,6 @@ fn compare_all(asked: &Asked) -> Result<(Answers, u64), String> {
                 return Err(smallest(&session, mismatch));
             }
             answers.add(family, number, &compared.answers);
-            if let Some(folder) = &asked.keep {
-                keep(&folder.join(format!("{}-{number}", family.name())), &session, &compared)?;
-            }
             tally += compared.tally;
         }
         show(family.name(), &tally);
@@ -148,19 +142,6 @@ fn show(name: &str, tally: &Tally) {
         tally.limited, tally.rewritten
     );
     println!("  not compared: too long {}; no room, with the model's window alone {}", tally.cut, tally.unseen);
-}
-
-/// Writes a session that the session program takes, and what it should print.
-fn keep(path: &Path, session: &Session, compared: &Compared) -> Result<(), String> {
-    let printed = if text::is_taken(session) { text::printed(session, compared) } else { None };
-    let Some(printed) = printed else {
-        return Ok(());
-    };
-    let files = [("session", session.to_file()), ("expected", printed.into_bytes())];
-    for (kind, bytes) in files {
-        std::fs::write(path.with_extension(kind), bytes).map_err(|error| format!("{}: {error}", path.display()))?;
-    }
-    Ok(())
 }
 
 fn report(session: &Session, compared: Compared) -> Result<(), String> {

@@ -4,15 +4,10 @@
 use crate::compare::Compared;
 use crate::under_test::Buffers;
 use fillqhano::raw::Answer;
-use sessions::{Call, Room, Session, Step};
+use sessions::{Call, Session, Step};
 use std::fmt::Write;
 
-/// Whether the session program takes the session, with the register's sizes that it has.
-pub fn is_taken(session: &Session) -> bool {
-    session.steps.len() <= 64 && session.window.len() <= 0x8000 && session.room == Room::PROGRAM
-}
-
-/// What it prints; none if not every call was compared.
+/// What the session program prints; none if not every call was compared.
 pub fn printed(session: &Session, compared: &Compared) -> Option<String> {
     if compared.answers.len() < session.steps.len() {
         return None;

@@ -1,4 +1,4 @@
--- The two tests that all calls have, and a module's entry into the register.
+-- A module's entry into the register.
 use Prim.Native.Nat.{ℕ}
 use mathlib.Core.Path.{_≡_, refl, _∙_}
 use mathlib.Core.List.{List}
