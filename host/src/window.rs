@@ -1,7 +1,5 @@
 //! The window, and how much room the register needs for a module that lies in it.
 
-use std::ffi::CStr;
-
 /// The part of the guest's memory that modules and their segments lie in: the address of its first byte, a multiple of 4,096,
 /// and its bytes, whole pages, none past 2^32.
 #[derive(Debug)]
@@ -84,7 +82,39 @@ impl Window<'_> {
     /// The length of the name at an address; the one at 0 is empty.
     fn name_length(&self, address: u32) -> usize {
         let bytes = if address == 0 { &[] } else { self.from(address) };
-        let bytes = &bytes[..bytes.len().min(NAME)];
-        CStr::from_bytes_until_nul(bytes).map_or(bytes.len(), CStr::count_bytes)
+        length_before_zero(&bytes[..bytes.len().min(NAME)])
+    }
+}
+
+/// How many bytes come before the first 0; eight are looked at a time.
+fn length_before_zero(bytes: &[u8]) -> usize {
+    let words = bytes.chunks_exact(8);
+    let rest = words.remainder();
+    for (index, word) in words.enumerate() {
+        let word = u64::from_le_bytes(word.try_into().unwrap());
+        // a byte's highest bit stands here if the byte is 0, and none below the first such byte
+        let zeros = word.wrapping_sub(0x0101_0101_0101_0101) & !word & 0x8080_8080_8080_8080;
+        if zeros != 0 {
+            return 8 * index + zeros.trailing_zeros() as usize / 8;
+        }
+    }
+    bytes.len() - rest.len() + rest.iter().position(|&byte| byte == 0).unwrap_or(rest.len())
+}
+
+#[cfg(test)]
+mod tests {
+    use super::length_before_zero;
+
+    #[test]
+    fn a_zero_is_found_wherever_it_stands() {
+        for length in 0..40 {
+            let bytes: Vec<u8> = (0..length).map(|index| [1, 0x80, 0xFF, 0x7F, 0x81][index % 5]).collect();
+            assert_eq!(length_before_zero(&bytes), length);
+            for at in 0..length {
+                let mut bytes = bytes.clone();
+                bytes[at] = 0;
+                assert_eq!(length_before_zero(&bytes), at);
+            }
+        }
     }
 }
