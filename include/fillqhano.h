@@ -9,7 +9,8 @@
  * must not overlap. The inline functions at the end take structs in place of long lists of arguments, and allow a null pointer
  * where a length is 0.
  * A call keeps no pointer, allocates nothing, and has no state but the buffers. Every call ends on any bytes and
- * any arguments.
+ * any arguments, but not always soon: time grows with an image's counts, and with their product where counts nest. A host that takes
+ * images from anywhere calls on a thread that it can spare, or looks at the counts first. C99 or C++.
  *
  * The window: a part of a 32-bit address space.
  *   at       the address of its first byte, a multiple of 4,096
@@ -24,7 +25,12 @@
  *            ascend by name: bytes as unsigned numbers, a name before those that extend it
  *   names    any length: the names of modules and exports, each of at most FILLQHANO_NAME bytes
  *   missing  exactly FILLQHANO_MISSING bytes: 64 slots of a 16-bit length and 512 bytes, the names that no module provided
- *   Only these calls write it, and the three buffers go together. Every call looks at all their bytes.
+ *   Only these calls write it, and the three buffers go together: they are the state that a host saves. Every call looks at all their
+ *   bytes. Those past the ones in use are 0, so a buffer may be made longer by zeros between calls.
+ *   To read it (words of 32 bits, lowest byte first): header words are the modules, 1 if a CRS is known, its base, the record bytes in
+ *   use (header included; 0 means 32), the name bytes in use, the missing names, 0, 0. A record is base, size, auto-link, the offset
+ *   and length of its name in `names`, the counts of segments, named and indexed exports; then an address a segment, three words a
+ *   named export (offset and length of its name, address), an address an indexed export.
  *
  * What a call answers: an enum fillqhano_number, tested in the order 3, 4, 1, 2, 5. The register is unchanged by 1 to 5, and
  * *value is 0 then. After a 2 or a 5 the image has been rebased, in part or whole: before the call is made again, its bytes have
@@ -135,16 +141,16 @@ struct fillqhano_answer {
     uint32_t touched, first;
 };
 
-/* Gives null pointers an address each; nothing is read there. */
+/* Gives buffers of length 0 an address each, at which nothing is read. */
 static inline void fillqhano_no_nulls(struct fillqhano_linker *linker, struct fillqhano_window *window, uint8_t addresses[4])
 {
-    if (!window->bytes)
+    if (!window->length)
         window->bytes = addresses;
-    if (!linker->records)
+    if (!linker->records_length)
         linker->records = addresses + 1;
-    if (!linker->names)
+    if (!linker->names_length)
         linker->names = addresses + 2;
-    if (!linker->missing)
+    if (!linker->missing_length)
         linker->missing = addresses + 3;
 }
 

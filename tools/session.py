@@ -3,7 +3,7 @@
 
     tools/session.py make TEXT FILE   makes the session file that a text asks for
     tools/session.py print FILE       prints a session file as a text that makes the same file
-    tools/session.py check FILE       says what is wrong with a text or a session file, or nothing
+    tools/session.py check FILE       says what is wrong with a text or a session file; a window of no whole pages is said too
     tools/session.py is-text FILE     exit status 0 if it is a text, 1 if it is a session file
 
 A text's first line is `session`; every other file is taken for a session file. No good session file starts so: its first
@@ -21,6 +21,7 @@ LONGEST_WINDOW = 32768
 LONGEST_FILE = 49152
 HEAD_BYTES = 20
 STEP_BYTES = 36
+PAGE = 4096
 TOP = 0xFFFFFFFF
 
 HEAD_WORDS = ['step count', 'step table offset', 'window address', 'window length', 'offset of the window\'s bytes']
@@ -324,17 +325,28 @@ def run_on_text(command, data, path, made):
     if command == 'make':
         with open(made, 'wb') as out:
             out.write(file)
+    else:
+        note_window(file, path)
     return []
+
+
+def note_window(file, path):
+    """The session program takes a file whose window breaks its rule, and every step then gives 3: says so."""
+    _, _, address, length, _ = words_at(file, 0, 5)
+    if not length or address % PAGE or length % PAGE or address + length > TOP + 1:
+        print('%s: the window is no run of whole pages below 2^32, so every step gives 3' % path, file=sys.stderr)
 
 
 def run_on_file(command, file, path):
     if command == 'make':
         return ['%s:1: a session text\'s first line is `session`' % path]
     wrong = wrong_words(file)
-    if wrong and file and 0 not in file:
-        wrong.append('no byte is 0, so this may be meant as a text: then its first line must be `session`')
+    if wrong and file and (0 not in file or file[:2] in (codecs.BOM_UTF16_LE, codecs.BOM_UTF16_BE)):
+        wrong.insert(0, 'this may be meant as a text: then its first line must be `session`, in ASCII or UTF-8')
     if command == 'print' and not wrong:
         sys.stdout.write(text_of(file))
+    if command == 'check' and not wrong:
+        note_window(file, path)
     return ['%s: %s' % (path, what) for what in wrong]
 
 

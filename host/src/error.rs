@@ -6,7 +6,8 @@
 pub enum Error {
     /// The magic is neither CRO0 nor CRS0. Nothing has changed.
     NotACro,
-    /// A segment does not fit its place. The window has been written up to there.
+    /// A segment does not fit its place. The window has been written up to there, so before another try the host has to put the
+    /// image's bytes back as they were: else it may be accepted, with offsets that were moved twice.
     BadSegment,
     /// The window's address or length is no multiple of 4,096, or it is empty or passes 2^32. Nothing has changed.
     BadWindow,
@@ -18,7 +19,7 @@ pub enum Error {
     ///
     /// The window has been written: the module is rebased and its imports are reset, but it is not linked. So before the call
     /// is made again, as with a greater limit or after an unload, the host has to put the image's bytes back as they were, and
-    /// those of its data if a relocation lies there: a second rebase of the same bytes moves every offset twice.
+    /// those of its data if a relocation lies there: else it may be accepted, with offsets that were moved twice.
     Full,
 }
 
@@ -54,7 +55,7 @@ impl std::fmt::Display for Error {
             Error::BadSegment => "a segment does not fit its place",
             Error::BadWindow => "the window is not whole pages",
             Error::BadRegister => "the buffers are no register",
-            Error::Full => "no room for the module's record",
+            Error::Full => "64 modules stand, or there is no room for the module's record or its names",
         })
     }
 }

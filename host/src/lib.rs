@@ -7,7 +7,9 @@
 //! bytes below the window, is dropped whole, and one that runs off the window's end keeps its bytes inside; of any other
 //! word the bytes inside are written.
 //!
-//! The calls are proved to end on any bytes, to touch nothing but the buffers lent, and to do what their definition says.
+//! The calls are proved to end on any bytes, to touch nothing but the buffers lent, and to do what their definition says. They do
+//! not always end soon: time grows with an image's counts, and with their product where counts nest. A host that takes images from
+//! anywhere calls on a thread that it can spare, or looks at the counts first.
 //!
 //! An access with a byte outside the window is a *touch*: [`Linker::touch`] says whether the last call had one, and where the
 //! first of them started.
@@ -34,7 +36,8 @@
 //! ```
 //!
 //! Guest memory that is kept in pages becomes a window by being in a row: the host keeps the pages of the area that modules
-//! lie in one after another in one buffer, or copies them there before a call and back after it.
+//! lie in one after another in one buffer, or copies them there before a call and back after it. Each call is lent a window anew; it
+//! may be another one, as long as all that stands lies in it.
 
 #![deny(missing_docs)]
 
@@ -117,8 +120,8 @@ impl Linker {
     /// A linker without modules that takes at most so many bytes for its records, and as many for its names. A module whose
     /// record or names would pass that is refused by [`Error::Full`], whatever its header asks for.
     ///
-    /// A record takes 32 bytes, 4 a segment and indexed export, and 12 a named export; the records' header takes 32 more, and
-    /// these are there whatever the limit. Names take their bytes.
+    /// A record takes 32 bytes, 4 a segment and indexed export, and 12 a named export; the records' header takes 32 more, which
+    /// are there whatever the limit and count towards it. Names take their bytes.
     pub fn with_limit(limit: usize) -> Linker {
         let records = vec![0; register::HEADER];
         Linker { records, names: Vec::new(), missing: vec![0; MISSING_LENGTH], limit, touch: None }
@@ -184,12 +187,14 @@ impl Linker {
         self.value_of(answer)
     }
 
-    /// Takes in the static module, whose exports every other module links against.
+    /// Takes in the static module, whose exports every other module links against. Refused by [`Error::BadWindow`],
+    /// [`Error::NotACro`] or [`Error::Full`].
     pub fn initialize(&mut self, window: &mut Window, base: u32, size: u32) -> Result<(), Error> {
         self.take_in(window, base, |buffers| raw::initialize(buffers, base, size)).map(|_| ())
     }
 
-    /// Rebases, relocates and links a module. Gives how much of it is left after fixing, 0 where the level fixes nothing.
+    /// Rebases, relocates and links a module. Gives how much of it is left after fixing, 0 where the level fixes nothing. Refused by
+    /// [`Error::BadWindow`], [`Error::NotACro`], [`Error::BadSegment`] or [`Error::Full`], tested in this order.
     pub fn load(&mut self, window: &mut Window, arguments: LoadArguments) -> Result<u32, Error> {
         let LoadArguments { base, size, data_segment, bss_segment, auto_link, fix_level } = arguments;
         let (data, bss) = (data_segment, bss_segment);
@@ -198,14 +203,14 @@ impl Linker {
         })
     }
 
-    /// Takes out the first module at this base. Gives whether there was one.
+    /// Takes out the first module at this base. Gives whether there was one. Refused by [`Error::BadWindow`] alone.
     pub fn unload(&mut self, window: &mut Window, base: u32) -> Result<bool, Error> {
         let answer = raw::unload(self.lend(window), base);
         self.value_of(answer).map(|value| value != 0)
     }
 
-    /// Where the last call's first access with a byte outside the window started, in the order of the Rust's accesses; none if
-    /// all lay inside, and before the first call.
+    /// Where the last call's first access with a byte outside the window started, in the order of accesses of the emulator that the
+    /// linker was ported from; none if all lay inside, and before the first call.
     ///
     /// A word is one access, wherever its bytes lie; so is each byte of a name, the zero's included. A write counts even where
     /// it is dropped or cut. A refused call has the touches of what it did: none with [`Error::BadWindow`] and
@@ -255,6 +260,7 @@ fn grow(buffer: &mut Vec<u8>, length: usize) {
 
 impl std::fmt::Debug for Linker {
     fn fmt(&self, f: &mut std::fmt::Formatter<'_>) -> std::fmt::Result {
-        f.debug_struct("Linker").field("crs", &self.crs()).field("modules", &self.modules().collect::<Vec<_>>()).finish()
+        let crs = self.crs().map(|base| format!("{base:#010x}"));
+        f.debug_struct("Linker").field("crs", &crs).field("modules", &self.modules().collect::<Vec<_>>()).finish()
     }
 }

@@ -31,6 +31,15 @@ pub(crate) fn missing_count(records: &[u8]) -> usize {
     word(records, 20) as usize
 }
 
+/// How many bytes of a register are saved, by its header: those of the records, the names and the missing names in use.
+pub(crate) fn saved_length(records: &[u8]) -> usize {
+    if records.len() < HEADER {
+        return HEADER;
+    }
+    let (used, names) = used(records);
+    used + names + SLOT * missing_count(records)
+}
+
 /// The missing names, oldest first.
 pub(crate) fn missing<'a>(records: &[u8], missing: &'a [u8]) -> impl Iterator<Item = &'a [u8]> {
     missing.chunks_exact(SLOT).take(missing_count(records)).map(|slot| {

@@ -1,12 +1,12 @@
 //! Saved states: a linker's register as bytes, and a linker from them.
 
-use crate::register::{self, HEADER, MISSING_LENGTH, SLOT};
+use crate::register::{self, HEADER, MISSING_LENGTH};
 use crate::{raw, Error, Linker, Window};
 
-/// What a saved state begins with: four bytes, and the number of its form.
+/// What a saved state begins with: four bytes, the number of its form, and a checksum of the register behind them.
 const MAGIC: [u8; 4] = *b"FQHS";
 const FORM: u32 = 1;
-const START: usize = 8;
+const START: usize = 16;
 
 /// Why bytes are no saved state.
 #[derive(Debug, Clone, Copy, PartialEq, Eq)]
@@ -23,6 +23,8 @@ pub enum StateError {
         /// How many there should be.
         expected: usize,
     },
+    /// They are not those that were saved: their checksum is another.
+    Damaged,
     /// The register in them is none, as where a module count is above 64 or the named exports of a module do not ascend.
     NotARegister,
 }
@@ -35,6 +37,7 @@ impl std::fmt::Display for StateError {
             StateError::WrongLength { found, expected } => {
                 write!(f, "the saved state has {found} bytes, and its header asks for {expected}")
             }
+            StateError::Damaged => f.write_str("the saved state is damaged: its checksum is another"),
             StateError::NotARegister => f.write_str("the saved state holds no register"),
         }
     }
@@ -42,34 +45,39 @@ impl std::fmt::Display for StateError {
 
 impl std::error::Error for StateError {}
 
+/// FNV-1a, which notices a changed bit; it is no protection against somebody who means to change one.
+fn checksum(bytes: &[u8]) -> u64 {
+    bytes.iter().fold(0xCBF2_9CE4_8422_2325, |sum: u64, &byte| (sum ^ byte as u64).wrapping_mul(0x0000_0100_0000_01B3))
+}
+
 impl Linker {
     /// The whole state as bytes, only those in use: what [`Linker::from_bytes`] takes. The limit and the last touch are not
     /// part of it, and neither is the window, which the host saves with the guest's memory.
     pub fn to_bytes(&self) -> Vec<u8> {
         let (_, records, names, missing) = self.standing();
-        [&MAGIC, &FORM.to_le_bytes(), &self.records[..HEADER], records, names, missing].concat()
+        let register = [&self.records[..HEADER], records, names, missing].concat();
+        [&MAGIC[..], &FORM.to_le_bytes(), &checksum(&register).to_le_bytes(), &register].concat()
     }
 
-    /// A linker from the bytes of a saved state, with the limit of [`Linker::new`].
+    /// A linker from the bytes of a saved state, with the limit of [`Linker::new`]. That the window is the one that it was saved
+    /// with is for the host to see to.
     pub fn from_bytes(bytes: &[u8]) -> Result<Linker, StateError> {
         if bytes.len() < START || bytes[..4] != MAGIC {
             return Err(StateError::NotAState);
         }
-        let form = u32::from_le_bytes([bytes[4], bytes[5], bytes[6], bytes[7]]);
+        let (start, register) = bytes.split_at(START);
+        let form = u32::from_le_bytes([start[4], start[5], start[6], start[7]]);
         if form != FORM {
             return Err(StateError::UnknownForm(form));
         }
-        let register = &bytes[START..];
-        let wrong = |expected| StateError::WrongLength { found: bytes.len(), expected: START + expected };
-        if register.len() < HEADER {
-            return Err(wrong(HEADER));
+        let expected = register::saved_length(register);
+        if register.len() != expected {
+            return Err(StateError::WrongLength { found: bytes.len(), expected: START + expected });
+        }
+        if start[8..] != checksum(register).to_le_bytes() {
+            return Err(StateError::Damaged);
         }
         let (records, names) = register::used(register);
-        let missing = SLOT * register::missing_count(register);
-        let expected = records + names + missing;
-        if register.len() != expected {
-            return Err(wrong(expected));
-        }
         let (records, rest) = register.split_at(records);
         let (names, missing) = rest.split_at(names);
         let mut list = missing.to_vec();

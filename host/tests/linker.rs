@@ -182,7 +182,7 @@ fn a_state_is_saved_with_the_bytes_in_use_alone() {
     let (records, names) = linker.used();
     let bytes = linker.to_bytes();
     // and one missing name
-    assert_eq!(bytes.len(), 8 + records + names + 514);
+    assert_eq!(bytes.len(), 16 + records + names + 514);
     let again = Linker::from_bytes(&bytes).unwrap();
     assert!(again == linker && again.to_bytes() == bytes);
     assert_eq!(again.missing().collect::<Vec<_>>(), [b"nobody's"]);
@@ -205,12 +205,22 @@ fn a_state_that_is_none_says_why() {
     assert_eq!(broken(4, 2), StateError::UnknownForm(2));
     assert_eq!(Linker::from_bytes(&bytes[..length - 1]).unwrap_err(), wrong(length - 1, length));
     assert_eq!(Linker::from_bytes(&[&bytes[..], &[0]].concat()).unwrap_err(), wrong(length + 1, length));
-    assert_eq!(Linker::from_bytes(&bytes[..20]).unwrap_err(), wrong(20, 40));
-    // 65 modules; names that claim a byte more; a second missing name
-    assert_eq!(broken(8, 65), StateError::NotARegister);
-    assert_eq!(broken(8 + 16, bytes[8 + 16] + 1), wrong(length, length + 1));
-    assert_eq!(broken(8 + 20, 2), wrong(length, length + 514));
+    assert_eq!(Linker::from_bytes(&bytes[..20]).unwrap_err(), wrong(20, 48));
+    // names that claim a byte more; a second missing name; another count of modules
+    assert_eq!(broken(16 + 16, bytes[16 + 16] + 1), wrong(length, length + 1));
+    assert_eq!(broken(16 + 20, 2), wrong(length, length + 514));
+    assert_eq!(broken(16, 65), StateError::Damaged);
     assert_eq!(wrong(1, 2).to_string(), "the saved state has 1 bytes, and its header asks for 2");
+}
+
+#[test]
+fn no_bit_of_a_saved_state_can_be_changed() {
+    let bytes = loaded().to_bytes();
+    for bit in 0..8 * bytes.len() {
+        let mut bytes = bytes.clone();
+        bytes[bit / 8] ^= 1 << (bit % 8);
+        assert!(Linker::from_bytes(&bytes).is_err(), "bit {bit}");
+    }
 }
 
 #[test]

@@ -9,7 +9,8 @@ use std::process::ExitCode;
 fn run() -> Result<String, String> {
     let path = std::env::args().nth(1).ok_or("usage: touches FILE")?;
     let file = std::fs::read(&path).map_err(|error| format!("{path}: {error}"))?;
-    let session = Session::from_file(&file).ok_or("session bad")?;
+    let session = Session::from_file(&file)
+        .ok_or_else(|| format!("{path}: no session file; `tools/session.py check` says why, and `make` makes one of a text"))?;
     Ok(steps_with_touches(&session))
 }
 
