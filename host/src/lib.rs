@@ -170,9 +170,9 @@ impl Linker {
     /// Grows to what is used and the most that the module at this base can take, or to the limit.
     fn make_room(&mut self, window: &Window, base: u32) {
         let (records, names) = self.used();
-        let most = window.most_room(base, self.limit);
-        grow(&mut self.records, self.limit.min(records + most.records));
-        grow(&mut self.names, self.limit.min(names + most.names));
+        let (more_records, more_names) = window.most_room(base, self.limit);
+        grow(&mut self.records, self.limit.min(records + more_records));
+        grow(&mut self.names, self.limit.min(names + more_names));
     }
 
     /// Makes a call that takes in the module at this base. It is lent all bytes that there are, and not only as many as

@@ -3,66 +3,6 @@
 //! A host uses [`Linker`](crate::Linker), which owns the register and sees to its room. This layer is for one that keeps the
 //! register's buffers itself, as a program in C does; include/fillqhano.h says what each buffer holds.
 
-mod library {
-    unsafe extern "C" {
-        pub fn fillqhano_initialize(
-            at: u32,
-            window: *mut u8,
-            window_length: usize,
-            records: *mut u8,
-            records_length: usize,
-            names: *mut u8,
-            names_length: usize,
-            missing: *mut u8,
-            missing_length: usize,
-            base: u32,
-            size: u32,
-            value: *mut u32,
-            touched: *mut u32,
-            first: *mut u32,
-        ) -> u32;
-
-        pub fn fillqhano_load(
-            at: u32,
-            window: *mut u8,
-            window_length: usize,
-            records: *mut u8,
-            records_length: usize,
-            names: *mut u8,
-            names_length: usize,
-            missing: *mut u8,
-            missing_length: usize,
-            base: u32,
-            size: u32,
-            data_segment: u32,
-            data_segment_size: u32,
-            bss_segment: u32,
-            bss_segment_size: u32,
-            auto_link: u32,
-            fix_level: u32,
-            value: *mut u32,
-            touched: *mut u32,
-            first: *mut u32,
-        ) -> u32;
-
-        pub fn fillqhano_unload(
-            at: u32,
-            window: *mut u8,
-            window_length: usize,
-            records: *mut u8,
-            records_length: usize,
-            names: *mut u8,
-            names_length: usize,
-            missing: *mut u8,
-            missing_length: usize,
-            base: u32,
-            value: *mut u32,
-            touched: *mut u32,
-            first: *mut u32,
-        ) -> u32;
-    }
-}
-
 /// What a call is lent: the window with its address, and the register's three buffers. Any bytes will do.
 #[derive(Debug)]
 pub struct Buffers<'a> {
@@ -103,67 +43,66 @@ impl Answer {
     }
 }
 
-/// Calls a function of the library on what is lent and further arguments.
-macro_rules! call {
-    ($function:ident, $buffers:ident, $($argument:expr),*) => {{
-        let Buffers { at, window, records, names, missing } = $buffers;
-        let mut answer = Answer { number: 0, value: u32::MAX, touched: u32::MAX, first: u32::MAX };
-        // SAFETY: the pointers and lengths are those of four slices, which do not overlap as they are all mutable, and of
-        // three words of a local. The library keeps no pointer.
-        answer.number = unsafe {
-            library::$function(
-                at,
-                window.as_mut_ptr(),
-                window.len(),
-                records.as_mut_ptr(),
-                records.len(),
-                names.as_mut_ptr(),
-                names.len(),
-                missing.as_mut_ptr(),
-                missing.len(),
-                $($argument,)*
-                &mut answer.value,
-                &mut answer.touched,
-                &mut answer.first,
-            )
-        };
-        answer
-    }};
+/// Declares functions of the library, all of which take the buffers first and where to write the answer last, and gives each
+/// over slices.
+macro_rules! calls {
+    ($($(#[$attribute:meta])* $name:ident = $function:ident($($argument:ident),*);)*) => {
+        unsafe extern "C" {
+            $(fn $function(
+                at: u32,
+                window: *mut u8,
+                window_length: usize,
+                records: *mut u8,
+                records_length: usize,
+                names: *mut u8,
+                names_length: usize,
+                missing: *mut u8,
+                missing_length: usize,
+                $($argument: u32,)*
+                value: *mut u32,
+                touched: *mut u32,
+                first: *mut u32,
+            ) -> u32;)*
+        }
+
+        $($(#[$attribute])*
+        pub fn $name(buffers: Buffers, $($argument: u32),*) -> Answer {
+            let Buffers { at, window, records, names, missing } = buffers;
+            let mut answer = Answer { number: 0, value: u32::MAX, touched: u32::MAX, first: u32::MAX };
+            // SAFETY: the pointers and lengths are those of four slices, which do not overlap as they are all mutable, and of
+            // three words of a local. The library keeps no pointer.
+            answer.number = unsafe {
+                $function(
+                    at,
+                    window.as_mut_ptr(),
+                    window.len(),
+                    records.as_mut_ptr(),
+                    records.len(),
+                    names.as_mut_ptr(),
+                    names.len(),
+                    missing.as_mut_ptr(),
+                    missing.len(),
+                    $($argument,)*
+                    &mut answer.value,
+                    &mut answer.touched,
+                    &mut answer.first,
+                )
+            };
+            answer
+        })*
+    };
 }
 
-/// Takes in the static module.
-pub fn initialize(buffers: Buffers, base: u32, size: u32) -> Answer {
-    call!(fillqhano_initialize, buffers, base, size)
-}
+calls! {
+    /// Takes in the static module.
+    initialize = fillqhano_initialize(base, size);
 
-/// Loads a module. An `auto_link` other than 0 counts as 1.
-#[allow(clippy::too_many_arguments)]
-pub fn load(
-    buffers: Buffers,
-    base: u32,
-    size: u32,
-    data_segment: u32,
-    data_segment_size: u32,
-    bss_segment: u32,
-    bss_segment_size: u32,
-    auto_link: u32,
-    fix_level: u32,
-) -> Answer {
-    call!(
-        fillqhano_load,
-        buffers,
-        base,
-        size,
-        data_segment,
-        data_segment_size,
-        bss_segment,
-        bss_segment_size,
-        auto_link,
-        fix_level
-    )
-}
+    /// Loads a module. An `auto_link` other than 0 counts as 1.
+    #[allow(clippy::too_many_arguments)]
+    load = fillqhano_load(
+        base, size, data_segment, data_segment_size, bss_segment, bss_segment_size, auto_link, fix_level
+    );
 
-/// Unloads the first module at this base.
-pub fn unload(buffers: Buffers, base: u32) -> Answer {
-    call!(fillqhano_unload, buffers, base)
+    /// Unloads the first module at this base.
+    unload = fillqhano_unload(base);
 }

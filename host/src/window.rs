@@ -24,41 +24,34 @@ const NAME: usize = 512;
 /// What is added, for an image that makes its names or counts a little greater while it is rebased.
 const SPARE: usize = 0x1000;
 
-/// Bytes of records and of names.
-#[derive(Debug, Clone, Copy, PartialEq, Eq)]
-pub(crate) struct Room {
-    pub(crate) records: usize,
-    pub(crate) names: usize,
-}
-
 impl Window<'_> {
     /// The bytes from an address on; none if it lies outside.
-    fn from(&self, address: u32) -> &[u8] {
+    fn bytes_from(&self, address: u32) -> &[u8] {
         self.bytes.get(address.wrapping_sub(self.at) as usize..).unwrap_or(&[])
     }
 
     /// The word at an address; bytes outside are 0.
     fn word(&self, address: u32) -> u32 {
-        let byte = |index| self.from(address.wrapping_add(index)).first().copied().unwrap_or(0);
+        let byte = |index| self.bytes_from(address.wrapping_add(index)).first().copied().unwrap_or(0);
         u32::from_le_bytes([byte(0), byte(1), byte(2), byte(3)])
     }
 
-    /// The most that the record and the names of the module at this base can take, by its counts and names as they are now;
-    /// nothing where there is no module. What is above the limit need not be exact.
+    /// The most bytes that the record and the names of the module at this base can take, by its counts and names as they are
+    /// now; none where there is no module. What is above the limit need not be exact.
     ///
     /// A record has 32 bytes, 4 for each of at most 16 segments and each indexed export, and 12 for each named one, of which no
     /// two have the same name. Entries of the table that lie all outside are one empty name, so the names are no more than the
     /// entries that the window can hold, those at its edges, and that one.
-    pub(crate) fn most_room(&self, base: u32, limit: usize) -> Room {
+    pub(crate) fn most_room(&self, base: u32, limit: usize) -> (usize, usize) {
         let word = |field| self.word(base.wrapping_add(field));
         if !matches!(&word(MAGIC).to_le_bytes(), b"CRO0" | b"CRS0") {
-            return Room { records: 0, names: 0 };
+            return (0, 0);
         }
         let count = |field| word(field) as usize;
         let named = count(NAMED_EXPORT_COUNT).min(self.bytes.len() / NAMED_EXPORT + 3);
         let records = 32 + 4 * count(SEGMENT_COUNT).min(16) + 12 * named + 4 * count(INDEXED_EXPORT_COUNT);
         let names = NAME + self.export_names(base, named, limit).unwrap_or(NAME * named);
-        Room { records: records + SPARE, names: names + SPARE }
+        (records + SPARE, names + SPARE)
     }
 
     /// The bytes of the names of so many exports, or a number from the limit on; none where their table is not all inside.
@@ -67,7 +60,7 @@ impl Window<'_> {
         let moved = |offset: u32, by: u32| if offset == 0 { 0 } else { offset.wrapping_add(by) };
         let table = moved(self.word(base.wrapping_add(NAMED_EXPORTS)), base);
         let names_by = if table == 0 { 0 } else { base };
-        let entries = self.from(table).get(..NAMED_EXPORT * named)?;
+        let entries = self.bytes_from(table).get(..NAMED_EXPORT * named)?;
         let mut sum = 0;
         for entry in entries.chunks_exact(NAMED_EXPORT) {
             let name = moved(u32::from_le_bytes([entry[0], entry[1], entry[2], entry[3]]), names_by);
@@ -81,7 +74,7 @@ impl Window<'_> {
 
     /// The length of the name at an address; the one at 0 is empty.
     fn name_length(&self, address: u32) -> usize {
-        let bytes = if address == 0 { &[] } else { self.from(address) };
+        let bytes = if address == 0 { &[] } else { self.bytes_from(address) };
         length_before_zero(&bytes[..bytes.len().min(NAME)])
     }
 }

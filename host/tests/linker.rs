@@ -177,6 +177,28 @@ fn an_image_that_rewrites_its_counts_may_find_no_room() {
 }
 
 #[test]
+fn an_image_that_rewrites_its_names_may_find_no_room() {
+    // 120 exports whose names are one byte each, a word apart; as named imports these words are moved, and then no zero ends a name
+    const BASE: u32 = 0x0101_0101;
+    const NAMES: usize = 0x600;
+    let tables = [(0xC8, 0x138), (0xCC, 1), (0xD0, 0x200), (0xD4, 120), (0x100, NAMES as u32), (0x104, 60)];
+    let segment = [(0x138, 0x138), (0x13C, 0x10)];
+    let exports = (0..120).flat_map(|index| {
+        let name = NAMES + 4 * index;
+        [(0x200 + 8 * index, name as u32), (name, 1 + index as u32)]
+    });
+    let words: Vec<_> = tables.into_iter().chain(segment).chain(exports).collect();
+    let image = [&[0; 0x101][..], &page(&words)[..], &[0; 0xEFF]].concat();
+    let arguments = LoadArguments { base: BASE, size: 0x1000, ..Default::default() };
+    let load = |linker: &mut Linker| linker.load(&mut Window { at: 0x0101_0000, bytes: &mut image.clone() }, arguments);
+    let mut linker = Linker::new();
+    assert_eq!((load(&mut linker), lengths(&linker)), (Err(Error::Full), (32, 0)));
+    let mut roomy = Linker::from_buffers(vec![0; 0x1000], vec![0; 0x8000], vec![0; MISSING_LENGTH]).unwrap();
+    assert_eq!(load(&mut roomy), Ok(0));
+    assert!(roomy.used().1 > 120 + 512 + 0x1000);
+}
+
+#[test]
 fn a_state_is_saved_with_the_bytes_in_use_alone() {
     let linker = loaded();
     let (records, names) = linker.used();

@@ -1,8 +1,8 @@
 //! One session on both sides. The Rust goes first: a call that it cannot finish in time is not made on the linker.
 
-use crate::asked::Asked;
 use crate::encoding::is_encoded;
 use crate::faults::{self, Told};
+use crate::needed::Needed;
 use crate::touches::{Beginning, End};
 use crate::under_test::{self, Buffers};
 use fillqhano::raw::Answer;
@@ -197,8 +197,8 @@ impl<'a> Run<'a> {
             return None;
         }
         self.done.tally.rewritten += 1;
-        let before = Asked::of(self.session.at, &self.buffers.window, step.base, step.base);
-        let after = Asked::of(self.session.at, &model.window, step.base, 0);
+        let before = Needed::of(self.session.at, &self.buffers.window, step.base, step.base);
+        let after = Needed::of(self.session.at, &model.window, step.base, 0);
         (before == after).then(|| "no room, and neither counts nor names have changed".into())
     }
 

@@ -1,7 +1,7 @@
 //! The linker under test: the three calls over a window and a register, by the library's own functions or, where the register
 //! grows, by the host's wrapper.
 
-use crate::asked::Asked;
+use crate::needed::Needed;
 use fillqhano::raw::{self, Answer};
 use fillqhano::{Linker, Window, MISSING_LENGTH};
 use sessions::{Call, Module, Room, Session, State, Step};
@@ -66,17 +66,17 @@ impl Buffers {
         answer
     }
 
-    /// The bytes of records and of names that a call is lent. Where they grow: to what is used, the most that the image asks
-    /// for, and a page.
+    /// The bytes of records and of names that a call is lent. Where they grow: to what is used, the most that the module needs,
+    /// and a page.
     pub fn lent(&self, step: &Step) -> (usize, usize) {
-        let lengths = (self.records.len(), self.names.len());
+        let (records, names) = (self.records.len(), self.names.len());
         let Some(limit) = self.limit else {
-            return lengths;
+            return (records, names);
         };
         let used = self.linker().expect("every call leaves a register").used();
-        let asked = Asked::of(self.at, &self.window, step.base, step.base);
-        let needed = |used: usize, most: usize| limit.min(used + most + 0x1000);
-        (lengths.0.max(needed(used.0, asked.records())), lengths.1.max(needed(used.1, asked.names())))
+        let needed = Needed::of(self.at, &self.window, step.base, step.base);
+        let grown = |used: usize, more: usize| limit.min(used + more + 0x1000);
+        (records.max(grown(used.0, needed.records())), names.max(grown(used.1, needed.names())))
     }
 
     pub fn register(&self) -> (&[u8], &[u8], &[u8]) {

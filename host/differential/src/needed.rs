@@ -1,8 +1,8 @@
-//! What an image asks of the register's room, by its header and tables as they are: a model of what the wrapper grows to.
+//! What a module needs of the register's room, by its image as it is: a model of what the wrapper grows to.
 
 /// The counts of an image, and the lengths of its exports' names.
 #[derive(Debug, PartialEq, Eq)]
-pub struct Asked {
+pub struct Needed {
     segments: u32,
     named: u32,
     indexed: u32,
@@ -12,9 +12,9 @@ pub struct Asked {
     differing: usize,
 }
 
-impl Asked {
+impl Needed {
     /// Of the image at this base, to whose offsets so much is still to be added: the base, or 0 once it is rebased.
-    pub fn of(at: u32, window: &[u8], base: u32, by: u32) -> Asked {
+    pub fn of(at: u32, window: &[u8], base: u32, by: u32) -> Needed {
         let memory = Memory { at, window };
         let [table, segments, named, indexed] = [0xD0, 0xCC, 0xD4, 0xDC].map(|field: u32| memory.word(base.wrapping_add(field)));
         let differing = (named as usize).min(window.len() / 8 + 3);
@@ -25,7 +25,7 @@ impl Asked {
             let names = (0..differing).map(|index| memory.word(table.wrapping_add(8 * index as u32)));
             names.map(|name| memory.name_length(if name == 0 { 0 } else { name.wrapping_add(by) })).collect()
         });
-        Asked { segments, named, indexed, lengths, differing }
+        Needed { segments, named, indexed, lengths, differing }
     }
 
     pub fn records(&self) -> usize {
