@@ -1,12 +1,13 @@
-// The exported calls, the library that a host links: `initialize`, `load` and `unload` of the title's loader, for any bytes lent.
-// Each answers a number, and lends its value through `value`; a call that answers 1 to 5 leaves the register as it was.
-// `touched` becomes 1 where an access had a byte outside the window, and `first` where the first such access started.
+// The exported calls, the library that a host links: `initialize`, `load` and `unload` of the title's loader, for any bytes lent, and the writer's
+// `write_image` and `read_image`. Each answers a number, and lends its value through `value`; a call of the loader that answers 1 to 5 leaves the
+// register as it was. `touched` becomes 1 where an access had a byte outside the window, and `first` where the first such access started.
 ghost use mathlib.Core.Path.{_≡_};
 ghost use Rattle.window.specs.Memory.{goodWindow};
 ghost use Rattle.window.specs.Trace.{touchOf};
 ghost use Rattle.register.specs.Decode.{isRegister};
 ghost use Rattle.linker_spec.specs.Outcome.{buffers, outcome, loadArguments, initializeOutcome, loadOutcome, unloadOutcome};
 ghost use Rattle.linker_spec.specs.Touches.{initializeTouches, loadTouches, unloadTouches};
+ghost use Rattle.writer_spec.specs.Outcome.{left, writeOutcome, readOutcome};
 ghost use Rattle.fillqhano.specs.Refusal.{refusalOfBuffers};
 use linker::calls;
 use linker_spec::rebase::LoadArguments;
@@ -180,4 +181,20 @@ pub extern "C" fn unload(
     );
     tell(&trace[..], touched, first);
     unloaded
+}
+
+// Writes the CRO image of a description, and gives as value its length: 6 where it would not be well laid in each place, then 7 where it does not fit.
+#[no_mangle]
+pub extern "C" fn write_image(description: &[u8], image: &mut [u8], value: &mut u32) -> u32
+    ensures { λ r. ⌜ left r (now (value .exit)) (now (image .exit)) ≡ writeOutcome (now (description .entry)) (now (image .entry)) ⌝ }
+{
+    writer::image::write_image(description, image, value)
+}
+
+// Gives the description of an image that was written so back, and as value its length.
+#[no_mangle]
+pub extern "C" fn read_image(image: &[u8], description: &mut [u8], value: &mut u32) -> u32
+    ensures { λ r. ⌜ left r (now (value .exit)) (now (description .exit)) ≡ readOutcome (now (image .entry)) (now (description .entry)) ⌝ }
+{
+    writer::image::read_image(image, description, value)
 }

@@ -1,0 +1,2 @@
+-- What the proofs of `image` share.
+pub mod Laws

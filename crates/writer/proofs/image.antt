@@ -1,0 +1,4 @@
+-- What the proofs of `writer::image` share.
+mod Laws
+mod Whole
+mod Outcomes

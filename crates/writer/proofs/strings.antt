@@ -1,0 +1,2 @@
+-- What the proofs of `writer::strings` share.
+mod Laws

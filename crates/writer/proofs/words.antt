@@ -1,0 +1,2 @@
+-- What the proofs of `writer::words` share.
+mod Laws
