@@ -1,13 +1,13 @@
-/* The linker of CRO modules: three calls over memory that the host lends.
+/* The linker of CRO modules: three calls over memory that the host lends; and a writer of CRO images, two calls.
  *
- * target/lib/libfillqhano.a, which host/build makes, has the calls as fillqhano_initialize, fillqhano_load and fillqhano_unload.
- * A host that links the library as it was proved, target/staticlib/libfillqhano.a, where they are `initialize`, `load` and
- * `unload`, defines FILLQHANO_PLAIN_NAMES before it includes this; all below then calls those.
+ * target/lib/libfillqhano.a, which host/build makes, has the calls with the prefix fillqhano_: fillqhano_initialize and so on.
+ * A host that links the library as it was proved, target/staticlib/libfillqhano.a, where they are `initialize`, `load`,
+ * `unload`, `write_image` and `read_image`, defines FILLQHANO_PLAIN_NAMES before it includes this; all below then calls those.
  *
  * A lent buffer is passed as two arguments, a pointer to its first byte and its length in bytes. The pointers must be
  * valid for their lengths, not null even where a length is 0, and the buffers, `*value`, `*touched` and `*first` included,
- * must not overlap. The inline functions at the end take structs in place of long lists of arguments, and allow a null pointer
- * where a length is 0.
+ * must not overlap. The inline functions at the end take structs in place of the linker's long lists of arguments, and allow a null
+ * pointer where a length is 0.
  * A call keeps no pointer, allocates nothing, and has no state but the buffers. Every call ends on any bytes and
  * any arguments, but not always soon: time grows with an image's counts, and with their product where counts nest. A host that takes
  * images from anywhere calls on a thread that it can spare, or looks at the counts first. C99 or C++.
@@ -41,6 +41,17 @@
  * at address 0. A word is one access, and so is each byte of a name; a write counts even where it is dropped or cut. With 3
  * and 4 there is no access, with 1 the magic's alone, with 2 those up to the bad segment, with 5 those of the rebase and of
  * the external reset.
+ *
+ * A description, of which the writer makes an image: bytes in the form of a CRO's, without padding at the end.
+ *   The header, 0x138 bytes. Described are the words at 0x084 (the name's offset) and 0x094 (the Bss size), those from 0x0A0 on: four tags,
+ *   the code and data pairs, and 15 pairs of an offset and a count from 0x0C0 on. All other bytes are 0, the magic and the length too.
+ *   From 0x138 on its parts, each at the next multiple of 4, bytes between them 0: the segments in table order, but those of kind 3 or
+ *   above, which have none and whose offset word is free; then the tables and string areas of the 15 pairs, in this order, empty ones
+ *   too. The description ends where the last pair's (empty) table starts. Three tables are empty: the export tree (0x0E8), static
+ *   anonymous symbols (0x120) and static relocations (0x130).
+ *   Names stand in the string areas one right after another, each of at most 512 bytes with a zero after it, and each entry points at its own:
+ *   0x0C0 has the module's, 0x0E0 those of the named exports, 0x118 those of the module entries, then those of the named imports.
+ * The image is the description with CRO0 at 0x080, its own length at 0x090, and zeros up to that, the next multiple of 4,096.
  */
 #ifndef FILLQHANO_H
 #define FILLQHANO_H
@@ -65,14 +76,19 @@ enum fillqhano_number {
     FILLQHANO_BAD_SEGMENT = 2,  /* a segment is bad; the window has been written up to there (load) */
     FILLQHANO_BAD_WINDOW = 3,   /* the window breaks its rule; nothing has changed */
     FILLQHANO_BAD_REGISTER = 4, /* the three buffers are no register; nothing has changed */
-    FILLQHANO_FULL = 5          /* 64 modules stand, or the module's record or its names have no room; the window has been
+    FILLQHANO_FULL = 5,         /* 64 modules stand, or the module's record or its names have no room; the window has been
                                    written: rebased, its imports reset (initialize and load) */
+    FILLQHANO_NOT_WRITABLE = 6, /* no description of an image that has a place and is well laid in every place; an image too short
+                                   to be read back (write_image and read_image); nothing has changed */
+    FILLQHANO_NO_ROOM = 7       /* the buffer is too short; nothing has changed (write_image and read_image) */
 };
 
 #ifdef FILLQHANO_PLAIN_NAMES
 #define fillqhano_initialize initialize
 #define fillqhano_load load
 #define fillqhano_unload unload
+#define fillqhano_write_image write_image
+#define fillqhano_read_image read_image
 #endif
 
 /* Takes in the static module (CRS) at `base`, `size` bytes long. *value becomes 0. */
@@ -110,7 +126,22 @@ uint32_t fillqhano_unload(uint32_t at,
                           uint32_t base,
                           uint32_t *value, uint32_t *touched, uint32_t *first);
 
-/* The same by structs. A buffer of length 0 may be null here. */
+/* Writes the image of a description to the front of `image`; the bytes after it stay. *value becomes the image's length. It refuses (6)
+ * exactly a description that is not of the form above, or whose image has no place, or is not well laid in each: a place is a base and lent
+ * areas of at least the sizes of its Data and Bss segments, all three above 0, ending below 2^32 and apart from each other.
+ * Then it refuses a buffer shorter than the image (7). With 6 and 7 every byte of the buffer stays, and *value becomes 0. */
+uint32_t fillqhano_write_image(const uint8_t *description, size_t description_length,
+                               uint8_t *image, size_t image_length,
+                               uint32_t *value);
+
+/* Gives back the description of an image that fillqhano_write_image made, at the front of `description`; the bytes after it stay. *value
+ * becomes its length. It judges no image but one that is shorter than 0x138 bytes or than its last table's offset (6). Then it
+ * refuses a buffer that is too short (7). With 6 and 7 every byte of the buffer stays, and *value becomes 0. */
+uint32_t fillqhano_read_image(const uint8_t *image, size_t image_length,
+                              uint8_t *description, size_t description_length,
+                              uint32_t *value);
+
+/* The linker's calls by structs. A buffer of length 0 may be null here. */
 
 struct fillqhano_window {
     uint32_t at;

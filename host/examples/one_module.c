@@ -1,4 +1,4 @@
-/* Takes in a static module, loads a module and unloads it, from C; and calls that are refused. Ends with 0 if all calls answer
+/* Takes in a static module, loads a module and unloads it, from C; and calls that are refused, the writer's among them. Ends with 0 if all calls answer
  * as they should, else with the number of the first that does not. */
 #include "fillqhano.h"
 #include <stdio.h>
@@ -23,6 +23,20 @@ static void put_module(uint8_t *image, const char *magic)
     memcpy(image + 0x080, magic, 4);
     memcpy(image + 0x0B0, "\x38\x01", 2);
     memcpy(image + 0x0B4, "\x10", 1);
+}
+
+/* The writer: what is no description is refused, and an image shorter than its header says cannot be read back. */
+static int written(void)
+{
+    static const uint8_t nothing[0x138] = {0};
+    uint32_t value = 1;
+
+    calls++;
+    if (fillqhano_write_image(nothing, sizeof nothing, memory, sizeof memory, &value) != FILLQHANO_NOT_WRITABLE || value != 0)
+        return 0;
+    calls++;
+    value = 1;
+    return fillqhano_read_image(nothing, sizeof nothing - 1, memory, sizeof memory, &value) == FILLQHANO_NOT_WRITABLE && value == 0;
 }
 
 static int run(void)
@@ -65,7 +79,7 @@ static int run(void)
     linker.records_length = 0;
     if (!gave(fillqhano_linker_initialize(linker, window, AT, FILLQHANO_PAGE), FILLQHANO_BAD_REGISTER, 0))
         return calls;
-    return 0;
+    return written() ? 0 : calls;
 }
 
 int main(void)

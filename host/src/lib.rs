@@ -35,12 +35,15 @@
 //! assert!(linker.is_empty());
 //! ```
 //!
+//! A [`Description`] makes a module's image from its parts, and gives them back: for tests, tools and patches.
+//!
 //! Guest memory that is kept in pages becomes a window by being in a row: the host keeps the pages of the area that modules
 //! lie in one after another in one buffer, or copies them there before a call and back after it. Each call is lent a window anew; it
 //! may be another one, as long as all that stands lies in it.
 
 #![deny(missing_docs)]
 
+mod description;
 mod error;
 pub mod raw;
 mod register;
@@ -49,6 +52,7 @@ mod window;
 
 use raw::{Answer, Buffers};
 
+pub use description::{Description, Export, Import, ImportedModule, InternalRelocation, NotWellLaid, Relocation, Segment, Tag};
 pub use error::Error;
 pub use register::{Module, Modules, MISSING_LENGTH};
 pub use state::StateError;

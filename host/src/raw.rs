@@ -1,4 +1,4 @@
-//! The three calls as the static library has them, over slices: any bytes may be lent, and a number comes back.
+//! The calls as the static library has them, over slices: any bytes may be lent, and a number comes back.
 //!
 //! A host uses [`Linker`](crate::Linker), which owns the register and sees to its room. This layer is for one that keeps the
 //! register's buffers itself, as a program in C does; include/fillqhano.h says what each buffer holds.
@@ -105,4 +105,42 @@ calls! {
 
     /// Unloads the first module at this base.
     unload = fillqhano_unload(base);
+}
+
+unsafe extern "C" {
+    fn fillqhano_write_image(
+        description: *const u8,
+        description_length: usize,
+        image: *mut u8,
+        image_length: usize,
+        value: *mut u32,
+    ) -> u32;
+
+    fn fillqhano_read_image(
+        image: *const u8,
+        image_length: usize,
+        description: *mut u8,
+        description_length: usize,
+        value: *mut u32,
+    ) -> u32;
+}
+
+/// Writes the image of a description to the buffer's front. Gives the number and the value: 0 and the image's size; 6 and 0 for a description that
+/// makes no image that is well laid in every place; 7 and 0 for a buffer that is too short. All other bytes of the buffer stay.
+pub fn write_image(description: &[u8], image: &mut [u8]) -> (u32, u32) {
+    let mut value = u32::MAX;
+    // SAFETY: the pointers and lengths are those of two slices, which do not overlap as one is mutable, and of a local word.
+    let number =
+        unsafe { fillqhano_write_image(description.as_ptr(), description.len(), image.as_mut_ptr(), image.len(), &mut value) };
+    (number, value)
+}
+
+/// Writes the description that an image was made from to the buffer's front. Gives the number and the value: 0 and the description's length;
+/// 6 and 0 for an image shorter than its header says; 7 and 0 for a buffer that is too short. All other bytes of the buffer stay.
+pub fn read_image(image: &[u8], description: &mut [u8]) -> (u32, u32) {
+    let mut value = u32::MAX;
+    // SAFETY: as above.
+    let number =
+        unsafe { fillqhano_read_image(image.as_ptr(), image.len(), description.as_mut_ptr(), description.len(), &mut value) };
+    (number, value)
 }

@@ -1,14 +1,16 @@
 //! `bench [PART]`: times the linker and the Rust on the same work, both in one process and in turn, the best of several
-//! runs; of the rows with this part in their name.
+//! runs; of the rows with this part in their name. The writer, which the Rust has not, is timed against four copies of its description.
 //! `bench --hostile`: calls with counts of 2^24 and 2^32 - 1, each in a process of its own with a limit of time and memory.
 
 mod clock;
 mod hostile;
 mod work;
+mod writer;
 
 use std::process::ExitCode;
 use std::time::Duration;
 use work::{Work, RUNS};
+use writer::Written;
 
 fn main() -> ExitCode {
     if oracle::WATCHED {
@@ -32,6 +34,12 @@ fn rows(part: &str) {
         let (linker, rust) = work.times();
         let ratio = rust.map_or("-".into(), |rust| format!("{:.2}", linker.as_secs_f64() / rust.as_secs_f64()));
         println!("{:<44} {:>10} {:>10} {:>7}", work.name, shown(Some(linker)), shown(rust), ratio);
+    }
+    println!("{:<44} {:>10} {:>10} {:>7}", "", "writer", "4 copies", "ratio");
+    for row in Written::all().iter().filter(|row| row.name.contains(part)) {
+        let (writer, copies) = row.times();
+        let ratio = writer.as_secs_f64() / copies.as_secs_f64();
+        println!("{:<44} {:>10} {:>10} {ratio:>7.2}", row.name, shown(Some(writer)), shown(Some(copies)));
     }
 }
 

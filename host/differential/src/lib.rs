@@ -1,4 +1,4 @@
-//! The linker and the Rust on the same sessions, all that they leave compared call by call.
+//! The linker and the Rust on the same sessions, all that they leave compared call by call; and the writer against its text.
 
 pub mod cases;
 pub mod compare;
@@ -12,3 +12,4 @@ pub mod stored;
 pub mod text;
 mod touches;
 pub mod under_test;
+pub mod writer;

@@ -1,35 +1,39 @@
-//! `differential [--seed N] [--sessions M]`: M sessions of each family, compared with the Rust. With the gate's seed and
-//! number the stored answers are compared too, and `--store` writes them. `--file PATH` compares one session file and prints
-//! what the session program should.
+//! `differential [--seed N] [--sessions M] [--descriptions D]`: M sessions of each family, compared with the Rust, and D descriptions, the
+//! writer's answers compared with its text. With the gate's seed and number the stored answers are compared too, and `--store` writes
+//! them. `--file PATH` compares one session file and prints what the session program should.
 
 use differential::compare::{compare, Compared, Mismatch, Tally};
 use differential::families::Family;
 use differential::history::{run_pair, Seen};
 use differential::stored::{self, Answers};
+use differential::writer::{self, Written};
 use differential::{shrink, text};
 use sessions::Session;
 use std::process::ExitCode;
 
-/// The gate's seed, and how many sessions of each family.
+/// The gate's seed, how many sessions of each family, and how many descriptions.
 const SEED: u64 = 1;
 const SESSIONS: u64 = 150;
+const DESCRIPTIONS: u64 = 20_000;
 const STORED: &str = concat!(env!("CARGO_MANIFEST_DIR"), "/stored.txt");
 
 struct Asked {
     seed: u64,
     sessions: u64,
+    descriptions: u64,
     store: bool,
     file: Option<String>,
 }
 
 fn asked() -> Result<Asked, String> {
-    let mut asked = Asked { seed: SEED, sessions: SESSIONS, store: false, file: None };
+    let mut asked = Asked { seed: SEED, sessions: SESSIONS, descriptions: DESCRIPTIONS, store: false, file: None };
     let mut words = std::env::args().skip(1);
     while let Some(word) = words.next() {
         let mut value = || words.next().ok_or(format!("{word} needs a value"));
         match word.as_str() {
             "--seed" => asked.seed = value()?.parse().map_err(|_| "--seed needs a number")?,
             "--sessions" => asked.sessions = value()?.parse().map_err(|_| "--sessions needs a number")?,
+            "--descriptions" => asked.descriptions = value()?.parse().map_err(|_| "--descriptions needs a number")?,
             "--file" => asked.file = Some(value()?),
             "--store" => asked.store = true,
             _ => return Err(format!("what is {word}?")),
@@ -56,6 +60,7 @@ fn run(asked: Asked) -> Result<(), String> {
         return report(&session, compared);
     }
     compare_pairs(&asked)?;
+    compare_descriptions(&asked)?;
     let gate = asked.seed == SEED && asked.sessions == SESSIONS;
     if !oracle::AT_HAND {
         let calls = replay()?;
@@ -90,6 +95,23 @@ fn compare_pairs(asked: &Asked) -> Result<(), String> {
     println!(
         "  {} calls besides with a bad window, {} with a bad register, {} of them before the static module's initialize",
         seen.bad_windows, seen.bad_registers, seen.before_crs
+    );
+    Ok(())
+}
+
+/// The writer against its text.
+fn compare_descriptions(asked: &Asked) -> Result<(), String> {
+    let mut written = Written::default();
+    for number in 0..asked.descriptions {
+        writer::try_one(asked.seed, number, &mut written)?;
+    }
+    println!(
+        "writer: {} descriptions, {} taken, {} of them with a word past the image; the text judged {} places",
+        written.descriptions, written.accepted, written.far, written.places
+    );
+    println!(
+        "  refused: {} not of the form, {} without a place, {} not well laid in some place",
+        written.not_described, written.no_place, written.not_laid
     );
     Ok(())
 }
