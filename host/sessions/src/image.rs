@@ -106,14 +106,14 @@ impl FromModule {
 }
 
 impl Image {
-    /// The image without the zeros at its end, so that many fit in a small window.
+    /// The image without the zeros at its end, so that many fit in a small window. Empty names are at 0, as they may be.
     pub fn bytes(&self) -> Vec<u8> {
         let description = self.description();
         let mut bytes = description.to_bytes();
         match (self.static_base, description.image()) {
-            (None, Ok(mut image)) => {
-                image.truncate(bytes.len());
-                return image;
+            (None, Ok(image)) => {
+                let end = bytes.len();
+                bytes.copy_from_slice(&image[..end]);
             }
             (None, Err(_)) => self.put_magic(&mut bytes, b"CRO0"),
             (Some(base), _) => {
@@ -121,6 +121,7 @@ impl Image {
                 self.put_magic(&mut bytes, b"CRS0");
             }
         }
+        clear_empty_names(&mut bytes);
         bytes
     }
 
@@ -153,7 +154,7 @@ impl Image {
         put(bytes, FILE_SIZE, size);
     }
 
-    /// A static module's segments are addresses, and its bss lies in its image. Its empty name is at 0, as it may be.
+    /// A static module's segments are addresses, and its bss lies in its image.
     fn make_static(&self, bytes: &mut Vec<u8>, base: u32) {
         let table = word(bytes, SEGMENTS as usize) as usize;
         let bss = bytes.len() as u32;
@@ -163,8 +164,19 @@ impl Image {
             let offset = word(bytes, entry);
             put(bytes, entry, base + offset);
         }
-        if self.name.is_empty() {
-            put(bytes, MODULE_NAME, 0);
+    }
+}
+
+/// Makes the pointers of empty names 0.
+fn clear_empty_names(bytes: &mut [u8]) {
+    let mut pointers = vec![MODULE_NAME];
+    for (field, width) in [(NAMED_EXPORTS, 8), (IMPORT_MODULES, 20), (NAMED_IMPORTS, 8)] {
+        let (table, count) = (word(bytes, field as usize), word(bytes, field as usize + 4));
+        pointers.extend((0..count).map(|number| (table + width * number) as usize));
+    }
+    for pointer in pointers {
+        if bytes[word(bytes, pointer) as usize] == 0 {
+            put(bytes, pointer, 0);
         }
     }
 }
