@@ -104,6 +104,7 @@ fn compare_descriptions(asked: &Asked) -> Result<(), String> {
     let mut written = Written::default();
     for number in 0..asked.descriptions {
         writer::try_one(asked.seed, number, &mut written)?;
+        writer::try_reading(asked.seed, number)?;
     }
     println!(
         "writer: {} descriptions, {} taken, {} of them with a word past the image; the text judged {} places",

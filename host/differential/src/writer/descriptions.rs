@@ -3,8 +3,12 @@
 use fillqhano::{Description, Export, Import, ImportedModule, InternalRelocation, Relocation, Segment, Tag};
 use sessions::Random;
 
-/// A description, right, nearly right, or with bytes changed.
+/// A description, right, nearly right, or with bytes changed; now and then any bytes.
 pub fn any(random: &mut Random) -> Vec<u8> {
+    if random.once_in(50) {
+        let length = random.below(0x400);
+        return filled(random, length);
+    }
     let mut module = module(random);
     match random.below(8) {
         0 | 1 => fill_the_space(random, &mut module),

@@ -1,5 +1,6 @@
 //! The writer by running: random descriptions, most of them nearly right, against the literal definition of document 02 in many places;
-//! what it takes is read back, and loaded at a random place.
+//! what it takes is read back, and so are images that nobody wrote. That written images load is seen by the pairs of demand 3, whose modules
+//! are written ones.
 
 mod descriptions;
 mod laid;
@@ -56,6 +57,38 @@ pub fn try_one(seed: u64, number: u64, written: &mut Written) -> Result<(), Stri
     let mut back = vec![FILL; description.len() + 8];
     if raw::read_image(&image, &mut back) != (0, description.len() as u32) || back[..description.len()] != description[..] {
         return wrong("not read back");
+    }
+    Ok(())
+}
+
+/// Reads any bytes back, into a buffer of any length; gives what does not hold.
+pub fn try_reading(seed: u64, number: u64) -> Result<(), String> {
+    let mut random = Random::new(seed, 201, number);
+    let any = random.below(0x400) as usize;
+    let mut image: Vec<u8> = (0..random.pick(&[0, 0x137, 0x138, 0x139, 0x200, any])).map(|_| random.word() as u8).collect();
+    let length = image.len() as u32;
+    let word = random.pick(&[0, 0x80, 0x82, 0x84, 0x91, 0x93, 0x94, 0x138, length, length + 1, u32::MAX]);
+    if let Some(place) = image.get_mut(0x130..0x134) {
+        place.copy_from_slice(&word.to_le_bytes());
+    }
+    let size = word as usize;
+    let fits = image.len() >= 0x138 && size <= image.len();
+    let near = if fits { size } else { any };
+    let buffer = vec![FILL; random.pick(&[0, near.saturating_sub(1), near, near + 1, near + 0x100])];
+    let mut expected = (6, 0, buffer.clone());
+    if fits {
+        expected.0 = 7;
+    }
+    if fits && buffer.len() >= size {
+        let described = |(at, &byte): (usize, &u8)| if matches!(at, 0x80..0x84 | 0x90..0x94) { 0 } else { byte };
+        let back: Vec<u8> = image[..size].iter().enumerate().map(described).collect();
+        expected.2[..size].copy_from_slice(&back);
+        (expected.0, expected.1) = (0, word);
+    }
+    let mut after = buffer;
+    let (answer, value) = raw::read_image(&image, &mut after);
+    if (answer, value, after) != expected {
+        return Err(format!("image {number} of seed {seed}: read otherwise, {answer} {value:#x}"));
     }
     Ok(())
 }
