@@ -15,10 +15,13 @@ pub struct Written {
 
 impl Written {
     pub fn all() -> Vec<Written> {
-        let row = |name, code, count| Written { name, description: module(code, count).to_bytes() };
+        let row = |name, module: Description| Written { name, description: module.to_bytes() };
+        let mut descending = module(0x30_0000, 10_000);
+        descending.relocations.reverse();
         vec![
-            row("writing 3 MiB with 10,000 relocations", 0x30_0000, 10_000),
-            row("writing 30 MiB with 100,000 relocations", 0x1E0_0000, 100_000),
+            row("writing 3 MiB with 10,000 relocations", module(0x30_0000, 10_000)),
+            row("writing 30 MiB with 100,000 relocations", module(0x1E0_0000, 100_000)),
+            row("writing 3 MiB, internal ones descending", descending),
         ]
     }
 
