@@ -4,7 +4,7 @@ ghost use Prim.Native.Nat.{_^_, _≤_, _<_};
 ghost use Rattle.writer_spec.specs.Description.{fileOf, tableAt};
 ghost use Rattle.writer_spec.specs.Words.{inTable, inRun, asked, importByte, longBefore, stringByte, inWholeTable, touchedByte, wordOff, wordsOff};
 ghost use Rattle.writer_spec.specs.declared.words.WordPlace.the-variants.{InImage};
-ghost use Rattle.writer.specs.Touched.{wordTouched};
+ghost use Rattle.writer.specs.Touched.{inImportTables, inStrings, readInPart, wordTouched};
 use crate::bytes;
 use crate::runs;
 use crate::words;
@@ -104,34 +104,10 @@ fn string_byte(bytes: &[u8], field: u32, o: usize) -> bool
     !long_before(bytes, o)
 }
 
-// Whether o is a byte of a table that is read whole.
-fn in_whole_table(bytes: &[u8], o: usize) -> bool
-    ensures { λ r. ⌜ r ≡ inWholeTable (fileOf (now (bytes .entry))) o ⌝ }
+// Whether o is a byte of a table of imports or relocations that is read whole.
+fn in_import_tables(bytes: &[u8], o: usize) -> bool
+    ensures { λ r. ⌜ r ≡ inImportTables (fileOf (now (bytes .entry))) o ⌝ }
 {
-    if in_table(
-        bytes,
-        header::SEGMENT_TABLE_OFFSET,
-        format::SEGMENT_ENTRY_SIZE,
-        o,
-    ) {
-        return true;
-    }
-    if in_table(
-        bytes,
-        header::EXPORT_NAMED_SYMBOL_TABLE_OFFSET,
-        format::EXPORT_NAMED_SYMBOL_ENTRY_SIZE,
-        o,
-    ) {
-        return true;
-    }
-    if in_table(
-        bytes,
-        header::EXPORT_INDEXED_SYMBOL_TABLE_OFFSET,
-        format::EXPORT_INDEXED_SYMBOL_ENTRY_SIZE,
-        o,
-    ) {
-        return true;
-    }
     if in_table(
         bytes,
         header::IMPORT_MODULE_TABLE_OFFSET,
@@ -164,16 +140,54 @@ fn in_whole_table(bytes: &[u8], o: usize) -> bool
     )
 }
 
-// Whether the linker reads or writes the byte at o.
-fn touched_byte(bytes: &[u8], o: usize) -> bool
-    ensures { λ r. ⌜ r ≡ touchedByte (fileOf (now (bytes .entry))) o ⌝ }
+// Whether o is a byte of a table that is read whole.
+fn in_whole_table(bytes: &[u8], o: usize) -> bool
+    ensures { λ r. ⌜ r ≡ inWholeTable (fileOf (now (bytes .entry))) o ⌝ }
 {
-    if o < (header::SIZE as usize) {
+    if in_table(
+        bytes,
+        header::SEGMENT_TABLE_OFFSET,
+        format::SEGMENT_ENTRY_SIZE,
+        o,
+    ) {
         return true;
     }
-    if in_whole_table(bytes, o) {
+    if in_table(
+        bytes,
+        header::EXPORT_NAMED_SYMBOL_TABLE_OFFSET,
+        format::EXPORT_NAMED_SYMBOL_ENTRY_SIZE,
+        o,
+    ) {
         return true;
     }
+    if in_table(
+        bytes,
+        header::EXPORT_INDEXED_SYMBOL_TABLE_OFFSET,
+        format::EXPORT_INDEXED_SYMBOL_ENTRY_SIZE,
+        o,
+    ) {
+        return true;
+    }
+    in_import_tables(bytes, o)
+}
+
+// Whether o is a byte of a string that is read.
+fn in_strings(bytes: &[u8], o: usize) -> bool
+    ensures { λ r. ⌜ r ≡ inStrings (fileOf (now (bytes .entry))) o ⌝ }
+{
+    if string_byte(bytes, header::MODULE_NAME_OFFSET, o) {
+        return true;
+    }
+    if string_byte(bytes, header::EXPORT_STRINGS_OFFSET, o) {
+        return true;
+    }
+    string_byte(bytes, header::IMPORT_STRINGS_OFFSET, o)
+}
+
+// Whether o is a byte that is read of what is not read whole: the imports by module, and the strings.
+fn read_in_part(bytes: &[u8], o: usize) -> bool
+    ensures { λ r. ⌜ r ≡ readInPart (fileOf (now (bytes .entry))) o ⌝ }
+{
     if import_byte(
         bytes,
         header::IMPORT_INDEXED_SYMBOL_TABLE_OFFSET,
@@ -190,13 +204,20 @@ fn touched_byte(bytes: &[u8], o: usize) -> bool
     ) {
         return true;
     }
-    if string_byte(bytes, header::MODULE_NAME_OFFSET, o) {
+    in_strings(bytes, o)
+}
+
+// Whether the linker reads or writes the byte at o.
+fn touched_byte(bytes: &[u8], o: usize) -> bool
+    ensures { λ r. ⌜ r ≡ touchedByte (fileOf (now (bytes .entry))) o ⌝ }
+{
+    if o < (header::SIZE as usize) {
         return true;
     }
-    if string_byte(bytes, header::EXPORT_STRINGS_OFFSET, o) {
+    if in_whole_table(bytes, o) {
         return true;
     }
-    string_byte(bytes, header::IMPORT_STRINGS_OFFSET, o)
+    read_in_part(bytes, o)
 }
 
 // Whether it does so with one of the four bytes from c on.
