@@ -4,13 +4,37 @@ ghost use Prim.Native.Nat.{_/_, _≤_};
 ghost use lib.ListN.{length};
 ghost use Rattle.register.specs.Words.{wordsIn};
 ghost use Rattle.linker_spec.specs.Outcome.{buffers, outcome};
-ghost use Rattle.call_cases.specs.Case.{called, touchedBy};
-use fillqhano::initialize;
-use fillqhano::load;
-use fillqhano::unload;
+ghost use Rattle.call_cases.specs.Case.{storedCall, called, touchedBy};
+use fillqhano::call::make_call;
+use linker_spec::call::Call;
+use linker_spec::rebase::LoadArguments;
 use register::words::word;
 
 // The call that the case at place `at` stores, with its arguments.
+fn stored_call(file: &[u8], at: usize) -> Call
+    requires { ⌜ at ≤ length (now file) / 4 ⌝ }
+    ensures { λ r. ⌜ r ≡ storedCall (wordsIn (now (file .entry))) at ⌝ }
+{
+    let base = word(file, at + 7);
+    let size = word(file, at + 8);
+    match word(file, at + 1) {
+        1 => Call::Initialize(base, size),
+        2 => {
+            let given = LoadArguments {
+                base,
+                size,
+                data_segment: word(file, at + 9),
+                data_segment_size: word(file, at + 10),
+                bss_segment: word(file, at + 11),
+                bss_segment_size: word(file, at + 12),
+            };
+            Call::Load(given, word(file, at + 13), word(file, at + 14))
+        }
+        _ => Call::Unload(base),
+    }
+}
+
+// Makes it, on the window at the address that the case stores.
 pub fn call(
     file: &[u8],
     at: usize,
@@ -30,50 +54,15 @@ pub fn call(
         ≡ touchedBy (wordsIn (now (file .entry))) at
         (buffers (now (window .entry)) (now (records .entry)) (now (names .entry)) (now (missing .entry))) ⌝ }
 {
-    let from = word(file, at + 2);
-    let base = word(file, at + 7);
-    let size = word(file, at + 8);
-    match word(file, at + 1) {
-        1 => initialize(
-            from,
-            window,
-            records,
-            names,
-            missing,
-            base,
-            size,
-            value,
-            touched,
-            first,
-        ),
-        2 => load(
-            from,
-            window,
-            records,
-            names,
-            missing,
-            base,
-            size,
-            word(file, at + 9),
-            word(file, at + 10),
-            word(file, at + 11),
-            word(file, at + 12),
-            word(file, at + 13),
-            word(file, at + 14),
-            value,
-            touched,
-            first,
-        ),
-        _ => unload(
-            from,
-            window,
-            records,
-            names,
-            missing,
-            base,
-            value,
-            touched,
-            first,
-        ),
-    }
+    make_call(
+        stored_call(file, at),
+        word(file, at + 2),
+        window,
+        records,
+        names,
+        missing,
+        value,
+        touched,
+        first,
+    )
 }

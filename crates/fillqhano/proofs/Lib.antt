@@ -1,2 +1,3 @@
 -- What the proofs of `fillqhano` share.
 pub mod Laws
+pub mod Turns

@@ -4,9 +4,7 @@ ghost use Rattle.linker_spec.specs.Touches.{touchesOf};
 ghost use Rattle.linker_spec.specs.Outcome.{buffers, outcome};
 ghost use Rattle.session.specs.Continues.{Continues};
 ghost use Rattle.history.specs.Sessions.{callRecord};
-use fillqhano::initialize;
-use fillqhano::load;
-use fillqhano::unload;
+use fillqhano::call;
 use linker_spec::call::Call;
 
 // What a call answered.
@@ -34,50 +32,16 @@ pub(crate) fn make_call(
         ≡ touchesOf call at (buffers (now (window .entry)) (now (records .entry)) (now (names .entry)) (now (missing .entry))) ⌝ }
 {
     let mut value: u32 = 0;
-    let number = match call {
-        Call::Initialize(base, size) => {
-            initialize(
-                at,
-                window,
-                records,
-                names,
-                missing,
-                base,
-                size,
-                &mut value,
-                touched,
-                first,
-            )
-        }
-        Call::Load(l, auto_link, level) => load(
-            at,
-            window,
-            records,
-            names,
-            missing,
-            l.base,
-            l.size,
-            l.data_segment,
-            l.data_segment_size,
-            l.bss_segment,
-            l.bss_segment_size,
-            auto_link,
-            level,
-            &mut value,
-            touched,
-            first,
-        ),
-        Call::Unload(base) => unload(
-            at,
-            window,
-            records,
-            names,
-            missing,
-            base,
-            &mut value,
-            touched,
-            first,
-        ),
-    };
+    let number = call::make_call(
+        call,
+        at,
+        window,
+        records,
+        names,
+        missing,
+        &mut value,
+        touched,
+        first,
+    );
     Answered { number, value }
 }

@@ -1,30 +1,14 @@
--- The exported call that it is, with both its clauses: `is-initialize`, `is-load`, `is-unload`.
+-- What `fillqhano::call::make_call` gives, as a session's next call: `call-continues`.
 use native.Mathlib.Omega.{arith}
 use Rattle.linker_spec.specs.Valid.{AreBytes}
 use Rattle.linker_spec.specs.Outcome.{buffers}
-use Rattle.history.specs.Sessions.{WordArguments}
-use Rattle.session.proofs.call.Laws.{is-initialize, is-load, is-unload}
+use Rattle.session.proofs.call.Laws.{call-continues}
 use borrow.Author.Needs.{needs}
 use Rattle.session.proofs.call.make_call.Statement.{statement}
 use Rattle.session.proofs.call.make_call.Tie as tie
 
-enum-known-call : tie.Need-enum-known-call
-enum-known-call c = search needs
-
-initialize-requires : tie.Need-initialize-requires
-initialize-requires c κs = search needs
-
-enum-known-call-2 : tie.Need-enum-known-call-2
-enum-known-call-2 c = search needs
-
-load-requires : tie.Need-load-requires
-load-requires c κs = search needs
-
-enum-known-call-3 : tie.Need-enum-known-call-3
-enum-known-call-3 c = search needs
-
-unload-requires : tie.Need-unload-requires
-unload-requires c κs = search needs
+make-call-requires : tie.Need-make-call-requires
+make-call-requires c κs = search needs
 
 same-length : tie.Need-same-length
 same-length c = search needs
@@ -41,92 +25,14 @@ same-length-4 c = search needs
 returns : tie.Need-returns
 returns c =
     let p8 = c .before .before .before .before .before .before .before .before in
-    let p16 = p8 .before .before .before .before .before .before .before .before in
-    let p17 = p16 .before in
-    let p21 = p17 .before .before .before .before in
-    let p22 = p21 .before in
-    let p23 = p22 .before in
-    let a = p23 .args in
+    let p18 = p8 .before .before .before .before .before .before .before .before .before .before in
+    let p19 = p18 .before in
+    let a = p19 .before .args in
     let b = buffers (a .window .now) (a .records .now) (a .names .now) (a .missing .now) in
-    let bytes : AreBytes b = (λ i. omega (arith, p22 .slice-known .given i), λ i. omega (arith, p21 .slice-known2 .given i)) in
-    is-initialize (a .at) b bytes _ _ (p17 .call .given .1) (p16 .known-told .given .0 .1) (p16 .known-told .given .1 .0 .1) (p8 .initialize .ensures)
-
-same-length-5 : tie.Need-same-length-5
-same-length-5 c = search needs
-
-same-length-6 : tie.Need-same-length-6
-same-length-6 c = search needs
-
-same-length-7 : tie.Need-same-length-7
-same-length-7 c = search needs
-
-same-length-8 : tie.Need-same-length-8
-same-length-8 c = search needs
-
-returns-2 : tie.Need-returns-2
-unfolding WordArguments
-returns-2 c =
-    let p8 = c .before .before .before .before .before .before .before .before in
-    let p16 = p8 .before .before .before .before .before .before .before .before in
-    let p17 = p16 .before in
-    let p21 = p17 .before .before .before .before in
-    let p22 = p21 .before in
-    let p23 = p22 .before in
-    let a = p23 .args in
-    let b = buffers (a .window .now) (a .records .now) (a .names .now) (a .missing .now) in
-    let bytes : AreBytes b = (λ i. omega (arith, p22 .slice-known .given i), λ i. omega (arith, p21 .slice-known2 .given i)) in
-    let l = p16 .known-told2 .given .0 .1 .1 in
-    let r = p16 .known-told2 .given .1 in
-    is-load (a .at) b bytes _ _ _ (p17 .call2 .given .1)
-    (l .0 .1, l .1 .0 .1, l .1 .1 .0 .1, l .1 .1 .1 .0 .1, l .1 .1 .1 .1 .0 .1, l .1 .1 .1 .1 .1 .0 .1, r .0 .1, r .1 .0 .1) (p8 .load .ensures)
-
-same-length-9 : tie.Need-same-length-9
-same-length-9 c = search needs
-
-same-length-10 : tie.Need-same-length-10
-same-length-10 c = search needs
-
-same-length-11 : tie.Need-same-length-11
-same-length-11 c = search needs
-
-same-length-12 : tie.Need-same-length-12
-same-length-12 c = search needs
-
-returns-3 : tie.Need-returns-3
-returns-3 c =
-    let p8 = c .before .before .before .before .before .before .before .before in
-    let p16 = p8 .before .before .before .before .before .before .before .before in
-    let p17 = p16 .before in
-    let p21 = p17 .before .before .before .before in
-    let p22 = p21 .before in
-    let p23 = p22 .before in
-    let a = p23 .args in
-    let b = buffers (a .window .now) (a .records .now) (a .names .now) (a .missing .now) in
-    let bytes : AreBytes b = (λ i. omega (arith, p22 .slice-known .given i), λ i. omega (arith, p21 .slice-known2 .given i)) in
-    is-unload (a .at) b bytes _ (p17 .call3 .given .1) (p16 .known-told3 .given .0 .1) (p8 .unload .ensures)
+    let bytes : AreBytes b = (λ i. omega (arith, p19 .slice-known .given i), λ i. omega (arith, p18 .slice-known2 .given i)) in
+    call-continues (a .call) (a .at) b bytes (p8 .make-call .ensures)
 
 pub make-call-spec : {M : Type 1} → statement M
 make-call-spec =
     tie.close
-    (tie.spec
-    enum-known-call
-    initialize-requires
-    enum-known-call-2
-    load-requires
-    enum-known-call-3
-    unload-requires
-    same-length
-    same-length-2
-    same-length-3
-    same-length-4
-    returns
-    same-length-5
-    same-length-6
-    same-length-7
-    same-length-8
-    returns-2
-    same-length-9
-    same-length-10
-    same-length-11
-    same-length-12
-    returns-3)
+    (tie.spec make-call-requires same-length same-length-2 same-length-3 same-length-4 returns)

@@ -1,0 +1,1 @@
+-- What the proofs of `desk` share stands in the folders of its modules.

@@ -1,0 +1,2 @@
+-- Command buffers.
+pub mod Laws

@@ -1,0 +1,5 @@
+-- What the proofs of `desk::places` share.
+mod Reading
+mod Changes
+mod Turns
+mod Writing

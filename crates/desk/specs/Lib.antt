@@ -1,0 +1,1 @@
+-- Laws about the definitions of `desk_spec` that the proofs of `desk` cite.

@@ -1,0 +1,12 @@
+-- That the desk serves each caller in its order, and soon.
+pub mod Ops
+pub mod Claims
+pub mod Limits
+pub mod Queues
+pub mod Rotation
+pub mod Refusals
+pub mod Tested
+pub mod Calls
+pub mod ReadBack
+pub mod Stands
+pub mod InBytes

@@ -1,0 +1,2 @@
+-- What the proof of `fillqhano::call` cites.
+pub mod Laws

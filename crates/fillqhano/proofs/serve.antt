@@ -1,0 +1,2 @@
+-- What the proofs of `fillqhano::serve` share.
+pub mod Laws
