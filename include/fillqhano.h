@@ -1,11 +1,12 @@
-/* The linker of CRO modules: three calls over memory that the host lends; and a writer of CRO images, two calls.
+/* The linker of CRO modules: three calls over memory that the host lends; a service desk above it, two calls; and a writer of CRO images, two calls.
  *
  * target/lib/libfillqhano.a, which host/build makes, has the calls with the prefix fillqhano_: fillqhano_initialize and so on.
  * A host that links the library as it was proved, target/staticlib/libfillqhano.a, where they are `initialize`, `load`,
- * `unload`, `write_image` and `read_image`, defines FILLQHANO_PLAIN_NAMES before it includes this; all below then calls those.
+ * `unload`, `write_image`, `read_image`, `send` and `turn`, defines FILLQHANO_PLAIN_NAMES before it includes this; all below then calls those.
+ * `send` is also the name of a function of the C library's sockets: a host that uses sockets takes the library with the prefix.
  *
  * A lent buffer is passed as two arguments, a pointer to its first byte and its length in bytes. The pointers must be
- * valid for their lengths, not null even where a length is 0, and the buffers, `*value`, `*touched` and `*first` included,
+ * valid for their lengths, not null even where a length is 0, and the buffers, `*value`, `*touched` and the other words included,
  * must not overlap. The inline functions at the end take structs in place of the linker's long lists of arguments, and allow a null
  * pointer where a length is 0.
  * A call keeps no pointer, allocates nothing, and has no state but the buffers. Every call ends on any bytes and
@@ -42,6 +43,22 @@
  * and 4 there is no access, with 1 the magic's alone, with 2 those up to the bad segment, with 5 those of the rebase and of
  * the external reset.
  *
+ * The desk: FILLQHANO_DESK bytes, in which the commands of several titles wait for the linker. All bytes 0 is a desk at which nobody waits.
+ *   A caller is any number that the host tells titles apart by. At most FILLQHANO_CALLERS have a place, each with at most FILLQHANO_WAITING
+ *   command buffers that wait. A place is given with the first buffer sent, and kept.
+ *   Words (of 32 bits, lowest byte first): the places taken; the place that the next turn looks at first; 0, 0; then 18 words a place: the
+ *   caller, how many buffers wait, and their addresses, the oldest first, unused words 0. Any bytes are some desk: a count above its limit
+ *   is read as the limit, and written so with the next change. Bytes past FILLQHANO_DESK stay, and fewer are a desk without places.
+ * A command buffer is an address in the window, not lent apart. Its words are read in its turn, not when it is sent; those outside the window
+ * are 0, and a reply's are dropped there. Word 0 has the command's id in its upper half; its lower half is not looked at. Parameters:
+ *   id 1           initialize: 1 source, 2 size, 3 address
+ *   id 4, id 9     load: 1 source, 2 address, 3 size, 4 data, 6 data size, 7 bss, 8 bss size, 9 auto-link in its lowest byte, 10 fix level
+ *   id 5           unload: 1 base
+ *   id 2, 3, 6-8   none; nothing is done
+ * The reply, over the same words: (id << 16) + 0x40 and 0 where it is done, also for an unload that found no module; for a load that is done
+ * (id << 16) + 0x80, 0, and the fixed size; for an initialize or load that is refused (id << 16) + 0x40 and FILLQHANO_NOT_LOADED. The
+ * address has to be 0 or the source: with any other the command is refused (9) without a call. To any other id nothing is written.
+ *
  * A description, of which the writer makes an image: bytes in the form of a CRO's, without padding at the end.
  *   The header, 0x138 bytes. Described are the words at 0x084 (the name's offset) and 0x094 (the Bss size), those from 0x0A0 on: four tags,
  *   the code and data pairs, and 15 pairs of an offset and a count from 0x0C0 on. All other bytes are 0, the magic and the length too.
@@ -69,6 +86,14 @@ extern "C" {
 #define FILLQHANO_MISSING 32896u
 #define FILLQHANO_NAME 512u
 #define FILLQHANO_MODULES 64u
+#define FILLQHANO_DESK 592u
+
+/* The most callers at a desk, and the most command buffers of one that wait. */
+#define FILLQHANO_CALLERS 8u
+#define FILLQHANO_WAITING 16u
+
+/* The result in the reply to an initialize or load that is refused. */
+#define FILLQHANO_NOT_LOADED 0xD9012402u
 
 enum fillqhano_number {
     FILLQHANO_DONE = 0,
@@ -80,7 +105,9 @@ enum fillqhano_number {
                                    written: rebased, its imports reset (initialize and load) */
     FILLQHANO_NOT_WRITABLE = 6, /* no description of an image that has a place and is well laid in every place; an image too short
                                    to be read back (write_image and read_image); nothing has changed */
-    FILLQHANO_NO_ROOM = 7       /* the buffer is too short; nothing has changed (write_image and read_image) */
+    FILLQHANO_NO_ROOM = 7,      /* the buffer is too short; nothing has changed (write_image and read_image) */
+    FILLQHANO_DESK_FULL = 8,    /* a ninth caller, a seventeenth buffer, or no desk; nothing has changed (send) */
+    FILLQHANO_ELSEWHERE = 9     /* a module at another address than its bytes; answered, and nothing else has changed (turn) */
 };
 
 #ifdef FILLQHANO_PLAIN_NAMES
@@ -89,6 +116,8 @@ enum fillqhano_number {
 #define fillqhano_unload unload
 #define fillqhano_write_image write_image
 #define fillqhano_read_image read_image
+#define fillqhano_send send
+#define fillqhano_turn turn
 #endif
 
 /* Takes in the static module (CRS) at `base`, `size` bytes long. *value becomes 0. */
@@ -141,7 +170,26 @@ uint32_t fillqhano_read_image(const uint8_t *image, size_t image_length,
                               uint8_t *description, size_t description_length,
                               uint32_t *value);
 
-/* The linker's calls by structs. A buffer of length 0 may be null here. */
+/* Puts the command buffer at the address `buffer` at the end of its caller's queue. It refuses (8) a caller that has no place where all are taken,
+ * and one with FILLQHANO_WAITING buffers waiting. It looks at no window and at nothing of the buffer, which may wait twice. *value becomes 0. */
+uint32_t fillqhano_send(uint8_t *desk, size_t desk_length, uint32_t caller, uint32_t buffer, uint32_t *value);
+
+/* Serves one command buffer: the oldest of the first caller with one waiting, looked for from behind the place served last, round to the start.
+ * The tests of 3 and 4 come first: with them nothing changes, and the buffer waits on. So a caller with a buffer waiting is served within 8
+ * turns that meet neither. The number is 3, 4, 9, that of the linker call made (0, 1, 2 or 5), else 0.
+ * *value becomes that of the linker call, 0 without one; *served 1 where a buffer was answered, 2 where its id is outside 1 to 9, 0 where nothing
+ * waited and with 3 and 4; *caller and *buffer whose it was and its address, whom to wake, or 0. *touched and *first are those of the linker
+ * call made, 0 without one: the desk's own accesses are no touches. */
+uint32_t fillqhano_turn(uint32_t at,
+                        uint8_t *window, size_t window_length,
+                        uint8_t *records, size_t records_length,
+                        uint8_t *names, size_t names_length,
+                        uint8_t *missing, size_t missing_length,
+                        uint8_t *desk, size_t desk_length,
+                        uint32_t *value, uint32_t *served, uint32_t *caller, uint32_t *buffer,
+                        uint32_t *touched, uint32_t *first);
+
+/* The linker's calls by structs, and the desk's. A buffer of length 0 may be null here. */
 
 struct fillqhano_window {
     uint32_t at;
@@ -169,6 +217,18 @@ struct fillqhano_load_arguments {
 struct fillqhano_answer {
     uint32_t number; /* an enum fillqhano_number */
     uint32_t value;
+    uint32_t touched, first;
+};
+
+/* A desk; all bytes 0 is one at which nobody waits. */
+struct fillqhano_desk {
+    uint8_t bytes[FILLQHANO_DESK];
+};
+
+struct fillqhano_turn_answer {
+    uint32_t number; /* an enum fillqhano_number */
+    uint32_t value;
+    uint32_t served, caller, buffer;
     uint32_t touched, first;
 };
 
@@ -220,6 +280,26 @@ static inline struct fillqhano_answer fillqhano_linker_unload(struct fillqhano_l
     answer.number = fillqhano_unload(window.at, window.bytes, window.length, linker.records, linker.records_length,
                                      linker.names, linker.names_length, linker.missing, linker.missing_length, base,
                                      &answer.value, &answer.touched, &answer.first);
+    return answer;
+}
+
+/* Gives 0 or FILLQHANO_DESK_FULL. */
+static inline uint32_t fillqhano_desk_send(struct fillqhano_desk *desk, uint32_t caller, uint32_t buffer)
+{
+    uint32_t value;
+    return fillqhano_send(desk->bytes, sizeof desk->bytes, caller, buffer, &value);
+}
+
+static inline struct fillqhano_turn_answer fillqhano_desk_turn(struct fillqhano_desk *desk, struct fillqhano_linker linker,
+                                                               struct fillqhano_window window)
+{
+    struct fillqhano_turn_answer answer = {0, 0, 0, 0, 0, 0, 0};
+    uint8_t addresses[4];
+    fillqhano_no_nulls(&linker, &window, addresses);
+    answer.number = fillqhano_turn(window.at, window.bytes, window.length, linker.records, linker.records_length,
+                                   linker.names, linker.names_length, linker.missing, linker.missing_length,
+                                   desk->bytes, sizeof desk->bytes, &answer.value, &answer.served, &answer.caller,
+                                   &answer.buffer, &answer.touched, &answer.first);
     return answer;
 }
 

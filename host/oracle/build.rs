@@ -1,24 +1,34 @@
-//! Finds the Rust linker's sources, in the folder that ZAKURO_SRC names or beside the repository, and has them compiled
+//! Finds the Rust's sources, in the folder that ZAKURO_SRC names or beside the repository, and has them compiled
 //! from where they are. A folder that ZAKURO_SRC names must have them.
 use std::path::{Path, PathBuf};
+
+/// The linker, the command buffers, and what stands above the linker.
+const SOURCES: [&str; 3] = ["cro/mod.rs", "kernel/ipc.rs", "services/ldr_ro.rs"];
 
 fn main() {
     println!("cargo:rerun-if-env-changed=ZAKURO_SRC");
     println!("cargo:rustc-check-cfg=cfg(sources)");
     let beside = Path::new(env!("CARGO_MANIFEST_DIR")).join("../../../shared/docs/src");
     let named = std::env::var_os("ZAKURO_SRC").map(PathBuf::from);
-    let source = named.as_ref().unwrap_or(&beside).join("crates/zakuro-core/src/cro/mod.rs");
-    println!("cargo:rerun-if-changed={}", source.display());
-    match source.canonicalize() {
-        Ok(source) => {
-            let out = PathBuf::from(std::env::var_os("OUT_DIR").unwrap()).join("cro.rs");
-            std::fs::write(out, format!("#[path = {source:?}]\npub mod cro;\n")).unwrap();
-            println!("cargo:rustc-cfg=sources");
-        }
-        Err(error) if named.is_some() => {
-            eprintln!("ZAKURO_SRC names a folder without the Rust's sources: {}: {error}", source.display());
+    let folder = named.as_ref().unwrap_or(&beside).join("crates/zakuro-core/src");
+    let sources = SOURCES.map(|source| folder.join(source));
+    for source in &sources {
+        println!("cargo:rerun-if-changed={}", source.display());
+    }
+    if let Some(absent) = sources.iter().find(|source| !source.exists()) {
+        if named.is_some() {
+            eprintln!("ZAKURO_SRC names a folder without the Rust's sources: {} is not there", absent.display());
             std::process::exit(1);
         }
-        Err(_) => {}
+        return;
     }
+    let [cro, ipc, ldr_ro] = sources.map(|source| source.canonicalize().unwrap());
+    let modules = [
+        format!("#[path = {cro:?}]\npub mod cro;\n"),
+        format!("pub mod kernel {{\n#[path = {ipc:?}]\npub mod ipc;\n}}\n"),
+        format!("pub mod services {{\n#[path = {ldr_ro:?}]\npub mod ldr_ro;\n}}\n"),
+    ];
+    let out = PathBuf::from(std::env::var_os("OUT_DIR").unwrap()).join("rust.rs");
+    std::fs::write(out, modules.concat()).unwrap();
+    println!("cargo:rustc-cfg=sources");
 }

@@ -21,10 +21,15 @@ pub enum Error {
     /// is made again, as with a greater limit or after an unload, the host has to put the image's bytes back as they were, and
     /// those of its data if a relocation lies there: else it may be accepted, with offsets that were moved twice.
     Full,
+    /// A command buffer was sent by a ninth caller, or by one with 16 waiting. The desk has not changed.
+    DeskFull,
+    /// A command asks for a module at another address than that of its bytes. No call was made; it was answered with the error word,
+    /// and its buffer waits no more.
+    Elsewhere,
 }
 
 impl Error {
-    /// The number of this refusal, 1 to 5.
+    /// The number of this refusal.
     pub fn number(self) -> u32 {
         match self {
             Error::NotACro => 1,
@@ -32,6 +37,8 @@ impl Error {
             Error::BadWindow => 3,
             Error::BadRegister => 4,
             Error::Full => 5,
+            Error::DeskFull => 8,
+            Error::Elsewhere => 9,
         }
     }
 
@@ -43,6 +50,8 @@ impl Error {
             3 => Error::BadWindow,
             4 => Error::BadRegister,
             5 => Error::Full,
+            8 => Error::DeskFull,
+            9 => Error::Elsewhere,
             _ => panic!("the linker answered {number}, which this wrapper does not know"),
         }
     }
@@ -56,6 +65,8 @@ impl std::fmt::Display for Error {
             Error::BadWindow => "the window is not whole pages",
             Error::BadRegister => "the buffers are no register",
             Error::Full => "64 modules stand, or there is no room for the module's record or its names",
+            Error::DeskFull => "8 others have the desk's places, or 16 buffers of the caller wait",
+            Error::Elsewhere => "the module is to run at another address",
         })
     }
 }
@@ -68,7 +79,7 @@ mod tests {
 
     #[test]
     fn a_number_is_that_of_its_refusal() {
-        for number in 1..=5 {
+        for number in [1, 2, 3, 4, 5, 8, 9] {
             assert_eq!(Error::of(number).number(), number);
         }
     }

@@ -35,6 +35,8 @@
 //! assert!(linker.is_empty());
 //! ```
 //!
+//! A [`Desk`] stands above the linker: titles send it command buffers as they send them to `ldr:ro`, and it serves one a turn.
+//!
 //! A [`Description`] makes a module's image from its parts, and gives them back: for tests, tools and patches.
 //!
 //! Guest memory that is kept in pages becomes a window by being in a row: the host keeps the pages of the area that modules
@@ -44,6 +46,7 @@
 #![deny(missing_docs)]
 
 mod description;
+mod desk;
 mod error;
 pub mod raw;
 mod register;
@@ -53,6 +56,7 @@ mod window;
 use raw::{Answer, Buffers};
 
 pub use description::{Description, Export, Import, ImportedModule, InternalRelocation, NotWellLaid, Relocation, Segment, Tag};
+pub use desk::{Desk, Place, Served};
 pub use error::Error;
 pub use register::{Module, Modules, MISSING_LENGTH};
 pub use state::StateError;
@@ -179,11 +183,13 @@ impl Linker {
         grow(&mut self.names, self.limit.min(names + more_names));
     }
 
-    /// Makes a call that takes in the module at this base. It is lent all bytes that there are, and not only as many as
+    /// Makes a call, with room for the module that it takes in, if it does. It is lent all bytes that there are, and not only as many as
     /// the image asks for, since an image may make its counts and names greater while it is rebased.
-    fn take_in(&mut self, window: &mut Window, base: u32, call: impl FnOnce(Buffers) -> Answer) -> Result<u32, Error> {
+    fn call(&mut self, window: &mut Window, taken_in: Option<u32>, call: impl FnOnce(Buffers) -> Answer) -> Result<u32, Error> {
         let (records, names) = (self.records.len(), self.names.len());
-        self.make_room(window, base);
+        if let Some(base) = taken_in {
+            self.make_room(window, base);
+        }
         let answer = call(self.lend(window));
         if answer.number != 0 {
             self.cut(records, names);
@@ -194,7 +200,7 @@ impl Linker {
     /// Takes in the static module, whose exports every other module links against. Refused by [`Error::BadWindow`],
     /// [`Error::NotACro`] or [`Error::Full`].
     pub fn initialize(&mut self, window: &mut Window, base: u32, size: u32) -> Result<(), Error> {
-        self.take_in(window, base, |buffers| raw::initialize(buffers, base, size)).map(|_| ())
+        self.call(window, Some(base), |buffers| raw::initialize(buffers, base, size)).map(|_| ())
     }
 
     /// Rebases, relocates and links a module. Gives how much of it is left after fixing, 0 where the level fixes nothing. Refused by
@@ -202,15 +208,14 @@ impl Linker {
     pub fn load(&mut self, window: &mut Window, arguments: LoadArguments) -> Result<u32, Error> {
         let LoadArguments { base, size, data_segment, bss_segment, auto_link, fix_level } = arguments;
         let (data, bss) = (data_segment, bss_segment);
-        self.take_in(window, base, |buffers| {
+        self.call(window, Some(base), |buffers| {
             raw::load(buffers, base, size, data.at, data.size, bss.at, bss.size, auto_link as u32, fix_level)
         })
     }
 
     /// Takes out the first module at this base. Gives whether there was one. Refused by [`Error::BadWindow`] alone.
     pub fn unload(&mut self, window: &mut Window, base: u32) -> Result<bool, Error> {
-        let answer = raw::unload(self.lend(window), base);
-        self.value_of(answer).map(|value| value != 0)
+        self.call(window, None, |buffers| raw::unload(buffers, base)).map(|value| value != 0)
     }
 
     /// Where the last call's first access with a byte outside the window started, in the order of accesses of the emulator that the

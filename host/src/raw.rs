@@ -125,6 +125,104 @@ unsafe extern "C" {
     ) -> u32;
 }
 
+/// What a turn of the desk answers.
+#[derive(Debug, Clone, Copy, PartialEq, Eq, Default)]
+pub struct Turned {
+    /// 3 or 4 if nothing was looked at; 9 for a module at another address; else that of the linker call made, 0 without one.
+    pub number: u32,
+    /// The linker call's value; 0 without one.
+    pub value: u32,
+    /// 0 if no buffer was served, 1 if one was answered, 2 if its id is outside 1 to 9: nothing is written then.
+    pub served: u32,
+    /// Whose buffer was served; 0 if none was.
+    pub caller: u32,
+    /// Its address; 0 if none was.
+    pub buffer: u32,
+    /// The linker call's touch: 1 if it had one, else 0. The desk's own accesses are none.
+    pub touched: u32,
+    /// Where that started; 0 if there was none.
+    pub first: u32,
+}
+
+impl Turned {
+    /// The answer of the linker call made; without one, as if of one that did nothing.
+    pub fn answer(self) -> Answer {
+        Answer { number: self.number, value: self.value, touched: self.touched, first: self.first }
+    }
+}
+
+unsafe extern "C" {
+    fn fillqhano_send(desk: *mut u8, desk_length: usize, caller: u32, buffer: u32, value: *mut u32) -> u32;
+
+    fn fillqhano_turn(
+        at: u32,
+        window: *mut u8,
+        window_length: usize,
+        records: *mut u8,
+        records_length: usize,
+        names: *mut u8,
+        names_length: usize,
+        missing: *mut u8,
+        missing_length: usize,
+        desk: *mut u8,
+        desk_length: usize,
+        value: *mut u32,
+        served: *mut u32,
+        caller: *mut u32,
+        buffer: *mut u32,
+        touched: *mut u32,
+        first: *mut u32,
+    ) -> u32;
+}
+
+/// Puts the address of a command buffer at the end of its caller's queue. Gives the number and the value: 0 and 0, or 8 and 0 for a ninth
+/// caller, a seventeenth buffer, or fewer bytes than a desk has; no byte changes then.
+pub fn send(desk: &mut [u8], caller: u32, buffer: u32) -> (u32, u32) {
+    let mut value = u32::MAX;
+    // SAFETY: the pointer and the length are those of a slice, and the last pointer is that of a local word.
+    let number = unsafe { fillqhano_send(desk.as_mut_ptr(), desk.len(), caller, buffer, &mut value) };
+    (number, value)
+}
+
+/// Serves the oldest command buffer of the caller whose turn it is.
+pub fn turn(buffers: Buffers, desk: &mut [u8]) -> Turned {
+    let Buffers { at, window, records, names, missing } = buffers;
+    let not_written = u32::MAX;
+    let mut turned = Turned {
+        number: 0,
+        value: not_written,
+        served: not_written,
+        caller: not_written,
+        buffer: not_written,
+        touched: not_written,
+        first: not_written,
+    };
+    // SAFETY: the pointers and lengths are those of five slices, which do not overlap as they are all mutable, and of six words
+    // of a local. The library keeps no pointer.
+    turned.number = unsafe {
+        fillqhano_turn(
+            at,
+            window.as_mut_ptr(),
+            window.len(),
+            records.as_mut_ptr(),
+            records.len(),
+            names.as_mut_ptr(),
+            names.len(),
+            missing.as_mut_ptr(),
+            missing.len(),
+            desk.as_mut_ptr(),
+            desk.len(),
+            &mut turned.value,
+            &mut turned.served,
+            &mut turned.caller,
+            &mut turned.buffer,
+            &mut turned.touched,
+            &mut turned.first,
+        )
+    };
+    turned
+}
+
 /// Writes the image of a description to the buffer's front. Gives the number and the value: 0 and the image's size; 6 and 0 for a description that
 /// makes no image that is well laid in every place; 7 and 0 for a buffer that is too short. All other bytes of the buffer stay.
 pub fn write_image(description: &[u8], image: &mut [u8]) -> (u32, u32) {

@@ -1,10 +1,11 @@
-//! Saved states: a linker's register as bytes, and a linker from them.
+//! Saved states: a linker's register as bytes, and a linker from them; and the same of a desk.
 
 use crate::register::{self, HEADER, MISSING_LENGTH};
-use crate::{raw, Error, Linker, Window};
+use crate::{raw, Desk, Error, Linker, Window};
 
-/// What a saved state begins with: four bytes, the number of its form, and a checksum of the register behind them.
-const MAGIC: [u8; 4] = *b"FQHS";
+/// What a saved state begins with: four bytes, the number of its form, and a checksum of the bytes behind them.
+const LINKER: [u8; 4] = *b"FQHS";
+const DESK: [u8; 4] = *b"FQHD";
 const FORM: u32 = 1;
 const START: usize = 16;
 
@@ -50,33 +51,43 @@ fn checksum(bytes: &[u8]) -> u64 {
     bytes.iter().fold(0xCBF2_9CE4_8422_2325, |sum: u64, &byte| (sum ^ byte as u64).wrapping_mul(0x0000_0100_0000_01B3))
 }
 
+/// These bytes, to be saved.
+fn sealed(magic: [u8; 4], bytes: &[u8]) -> Vec<u8> {
+    [&magic[..], &FORM.to_le_bytes(), &checksum(bytes).to_le_bytes(), bytes].concat()
+}
+
+/// The bytes that were saved, as many as they ask for themselves.
+fn opened(magic: [u8; 4], saved: &[u8], asked: fn(&[u8]) -> usize) -> Result<&[u8], StateError> {
+    if saved.len() < START || saved[..4] != magic {
+        return Err(StateError::NotAState);
+    }
+    let (start, bytes) = saved.split_at(START);
+    let form = u32::from_le_bytes([start[4], start[5], start[6], start[7]]);
+    if form != FORM {
+        return Err(StateError::UnknownForm(form));
+    }
+    let expected = asked(bytes);
+    if bytes.len() != expected {
+        return Err(StateError::WrongLength { found: saved.len(), expected: START + expected });
+    }
+    if start[8..] != checksum(bytes).to_le_bytes() {
+        return Err(StateError::Damaged);
+    }
+    Ok(bytes)
+}
+
 impl Linker {
     /// The whole state as bytes, only those in use: what [`Linker::from_bytes`] takes. The limit and the last touch are not
     /// part of it, and neither is the window, which the host saves with the guest's memory.
     pub fn to_bytes(&self) -> Vec<u8> {
         let (_, records, names, missing) = self.standing();
-        let register = [&self.records[..HEADER], records, names, missing].concat();
-        [&MAGIC[..], &FORM.to_le_bytes(), &checksum(&register).to_le_bytes(), &register].concat()
+        sealed(LINKER, &[&self.records[..HEADER], records, names, missing].concat())
     }
 
     /// A linker from the bytes of a saved state, with the limit of [`Linker::new`]. That the window is the one that it was saved
     /// with is for the host to see to.
     pub fn from_bytes(bytes: &[u8]) -> Result<Linker, StateError> {
-        if bytes.len() < START || bytes[..4] != MAGIC {
-            return Err(StateError::NotAState);
-        }
-        let (start, register) = bytes.split_at(START);
-        let form = u32::from_le_bytes([start[4], start[5], start[6], start[7]]);
-        if form != FORM {
-            return Err(StateError::UnknownForm(form));
-        }
-        let expected = register::saved_length(register);
-        if register.len() != expected {
-            return Err(StateError::WrongLength { found: bytes.len(), expected: START + expected });
-        }
-        if start[8..] != checksum(register).to_le_bytes() {
-            return Err(StateError::Damaged);
-        }
+        let register = opened(LINKER, bytes, register::saved_length)?;
         let (records, names) = register::used(register);
         let (records, rest) = register.split_at(records);
         let (names, missing) = rest.split_at(names);
@@ -99,5 +110,18 @@ impl Linker {
     /// The three buffers: records, names, missing names. Those of [`Linker::from_buffers`], as the calls left them.
     pub fn buffers(&self) -> (&[u8], &[u8], &[u8]) {
         (&self.records, &self.names, &self.missing)
+    }
+}
+
+impl Desk {
+    /// What waits as bytes: what [`Desk::from_bytes`] takes. The command buffers themselves are the guest's memory.
+    pub fn to_bytes(&self) -> Vec<u8> {
+        sealed(DESK, self.buffer())
+    }
+
+    /// A desk from the bytes of a saved state.
+    pub fn from_bytes(bytes: &[u8]) -> Result<Desk, StateError> {
+        let desk = opened(DESK, bytes, |_| Desk::LENGTH)?;
+        Ok(Desk::from_buffer(desk.try_into().expect("they are as many")))
     }
 }

@@ -31,7 +31,7 @@ impl Window<'_> {
     }
 
     /// The word at an address; bytes outside are 0.
-    fn word(&self, address: u32) -> u32 {
+    pub(crate) fn word(&self, address: u32) -> u32 {
         let byte = |index| self.bytes_from(address.wrapping_add(index)).first().copied().unwrap_or(0);
         u32::from_le_bytes([byte(0), byte(1), byte(2), byte(3)])
     }

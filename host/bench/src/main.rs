@@ -1,12 +1,15 @@
 //! `bench [PART]`: times the linker and the Rust on the same work, both in one process and in turn, the best of several
-//! runs; of the rows with this part in their name. The writer, which the Rust has not, is timed against four copies of its description.
+//! runs; of the rows with this part in their name. The writer, which the Rust has not, is timed against four copies of its description, and the desk
+//! against the same calls made directly.
 //! `bench --hostile`: calls with counts of 2^24 and 2^32 - 1, each in a process of its own with a limit of time and memory.
 
 mod clock;
+mod desk;
 mod hostile;
 mod work;
 mod writer;
 
+use desk::Asked;
 use std::process::ExitCode;
 use std::time::Duration;
 use work::{Work, RUNS};
@@ -40,6 +43,16 @@ fn rows(part: &str) {
         let (writer, copies) = row.times();
         let ratio = writer.as_secs_f64() / copies.as_secs_f64();
         println!("{:<44} {:>10} {:>10} {ratio:>7.2}", row.name, shown(Some(writer)), shown(Some(copies)));
+    }
+    println!("{:<44} {:>10} {:>10} {:>7}", "", "desk", "direct", "ratio");
+    for row in Asked::all().iter().filter(|row| row.name.contains(part)) {
+        let (desk, direct) = row.times();
+        let ratio = desk.as_secs_f64() / direct.as_secs_f64();
+        println!("{:<44} {:>10} {:>10} {ratio:>7.2}", row.name, shown(Some(desk)), shown(Some(direct)));
+    }
+    let sends = "128 sends, which fill the desk";
+    if sends.contains(part) {
+        println!("{sends:<44} {:>10}", shown(Some(desk::sends())));
     }
 }
 

@@ -17,7 +17,7 @@ pub struct Work {
     pub name: &'static str,
     window: Vec<u8>,
     first: Vec<Step>,
-    timed: Vec<Step>,
+    pub timed: Vec<Step>,
 }
 
 impl Work {
@@ -34,6 +34,11 @@ impl Work {
         ]
     }
 
+    /// Those that are done through the desk too.
+    pub fn desk() -> [Work; 2] {
+        [large_module(), many_small()]
+    }
+
     /// The best time of each side, which take turns.
     pub fn times(&self) -> (Duration, Option<Duration>) {
         let linker = self.linker();
@@ -46,7 +51,7 @@ impl Work {
     }
 
     /// The linker and the window after the calls that come first.
-    fn linker(&self) -> (Linker, Vec<u8>) {
+    pub fn linker(&self) -> (Linker, Vec<u8>) {
         let mut linker = Linker::new();
         let mut bytes = self.window.clone();
         let mut window = Window { at: AT, bytes: &mut bytes };
@@ -56,7 +61,7 @@ impl Work {
         (linker, bytes)
     }
 
-    fn time_linker(&self, ready: &(Linker, Vec<u8>)) -> Duration {
+    pub fn time_linker(&self, ready: &(Linker, Vec<u8>)) -> Duration {
         let (mut linker, mut bytes) = ready.clone();
         let mut window = Window { at: AT, bytes: &mut bytes };
         let start = now();

@@ -246,13 +246,20 @@ fn room(state: &State) -> (usize, usize) {
 }
 
 /// Whether so many bytes of records and of names have room for what stands, by document 01.
-fn has_room(state: &State, lent: (usize, usize)) -> bool {
+pub(crate) fn has_room(state: &State, lent: (usize, usize)) -> bool {
     let (records, names) = room(state);
     state.modules.len() <= 64 && records <= lent.0 && names <= lent.1
 }
 
 /// What differs between the Rust's answer, window and state and the linker's, if anything does.
-fn differs(expected: Answer, given: Answer, window: &[u8], state: &State, old: &Buffers, new: &Buffers) -> Option<String> {
+pub(crate) fn differs(
+    expected: Answer,
+    given: Answer,
+    window: &[u8],
+    state: &State,
+    old: &Buffers,
+    new: &Buffers,
+) -> Option<String> {
     if expected != given {
         return Some(format!("the call gives {given:x?}, and {expected:x?} in the Rust"));
     }

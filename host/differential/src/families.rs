@@ -91,7 +91,7 @@ fn damaged(random: &mut Random) -> Session {
 }
 
 /// A value that is likely to mean something: small, an offset, an address, an edge.
-fn telling(random: &mut Random, session: &Session, base: u32) -> u32 {
+pub(crate) fn telling(random: &mut Random, session: &Session, base: u32) -> u32 {
     let length = session.window.len() as u32;
     match random.below(10) {
         0 => 0,

@@ -3,7 +3,7 @@
 
 use crate::encoding::encode;
 use crate::under_test::{state, Buffers};
-use fillqhano::raw::Answer;
+use fillqhano::raw::{Answer, Turned};
 use oracle::memory::{Kind, Outside, Watch};
 use sessions::{Random, Step};
 
@@ -32,6 +32,19 @@ pub fn refused(buffers: &Buffers, step: &Step, random: &mut Random) -> Result<u3
     let before = broken.clone();
     let given = broken.call(step);
     if given == Answer::new(number, 0, None) && broken == before {
+        return Ok(number);
+    }
+    let changed = broken != before;
+    Err(format!("with a bad window or register: {given:x?}, changed: {changed}, and it should be {number}"))
+}
+
+/// The same of a turn of the desk, which may not change either.
+pub fn turn_refused(buffers: &Buffers, desk: &[u8], random: &mut Random) -> Result<u32, String> {
+    let mut broken = (Buffers { limit: None, ..buffers.clone() }, desk.to_vec());
+    let number = break_one(&mut broken.0, random);
+    let before = broken.clone();
+    let given = broken.0.turn(&mut broken.1);
+    if given == (Turned { number, ..Turned::default() }) && broken == before {
         return Ok(number);
     }
     let changed = broken != before;

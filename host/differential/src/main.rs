@@ -1,8 +1,9 @@
-//! `differential [--seed N] [--sessions M] [--descriptions D]`: M sessions of each family, compared with the Rust, and D descriptions, the
-//! writer's answers compared with its text. With the gate's seed and number the stored answers are compared too, and `--store` writes
-//! them. `--file PATH` compares one session file and prints what the session program should.
+//! `differential [--seed N] [--sessions M] [--requests R] [--descriptions D]`: M sessions of each family, compared with the Rust, R sessions of
+//! requests through the desk, compared with the Rust's `handle`, and D descriptions, the writer's answers compared with its text. With the
+//! gate's seed and numbers the stored answers are compared too, and `--store` writes them. `--file PATH` compares one session file and prints what the session program should.
 
 use differential::compare::{compare, Compared, Mismatch, Tally};
+use differential::desk::{self, Requests};
 use differential::families::Family;
 use differential::history::{run_pair, Seen};
 use differential::stored::{self, Answers};
@@ -11,28 +12,33 @@ use differential::{shrink, text};
 use sessions::Session;
 use std::process::ExitCode;
 
-/// The gate's seed, how many sessions of each family, and how many descriptions.
+/// The gate's seed, how many sessions of each family, how many of requests, and how many descriptions.
 const SEED: u64 = 1;
 const SESSIONS: u64 = 150;
+const REQUESTS: u64 = 300;
 const DESCRIPTIONS: u64 = 20_000;
 const STORED: &str = concat!(env!("CARGO_MANIFEST_DIR"), "/stored.txt");
+const STORED_DESK: &str = concat!(env!("CARGO_MANIFEST_DIR"), "/stored_desk.txt");
 
 struct Asked {
     seed: u64,
     sessions: u64,
+    requests: u64,
     descriptions: u64,
     store: bool,
     file: Option<String>,
 }
 
 fn asked() -> Result<Asked, String> {
-    let mut asked = Asked { seed: SEED, sessions: SESSIONS, descriptions: DESCRIPTIONS, store: false, file: None };
+    let mut asked =
+        Asked { seed: SEED, sessions: SESSIONS, requests: REQUESTS, descriptions: DESCRIPTIONS, store: false, file: None };
     let mut words = std::env::args().skip(1);
     while let Some(word) = words.next() {
         let mut value = || words.next().ok_or(format!("{word} needs a value"));
         match word.as_str() {
             "--seed" => asked.seed = value()?.parse().map_err(|_| "--seed needs a number")?,
             "--sessions" => asked.sessions = value()?.parse().map_err(|_| "--sessions needs a number")?,
+            "--requests" => asked.requests = value()?.parse().map_err(|_| "--requests needs a number")?,
             "--descriptions" => asked.descriptions = value()?.parse().map_err(|_| "--descriptions needs a number")?,
             "--file" => asked.file = Some(value()?),
             "--store" => asked.store = true,
@@ -61,23 +67,25 @@ fn run(asked: Asked) -> Result<(), String> {
     }
     compare_pairs(&asked)?;
     compare_descriptions(&asked)?;
-    let gate = asked.seed == SEED && asked.sessions == SESSIONS;
+    let gate = asked.seed == SEED && asked.sessions == SESSIONS && asked.requests == REQUESTS;
     if !oracle::AT_HAND {
-        let calls = replay()?;
+        let calls = replay()? + replay_desk()?;
         println!("the Rust itself was NOT compared, its sources are not at hand: {calls} of its stored answers, 0 mismatches");
         return Ok(());
     }
+    let (turns, requests) = compare_requests(&asked)?;
     let (answers, calls) = compare_all(&asked)?;
-    if asked.store {
-        return std::fs::write(STORED, answers.text()).map_err(|error| format!("{STORED}: {error}"));
-    }
-    if gate && answers.text() != std::fs::read_to_string(STORED).unwrap_or_default() {
-        return Err("the stored answers are not those of the Rust: `differential --store` writes them".into());
+    for (path, text) in [(STORED, answers.text()), (STORED_DESK, turns.text())] {
+        if asked.store {
+            std::fs::write(path, text).map_err(|error| format!("{path}: {error}"))?;
+        } else if gate && text != std::fs::read_to_string(path).unwrap_or_default() {
+            return Err("the stored answers are not those of the Rust: `differential --store` writes them".into());
+        }
     }
     if gate {
-        println!("{} stored answers replayed, 0 mismatches", replay()?);
+        println!("{} stored answers replayed, 0 mismatches", replay()? + replay_desk()?);
     }
-    println!("the Rust itself was compared: {calls} calls, 0 mismatches");
+    println!("the Rust itself was compared: {calls} calls and {requests} requests, 0 mismatches");
     Ok(())
 }
 
@@ -120,6 +128,43 @@ fn compare_descriptions(asked: &Asked) -> Result<(), String> {
 fn replay() -> Result<u64, String> {
     let answers = std::fs::read_to_string(STORED).map_err(|error| format!("{STORED}: {error}"))?;
     stored::replay(&answers, SEED)
+}
+
+fn replay_desk() -> Result<u64, String> {
+    let turns = std::fs::read_to_string(STORED_DESK).map_err(|error| format!("{STORED_DESK}: {error}"))?;
+    desk::replay(&turns, SEED)
+}
+
+/// The desk against the Rust's `handle`; gives the Rust's answers, and how many requests were compared.
+fn compare_requests(asked: &Asked) -> Result<(desk::Answers, u64), String> {
+    let mut answers = desk::Answers::default();
+    let mut all = desk::Tally::default();
+    for number in 0..asked.requests {
+        let requests = Requests::new(asked.seed, number);
+        let compared = desk::compare(&requests).unwrap();
+        if let Some(what) = compared.mismatch {
+            let made = compared.answers.len();
+            return Err(format!("desk session {number} of seed {}, turn {}: {what}\n{requests:x?}", asked.seed, made + 1));
+        }
+        answers.add(number, &compared.answers);
+        all += compared.tally;
+    }
+    show_desk(&all);
+    Ok((answers, all.compared()))
+}
+
+fn show_desk(tally: &desk::Tally) {
+    println!("desk: {} sessions, {} requests, {} with a touch", tally.sessions, tally.compared(), tally.touched);
+    let [done, no_cro, bad_segment, _, _, full, .., elsewhere] = tally.numbers;
+    println!("  number 0: {done}, 1: {no_cro}, 2: {bad_segment}, 5: {full}; 9, by the definition alone: {elsewhere}");
+    let [others, ids @ ..] = tally.ids;
+    println!("  ids 1 to 9: {ids:?}, others: {others}");
+    println!("  buffers outside the window {}, across an edge {}", tally.outside, tally.across);
+    println!("  bad windows and registers besides: {}", tally.refused);
+    println!(
+        "  set apart: odd names {}, high batches {} equal and {} not; not compared: too long {}",
+        tally.odd_names, tally.high_batches, tally.high_differences, tally.cut
+    );
 }
 
 /// Compares the sessions of every family; gives the Rust's answers, and how many calls were compared.

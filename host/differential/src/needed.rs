@@ -37,9 +37,10 @@ impl Needed {
     }
 }
 
-struct Memory<'a> {
-    at: u32,
-    window: &'a [u8],
+/// A window to read.
+pub struct Memory<'a> {
+    pub at: u32,
+    pub window: &'a [u8],
 }
 
 impl Memory<'_> {
@@ -47,7 +48,7 @@ impl Memory<'_> {
         self.window.get(address.wrapping_sub(self.at) as usize).copied().unwrap_or(0)
     }
 
-    fn word(&self, address: u32) -> u32 {
+    pub fn word(&self, address: u32) -> u32 {
         u32::from_le_bytes(std::array::from_fn(|index| self.byte(address.wrapping_add(index as u32))))
     }
 

@@ -32,7 +32,7 @@ impl Answers {
     }
 }
 
-fn line(answer: Answer, digest: u64) -> String {
+pub(crate) fn line(answer: Answer, digest: u64) -> String {
     let touch = answer.touch().map_or("-".into(), |first| format!("{first:x}"));
     format!("{:x} {:x} {touch} {digest:016x}", answer.number, answer.value)
 }

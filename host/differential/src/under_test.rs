@@ -2,8 +2,8 @@
 //! grows, by the host's wrapper.
 
 use crate::needed::Needed;
-use fillqhano::raw::{self, Answer};
-use fillqhano::{Linker, Window, MISSING_LENGTH};
+use fillqhano::raw::{self, Answer, Turned};
+use fillqhano::{Desk, Linker, Window, MISSING_LENGTH};
 use sessions::{Call, Module, Room, Session, State, Step};
 
 /// The buffers that a session lends.
@@ -41,13 +41,7 @@ impl Buffers {
     }
 
     fn call_library(&mut self, step: &Step) -> Answer {
-        let lent = raw::Buffers {
-            at: self.at,
-            window: &mut self.window,
-            records: &mut self.records,
-            names: &mut self.names,
-            missing: &mut self.missing,
-        };
+        let lent = self.lend();
         let &Step { base, size, data_segment, data_segment_size, bss_segment, bss_segment_size, .. } = step;
         let (data, bss) = ((data_segment, data_segment_size), (bss_segment, bss_segment_size));
         match step.call {
@@ -58,12 +52,44 @@ impl Buffers {
     }
 
     fn call_wrapper(&mut self, step: &Step, limit: usize) -> Answer {
+        self.by_wrapper(limit, |linker, window| step.call(linker, window))
+    }
+
+    fn lend(&mut self) -> raw::Buffers<'_> {
+        let Buffers { at, window, records, names, missing, .. } = self;
+        raw::Buffers { at: *at, window, records, names, missing }
+    }
+
+    fn by_wrapper<T>(&mut self, limit: usize, call: impl FnOnce(&mut Linker, &mut Window) -> T) -> T {
         let mut linker = self.linker().expect("every call leaves a register");
         linker.set_limit(limit);
-        let answer = step.call(&mut linker, &mut Window { at: self.at, bytes: &mut self.window });
+        let answer = call(&mut linker, &mut Window { at: self.at, bytes: &mut self.window });
         let (records, names, missing) = linker.buffers();
         (self.records, self.names, self.missing) = (records.to_vec(), names.to_vec(), missing.to_vec());
         answer
+    }
+
+    /// A turn of the desk.
+    pub fn turn(&mut self, desk: &mut [u8]) -> Turned {
+        match self.limit {
+            None => raw::turn(self.lend(), desk),
+            Some(limit) => self.turn_wrapper(desk, limit),
+        }
+    }
+
+    fn turn_wrapper(&mut self, bytes: &mut [u8], limit: usize) -> Turned {
+        let mut desk = Desk::from_buffer((&*bytes).try_into().expect("a desk has so many bytes"));
+        let turned = self.by_wrapper(limit, |linker, window| {
+            let served = desk.turn(linker, window).expect("the window is one");
+            served.map_or(Turned::default(), |served| {
+                let (number, value) = served.result.map_or_else(|error| (error.number(), 0), |value| (0, value));
+                let Answer { touched, first, .. } = Answer::new(number, value, linker.touch());
+                let answered = if served.answered { 1 } else { 2 };
+                Turned { number, value, served: answered, caller: served.caller, buffer: served.buffer, touched, first }
+            })
+        });
+        bytes.copy_from_slice(desk.buffer());
+        turned
     }
 
     /// The bytes of records and of names that a call is lent. Where they grow: to what is used, the most that the module needs,

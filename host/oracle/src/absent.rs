@@ -13,6 +13,14 @@ impl Oracle {
         match *self {}
     }
 
+    pub fn handle(&mut self, _: u32) -> bool {
+        match *self {}
+    }
+
+    pub fn window_mut(&mut self) -> &mut [u8] {
+        match *self {}
+    }
+
     pub fn window(&self) -> &[u8] {
         match *self {}
     }
@@ -25,6 +33,10 @@ impl Oracle {
 #[cfg(feature = "watched")]
 impl Oracle {
     pub fn call_within(&mut self, _: &Step, _: u64) -> Option<(u32, u32)> {
+        match *self {}
+    }
+
+    pub fn handle_within(&mut self, _: u32, _: u64) -> Option<bool> {
         match *self {}
     }
 

@@ -1,6 +1,6 @@
-//! The Rust linker, compiled from its unchanged sources where they stand, over stand-ins for what they use of other crates:
-//! `zakuro_common` (addresses, rounding), `zakuro_cpu` (the bus), `serde` (derives), `log` (macros), and `crate::memory`.
-//! Without the sources there is no oracle, and [`Oracle::new`] says so.
+//! The Rust linker and `ldr_ro::handle` above it, compiled from their unchanged sources where they stand, over stand-ins for what they use
+//! of other crates: `zakuro_common` (addresses, rounding), `zakuro_cpu` (the bus), `serde` (derives), `log` (macros), and of their own:
+//! `crate::memory` and `crate::System`. Without the sources there is no oracle, and [`Oracle::new`] says so.
 
 extern crate self as log;
 extern crate self as serde;
@@ -8,9 +8,15 @@ extern crate self as zakuro_common;
 extern crate self as zakuro_cpu;
 
 pub mod memory;
+mod pages;
 
 #[cfg(sources)]
-include!(concat!(env!("OUT_DIR"), "/cro.rs"));
+include!(concat!(env!("OUT_DIR"), "/rust.rs"));
+
+#[cfg(sources)]
+mod system;
+#[cfg(sources)]
+pub use system::System;
 
 #[cfg(sources)]
 #[path = "present.rs"]
@@ -35,6 +41,12 @@ pub mod bits {
     pub const fn align_up(value: u32, align: u32) -> u32 {
         value.wrapping_add(align - 1) & !(align - 1)
     }
+}
+
+/// Where a thread's command buffer lies in its local storage. With 0 a command buffer's address is its own, as a request gives it.
+pub mod memory_map {
+    pub const TLS_IPC_COMMAND_BUFFER: u32 = 0;
+    pub const TLS_IPC_STATIC_BUFFERS: u32 = 0x100;
 }
 
 // zakuro_cpu

@@ -3,17 +3,13 @@
 
 use crate::Bus;
 
-pub mod physical {
-    #[derive(Debug, Clone, Copy, PartialEq, Eq)]
-    pub struct PhysicalBlock {
-        pub addr: u32,
-        pub size: u32,
-    }
-}
+pub use crate::pages::{physical, MemoryRegion, MemoryState, Permission};
 
+#[derive(Default)]
 pub struct Memory {
     at: u32,
     pub(crate) bytes: Vec<u8>,
+    pub phys: physical::PhysicalMemory,
     #[cfg(feature = "watched")]
     pub(crate) watch: Watch,
 }
@@ -125,6 +121,7 @@ impl Memory {
         Memory {
             at,
             bytes,
+            phys: physical::PhysicalMemory,
             #[cfg(feature = "watched")]
             watch: Watch::default(),
         }

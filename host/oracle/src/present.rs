@@ -1,24 +1,26 @@
 //! The oracle where the sources are at hand.
 
-use crate::cro::{CroError, CroManager};
+use crate::cro::CroError;
+use crate::kernel::ipc::CommandBuffer;
 use crate::memory::Memory;
+use crate::services::ldr_ro;
+use crate::System;
 use sessions::{Call, Module, State, Step};
 use std::collections::BTreeMap;
 
 pub struct Oracle {
-    manager: CroManager,
-    memory: Memory,
+    system: System,
 }
 
 impl Oracle {
     /// An oracle over a window, or none without the sources.
     pub fn new(at: u32, window: Vec<u8>) -> Option<Oracle> {
-        Some(Oracle { manager: CroManager::default(), memory: Memory::new(at, window) })
+        Some(Oracle { system: System { memory: Memory::new(at, window), ..System::default() } })
     }
 
     /// Makes the call; gives the number and the value. An unload's value is told from the number of modules.
     pub fn call(&mut self, step: &Step) -> (u32, u32) {
-        let (manager, memory) = (&mut self.manager, &mut self.memory);
+        let (manager, memory) = (&mut self.system.cro, &mut self.system.memory);
         let modules = manager.len();
         let done = match step.call {
             Call::Initialize => manager.initialize(memory, step.base, step.size).map(|()| 0),
@@ -46,8 +48,21 @@ impl Oracle {
         }
     }
 
+    /// Handles the command buffer at this address, which must not ask for a module at another address than its bytes. Gives whether its id
+    /// is known.
+    pub fn handle(&mut self, buffer: u32) -> bool {
+        let command = CommandBuffer::new(buffer);
+        let header = command.header(&mut self.system.memory);
+        ldr_ro::handle(&mut self.system, &command, header)
+    }
+
     pub fn window(&self) -> &[u8] {
-        &self.memory.bytes
+        &self.system.memory.bytes
+    }
+
+    /// Others write the window.
+    pub fn window_mut(&mut self) -> &mut [u8] {
+        &mut self.system.memory.bytes
     }
 
     /// What stands, the names by `name`. The Rust's named exports have no order, and are sorted.
@@ -65,9 +80,9 @@ impl Oracle {
             indexed_exports: module.indexed_exports.clone(),
         };
         State {
-            crs: self.manager.crs,
-            modules: self.manager.modules.iter().map(module).collect(),
-            missing: self.manager.unresolved.iter().map(|missing| name(missing)).collect(),
+            crs: self.system.cro.crs,
+            modules: self.system.cro.modules.iter().map(module).collect(),
+            missing: self.system.cro.unresolved.iter().map(|missing| name(missing)).collect(),
         }
     }
 }
@@ -88,9 +103,18 @@ mod watched {
     impl Oracle {
         /// Makes the call with at most so many accesses; none if it needs more. The oracle is then of no more use.
         pub fn call_within(&mut self, step: &Step, accesses: u64) -> Option<(u32, u32)> {
-            let watch = &mut self.memory.watch;
+            self.within(accesses, |oracle| oracle.call(step))
+        }
+
+        /// The same of a command buffer.
+        pub fn handle_within(&mut self, buffer: u32, accesses: u64) -> Option<bool> {
+            self.within(accesses, |oracle| oracle.handle(buffer))
+        }
+
+        fn within<T>(&mut self, accesses: u64, call: impl FnOnce(&mut Oracle) -> T) -> Option<T> {
+            let watch = &mut self.system.memory.watch;
             *watch = Watch { raw_names: watch.raw_names, left: accesses, ..Watch::default() };
-            match catch_unwind(AssertUnwindSafe(|| self.call(step))) {
+            match catch_unwind(AssertUnwindSafe(|| call(self))) {
                 Ok(answer) => Some(answer),
                 Err(cause) if cause.is::<Cut>() => None,
                 Err(cause) => resume_unwind(cause),
@@ -99,16 +123,16 @@ mod watched {
 
         /// Names are raw bytes from here on.
         pub fn keep_raw_names(&mut self) {
-            self.memory.watch.raw_names = true;
+            self.system.memory.watch.raw_names = true;
         }
 
         /// What was noted of the last call.
         pub fn watch(&self) -> &Watch {
-            &self.memory.watch
+            &self.system.memory.watch
         }
 
         pub fn state(&self) -> State {
-            match self.memory.watch.raw_names {
+            match self.system.memory.watch.raw_names {
                 true => self.state_by(|name| name.chars().map(|char| char as u8).collect()),
                 false => self.state_by(|name| name.as_bytes().to_vec()),
             }
@@ -117,10 +141,10 @@ mod watched {
         /// Takes back the module that the last call added, as a refusal for want of room leaves it: the window as after
         /// the external reset, all else as it was.
         pub fn refuse_last(&mut self, crs: Option<u32>, missing: usize, window: Vec<u8>) {
-            self.memory.bytes = window;
-            self.manager.modules.pop();
-            self.manager.crs = crs;
-            self.manager.unresolved.truncate(missing);
+            self.system.memory.bytes = window;
+            self.system.cro.modules.pop();
+            self.system.cro.crs = crs;
+            self.system.cro.unresolved.truncate(missing);
         }
     }
 }
