@@ -2,12 +2,12 @@
 use Prim.Native.Nat.{ℕ, suc, _+_, _≤_, _<_}
 use mathlib.Core.Path.{_≡_, refl, sym, ap, _∙_}
 use mathlib.Core.List.{List, [], _∷_}
-use mathlib.Core.Bool.{Bool, true, false}
+use mathlib.Core.Bool.{Bool, true, false, _||_}
 use native.Mathlib.Numerals.{add-one}
 use native.Mathlib.Omega.{arith}
 use lib.ListN.{length, drop, drop-of-length-le}
 use lib.Seq.{drop-cons}
-use lib.Dec.{ltb}
+use lib.Dec.{leb, ltb}
 use borrow.Author.Tests.{ltb-false, le-leb, lt-leb, lt-ltb, le-ltb, eq-eqb, ne-eqb}
 use Rattle.window.specs.Memory.{if_then_else_}
 use Rattle.desk_spec.specs.declared.place.Turn.{Turn}
@@ -89,6 +89,10 @@ turn-inside bytes i e = go (ltb (length bytes) 592) refl e
 
 -- what `send` answers
 
+or-yes : (b : Bool) → (b || true) ≡ true
+or-yes true = refl
+or-yes false = refl
+
 module _ (caller buffer : ℕ) (bytes : List ℕ) where
   pub sent-nowhere : length bytes < 592 → _≡_ {A = ℕ × ℕ × List ℕ} (8, 0, bytes) (sendOutcome caller buffer bytes)
   unfolding sendOutcome
@@ -99,13 +103,13 @@ module _ (caller buffer : ℕ) (bytes : List ℕ) where
     unfolding sendOutcome noRoomFor
     ninth-caller h = rw (le-ltb (length bytes) 592 long, ← en, le-leb 8 n h)
 
-    module _ (few : n < 8) {waiting : ℕ} (ew : waiting ≡ placeWord (placeAt (deskOf bytes .places) n) 1) where
+    module _ {waiting : ℕ} (ew : waiting ≡ placeWord (placeAt (deskOf bytes .places) n) 1) where
       pub seventeenth-buffer : 16 ≤ waiting → _≡_ {A = ℕ × ℕ × List ℕ} (8, 0, bytes) (sendOutcome caller buffer bytes)
       unfolding sendOutcome noRoomFor placeWord
-      seventeenth-buffer h = rw (le-ltb (length bytes) 592 long, ← en, lt-leb 8 n few, ← ew, le-leb 16 waiting h)
+      seventeenth-buffer h = rw (le-ltb (length bytes) 592 long, ← en, ← ew, le-leb 16 waiting h, or-yes (leb 8 n))
 
       pub sent-there
-          : waiting < 16 → {left : List ℕ} → left ≡ withDesk (changed (Sent n caller buffer) (deskOf bytes)) bytes
+          : n < 8 → waiting < 16 → {left : List ℕ} → left ≡ withDesk (changed (Sent n caller buffer) (deskOf bytes)) bytes
           → _≡_ {A = ℕ × ℕ × List ℕ} (0, 0, left) (sendOutcome caller buffer bytes)
       unfolding sendOutcome noRoomFor placeWord
-      sent-there h e = rw (le-ltb (length bytes) 592 long, ← en, lt-leb 8 n few, ← ew, lt-leb 16 waiting h, e)
+      sent-there few h e = rw (le-ltb (length bytes) 592 long, ← en, lt-leb 8 n few, ← ew, lt-leb 16 waiting h, e)

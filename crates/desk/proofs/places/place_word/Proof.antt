@@ -48,7 +48,7 @@ returns-4 : tie.Need-returns-4
 returns-4 c =
     let p2 = c .before .before in
     let p4 = p2 .before .before in
-    unused-word _ _ (omega arith) (p2 .before .word2 .ensures) (p2 .at-most .ensures) _ (p4 .if2 .left) (c .before .if3 .left) (c .if4 .taken)
+    unused-word _ _ (omega arith) (p2 .before .word2 .ensures) (p2 .at-most .ensures) _ (p4 .if2 .left) (c .before .if3 .left) (omega (arith, c .if4 .taken))
 
 add-word-2 : tie.Need-add-word-2
 add-word-2 c = search needs

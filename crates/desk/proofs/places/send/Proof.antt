@@ -24,7 +24,7 @@ returns-2 : tie.Need-returns-2
 returns-2 c =
     let p3 = c .before .before .before in
     let args = p3 .before .before .args in
-    ninth-caller (args .caller) (args .buffer) (args .desk .now) (p3 .if1 .left) (c .before .place-of .ensures) (c .if2 .taken)
+    ninth-caller (args .caller) (args .buffer) (args .desk .now) (p3 .if1 .left) (c .before .place-of .ensures) (omega (arith, c .if2 .taken))
 
 place-word-requires : tie.Need-place-word-requires
 place-word-requires c κs = search needs
@@ -37,8 +37,8 @@ returns-3 c =
     let p3 = c .before .before .before in
     let p6 = p3 .before .before .before in
     let args = p6 .before .before .args in
-    seventeenth-buffer (args .caller) (args .buffer) (args .desk .now) (p6 .if1 .left) (p3 .before .place-of .ensures) (p3 .if2 .left)
-    (c .before .place-word .ensures) (c .if3 .taken)
+    seventeenth-buffer (args .caller) (args .buffer) (args .desk .now) (p6 .if1 .left) (p3 .before .place-of .ensures)
+    (c .before .place-word .ensures) (omega (arith, c .if3 .taken))
 
 make-change-requires : tie.Need-make-change-requires
 make-change-requires c κs =
@@ -56,8 +56,8 @@ returns-4 c =
     let p5 = p2 .before .before .before in
     let p8 = p5 .before .before .before in
     let args = p8 .before .before .before .before .args in
-    sent-there (args .caller) (args .buffer) (args .desk .now) (p8 .before .before .if1 .left) (p8 .place-of .ensures) (p5 .before .before .if2 .left)
-    (p5 .place-word .ensures) (p2 .before .before .if3 .left) (p2 .make-change .ensures)
+    sent-there (args .caller) (args .buffer) (args .desk .now) (p8 .before .before .if1 .left) (p8 .place-of .ensures) (p5 .place-word .ensures)
+    (p5 .before .before .if2 .left) (p2 .before .before .if3 .left) (p2 .make-change .ensures)
 
 pub send-spec : {M : Type 1} → statement M
 send-spec =
