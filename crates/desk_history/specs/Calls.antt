@@ -104,22 +104,22 @@ desk-made (t ∷ ts) = each-append (Gave Follows) (callsOf t) (calls ts) (go (tu
     go (makes f i s c m n words l e) = rw n (refl, tt)
 
 -- what a command's words ask for has 32-bit arguments
-abbrev Asked : Command → Type 0
-Asked (Command.Call c) = WordArguments c
-Asked Elsewhere = Unit {0}
-Asked Acknowledged = Unit {0}
-Asked Unknown = Unit {0}
+abbrev WordCommand : Command → Type 0
+WordCommand (Command.Call c) = WordArguments c
+WordCommand Elsewhere = Unit {0}
+WordCommand Acknowledged = Unit {0}
+WordCommand Unknown = Unit {0}
 
-asked-if : (b : Bool) (c d : Command) → Asked c → Asked d → Asked (if b then c else d)
+asked-if : (b : Bool) (c d : Command) → WordCommand c → WordCommand d → WordCommand (if b then c else d)
 asked-if true c d h g = h
 asked-if false c d h g = g
 
 module _ (word : ℕ → ℕ) (h : (i : ℕ) → word i < 2 ^ 32) where
-  initialize-asked : Asked (initializeAsked word)
+  initialize-asked : WordCommand (initializeAsked word)
   unfolding initializeAsked WordArguments
   initialize-asked = asked-if (inPlace (word 1) (word 3)) (Command.Call (Initialize (word 1) (word 2))) Elsewhere (h 1, h 2) tt
 
-  load-asked : Asked (loadAsked word)
+  load-asked : WordCommand (loadAsked word)
   unfolding loadAsked WordArguments
   load-asked =
       asked-if (inPlace (word 1) (word 2))
@@ -128,7 +128,7 @@ module _ (word : ℕ → ℕ) (h : (i : ℕ) → word i < 2 ^ 32) where
       (h 1, h 3, h 4, h 6, h 7, h 8, omega arith, h 10)
       tt
 
-  command-asked : (id : ℕ) → Asked (commandOf id word)
+  command-asked : (id : ℕ) → WordCommand (commandOf id word)
   unfolding commandOf WordArguments
   command-asked id =
       asked-if (eqb id 1) _ _ initialize-asked
@@ -139,4 +139,4 @@ module _ (word : ℕ → ℕ) (h : (i : ℕ) → word i < 2 ^ 32) where
 pub word-arguments : (t : TurnRecord) → Bytes (t .before .window) → (c : Call) → commandIn t ≡ Command.Call c → WordArguments c
 unfolding commandAt bufferWord
 word-arguments t b c e =
-    subst Asked e (command-asked (bufferWord (t .at) (t .before .window) (bufferOf t)) (λ i. wordAt-small (t .at) (t .before .window) (bufferOf t ⊕ 4 * i) b) (idAt (t .at) (t .before .window) (bufferOf t)))
+    subst WordCommand e (command-asked (bufferWord (t .at) (t .before .window) (bufferOf t)) (λ i. wordAt-small (t .at) (t .before .window) (bufferOf t ⊕ 4 * i) b) (idAt (t .at) (t .before .window) (bufferOf t)))

@@ -25,7 +25,7 @@ use Rattle.desk_order.specs.Claims.{callers, ServedWithin}
 use Rattle.desk_order.specs.Queues.{served-in-order, place-kept}
 use Rattle.desk_order.specs.Rotation.{within-8-each, crowd, crowded, sharp}
 use Rattle.desk_order.specs.Calls.{DeskCall, send, turn, bytesAfter, afterCalls, free, freeTurns, opOf, opsOf, WordCall, WordCalls, took, gaveIn, gave, takenFrom, servedTo, TurnWithin}
-use Rattle.desk_order.specs.Stands.{Stands, send-outcome, free-turn, other-turn, call-does, stands-after, follows, empty-stands}
+use Rattle.desk_order.specs.GoodDesk.{GoodDesk, send-outcome, free-turn, other-turn, call-does, stands-after, follows, empty-stands}
 
 -- T1: what the calls say they took and served
 
@@ -55,7 +55,7 @@ handle-serves : (at p : ℕ) (b : Buffers) → handle at p b .served ≡ 0 → �
 unfolding handle
 handle-serves at p b e = some-served (commandAt at (b .window) p) (idAt at (b .window) p) at p b e
 
-module _ (c : ℕ) (bytes : List ℕ) (s : Stands bytes) where
+module _ (c : ℕ) (bytes : List ℕ) (s : GoodDesk bytes) where
   took-sent : (caller buffer : ℕ) → took c (send caller buffer) bytes ≡ accepted c (sends caller buffer) (deskOf bytes)
   unfolding took accepted
   took-sent caller buffer = rw (send-outcome bytes s caller buffer) (go (noRoomFor caller (deskOf bytes .places)) (eqb caller c))
@@ -101,7 +101,7 @@ module _ (c : ℕ) (bytes : List ℕ) (s : Stands bytes) where
       go false f = ap (gaveIn c) (other-turn bytes s at lent f .1)
 
 taken-is
-    : (c : ℕ) (calls : List DeskCall) (bytes : List ℕ) → Stands bytes → WordCalls calls
+    : (c : ℕ) (calls : List DeskCall) (bytes : List ℕ) → GoodDesk bytes → WordCalls calls
     → takenFrom c calls bytes ≡ allAccepted c (opsOf calls) (deskOf bytes)
 unfolding takenFrom opsOf allAccepted Each
 taken-is c [] bytes s w = refl
@@ -112,7 +112,7 @@ taken-is c (call ∷ calls) bytes s w =
     rw (took-is c bytes s call, l) (sym (accepted-append c (opOf call) (opsOf calls) (deskOf bytes)))
 
 served-is
-    : (c : ℕ) (calls : List DeskCall) (bytes : List ℕ) → Stands bytes → WordCalls calls
+    : (c : ℕ) (calls : List DeskCall) (bytes : List ℕ) → GoodDesk bytes → WordCalls calls
     → servedTo c calls bytes ≡ allServed c (opsOf calls) (deskOf bytes)
 unfolding servedTo opsOf allServed Each
 served-is c [] bytes s w = refl
@@ -137,7 +137,7 @@ served-in-order-bytes c start l e calls w =
 
 -- T2: "A caller keeps its place"
 pub place-kept-bytes
-    : (calls : List DeskCall) (bytes : List ℕ) → Stands bytes → WordCalls calls
+    : (calls : List DeskCall) (bytes : List ℕ) → GoodDesk bytes → WordCalls calls
     → (more : List ℕ) × (callers (deskOf (afterCalls calls bytes)) ≡ callers (deskOf bytes) ++ more)
 place-kept-bytes calls bytes s w =
     let (more, e) = place-kept (opsOf calls) (deskOf bytes) in
@@ -225,7 +225,7 @@ turns-free (turn at lent ∷ calls) = go (free at lent) (turns-free calls)
     go true e = ap suc e
     go false e = e
 
-module _ (bytes : List ℕ) (s : Stands bytes) (calls : List DeskCall) (w : WordCalls calls) (n caller : ℕ) (earlier : List ℕ)
+module _ (bytes : List ℕ) (s : GoodDesk bytes) (calls : List DeskCall) (w : WordCalls calls) (n caller : ℕ) (earlier : List ℕ)
     (buffer : ℕ) (r : ServedWithin n caller buffer (opsOf calls) (deskOf bytes)) (u : allServed caller (r .before) (deskOf bytes) ≡ earlier)
     (t : TurnAmong calls (r .before)) where
   abbrev bytesThen : List ℕ
@@ -278,7 +278,7 @@ module _ (bytes : List ℕ) (s : Stands bytes) (calls : List DeskCall) (w : Word
 -- a desk reached from an empty one
 module _ (start : List ℕ) (l : deskLength ≤ length start) (e : deskOf start ≡ emptyDesk) (earlier calls : List DeskCall)
     (v : WordCalls earlier) (w : WordCalls calls) where
-  reached-stands : Stands (afterCalls earlier start)
+  reached-stands : GoodDesk (afterCalls earlier start)
   reached-stands = stands-after earlier start (empty-stands start l e) v
 
   -- a buffer behind others of its caller is served, after them, within 8 turns for each

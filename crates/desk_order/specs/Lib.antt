@@ -8,5 +8,6 @@ pub mod Refusals
 pub mod Tested
 pub mod Calls
 pub mod ReadBack
-pub mod Stands
+pub mod GoodDesk
 pub mod InBytes
+pub mod Cases

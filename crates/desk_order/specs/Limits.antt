@@ -13,37 +13,37 @@ use Rattle.desk_spec.specs.declared.place.Turn.{Turn}
 use Rattle.desk_spec.specs.declared.place.Turn.the-variants.{Nobody, Of}
 use Rattle.desk_spec.specs.declared.place.Change.the-variants.{Sent, Served}
 use Rattle.desk_spec.specs.Desk.{Place, place, Desk, mostWaiting, placeAt, withPlace, placeOf, noRoomFor, placeAfter, nextAfter, changed, turnOf}
-use Rattle.desk_spec.specs.Places.{Waits, each-with, length-with, length-behind, found-at-once, found-later, room-for, waits-within, turn-serves}
+use Rattle.desk_spec.specs.Places.{HasWaiting, each-with, length-with, length-behind, found-at-once, found-later, room-for, waits-within, turn-serves}
 use Rattle.desk_order.specs.Ops.{Op, sends, turns, sendTo, serveAt, after, afterAll, emptyDesk}
 use Rattle.desk_order.specs.Claims.{Limits}
 
-abbrev Apart : Place → Place → Type 0
-Apart p q = p .caller ≡ q .caller → ⊥
+abbrev OtherCaller : Place → Place → Type 0
+OtherCaller p q = p .caller ≡ q .caller → ⊥
 
 once-sent
-    : (caller : ℕ) (ps : List Place) (waiting : List ℕ) → Pairs Apart ps
-    → Pairs Apart (withPlace ps (placeOf caller ps) (place caller waiting))
+    : (caller : ℕ) (ps : List Place) (waiting : List ℕ) → Pairs OtherCaller ps
+    → Pairs OtherCaller (withPlace ps (placeOf caller ps) (place caller waiting))
 unfolding Pairs Each withPlace placeOf
 once-sent caller [] waiting h = (tt, tt)
 once-sent caller (q ∷ qs) waiting h =
     elim (ℕ-discrete (q .caller) caller) [
       | yes e ↦
           rw (found-at-once caller q qs e)
-          (each-mono (Apart q) (Apart (place caller waiting)) qs (λ p a f. a (e ∙ f)) (h .0), h .1)
+          (each-mono (OtherCaller q) (OtherCaller (place caller waiting)) qs (λ p a f. a (e ∙ f)) (h .0), h .1)
       | no n ↦
           rw (found-later caller q qs n)
-          (each-with (Apart q) qs (placeOf caller qs) (place caller waiting) (h .0) n, once-sent caller qs waiting (h .1))
+          (each-with (OtherCaller q) qs (placeOf caller qs) (place caller waiting) (h .0) n, once-sent caller qs waiting (h .1))
     ]
 
 once-served
-    : (ps : List Place) (i : ℕ) (waiting : List ℕ) → i < length ps → Pairs Apart ps
-    → Pairs Apart (withPlace ps i (place (placeAt ps i .caller) waiting))
+    : (ps : List Place) (i : ℕ) (waiting : List ℕ) → i < length ps → Pairs OtherCaller ps
+    → Pairs OtherCaller (withPlace ps i (place (placeAt ps i .caller) waiting))
 unfolding Pairs withPlace placeAt
 once-served [] i waiting l h = absurd (omega arith)
 once-served (q ∷ qs) zero waiting l h = h
 once-served (q ∷ qs) (suc i) waiting l h =
     let p = place (placeAt qs i .caller) waiting in
-    (each-with (Apart q) qs i p (h .0) (each-at (Apart q) qs (place 0 []) (h .0) i (omega arith)), once-served qs i waiting (omega arith) (h .1))
+    (each-with (OtherCaller q) qs i p (h .0) (each-at (OtherCaller q) qs (place 0 []) (h .0) i (omega arith)), once-served qs i waiting (omega arith) (h .1))
 
 pub limits-sent
     : (caller buffer : ℕ) (d : Desk) → noRoomFor caller (d .places) ≡ false → Limits d
@@ -68,7 +68,7 @@ limits-sent caller buffer d r h =
       next-fits = h .next-fits;
     }
 
-pub limits-served : (i : ℕ) (d : Desk) → Waits (d .places) i → Limits d → Limits (changed (Served i) d)
+pub limits-served : (i : ℕ) (d : Desk) → HasWaiting (d .places) i → Limits d → Limits (changed (Served i) d)
 unfolding changed placeAfter nextAfter placeAt
 limits-served i d w h =
     let ps = d .places in

@@ -15,7 +15,7 @@ use Rattle.desk_spec.specs.declared.place.Turn.{Turn}
 use Rattle.desk_spec.specs.declared.place.Turn.the-variants.{Nobody, Of}
 use Rattle.desk_spec.specs.declared.place.Change.the-variants.{Sent, Served}
 use Rattle.desk_spec.specs.Desk.{Place, place, Desk, placeAt, withPlace, placeOf, noRoomFor, oldest, placeAfter, changed, turnOf}
-use Rattle.desk_spec.specs.Places.{Waits, at-changed, at-other, found-at-once, found-later, found-within, own-caller, own-kept, own-sent, waits-within, turn-serves}
+use Rattle.desk_spec.specs.Places.{HasWaiting, at-changed, at-other, found-at-once, found-later, found-within, own-caller, own-kept, own-sent, waits-within, turn-serves}
 use Rattle.desk_order.specs.Ops.{Op, sends, turns, sendTo, serveAt, after, afterAll, emptyDesk, queueOf, accepted, servedAt, served, allAccepted, allServed}
 use Rattle.desk_order.specs.Claims.{Limits, callers}
 use Rattle.desk_order.specs.Limits.{limits-kept, empty-limits}
@@ -94,7 +94,7 @@ first-and-rest [] h = absurd (omega arith)
 first-and-rest (x ∷ xs) h = refl
 
 pub queue-served
-    : (c i : ℕ) (d : Desk) → Limits d → Waits (d .places) i → queueOf c d ≡ servedAt c (Of i) d ++ queueOf c (changed (Served i) d)
+    : (c i : ℕ) (d : Desk) → Limits d → HasWaiting (d .places) i → queueOf c d ≡ servedAt c (Of i) d ++ queueOf c (changed (Served i) d)
 unfolding queueOf changed placeAfter servedAt oldest
 queue-served c i d h w = go (eqb (q .caller) c) refl
   where

@@ -33,10 +33,10 @@ word-from d (suc n) k (suc j) l = let z : k + suc j ≡ suc k + j = omega arith 
 
 -- they are words
 
-abbrev Fits : Place → Type 0
-Fits p = length (p .waiting) ≤ mostWaiting
+abbrev FewWaiting : Place → Type 0
+FewWaiting p = length (p .waiting) ≤ mostWaiting
 
-place-word : (p : Place) → Fits p → WordPlace p → (f : ℕ) → placeWord p f < 2 ^ 32
+place-word : (p : Place) → FewWaiting p → WordPlace p → (f : ℕ) → placeWord p f < 2 ^ 32
 unfolding placeWord
 place-word p h w zero = w .0
 place-word p h w (suc zero) = omega arith
@@ -49,7 +49,7 @@ desk-word d h w (suc zero) = let f = h .next-fits in omega arith
 desk-word d h w (suc (suc zero)) = omega arith
 desk-word d h w (suc (suc (suc zero))) = omega arith
 desk-word d h w (suc (suc (suc (suc k)))) =
-    place-word (placeAt (d .places) (k / placeWords)) (each-place Fits (d .places) (k / placeWords) (h .waiting-fit) (omega arith))
+    place-word (placeAt (d .places) (k / placeWords)) (each-place FewWaiting (d .places) (k / placeWords) (h .waiting-fit) (omega arith))
     (each-place WordPlace (d .places) (k / placeWords) w (omega arith, λ i. omega arith)) (k % placeWords)
 
 words-below : (d : Desk) (n : ℕ) → Limits d → Words d → Below (2 ^ 32) (wordsFrom d n 0)
@@ -94,7 +94,7 @@ module _ (W : List ℕ) (d : Desk) (h : Limits d) (long : deskWords ≤ length W
   unfolding placeIn placeWord
   place-at i l =
       let p = placeAt (d .places) i in
-      let f : length (p .waiting) ≤ mostWaiting = each-place Fits (d .places) i (h .waiting-fit) (omega arith) in
+      let f : length (p .waiting) ≤ mostWaiting = each-place FewWaiting (d .places) i (h .waiting-fit) (omega arith) in
       let z : placeStart i ≡ placeStart i + 0 = omega arith in
       let c : getD W (placeStart i) 0 ≡ p .caller = ap (λ t. getD W t 0) z ∙ field-at i 0 l (omega arith) in
       let n : atMost mostWaiting (getD W (placeStart i + 1) 0) ≡ length (p .waiting) =

@@ -13,7 +13,7 @@ use Rattle.desk_spec.specs.declared.place.Turn.{Turn}
 use Rattle.desk_spec.specs.declared.place.Turn.the-variants.{Nobody, Of}
 use Rattle.desk_spec.specs.declared.place.Change.the-variants.{Sent, Served}
 use Rattle.desk_spec.specs.Desk.{Place, place, Desk, mostPlaces, placeAt, withPlace, placeOf, noRoomFor, oldest, placeAfter, nextAfter, changed, firstWaiting, turnOf}
-use Rattle.desk_spec.specs.Places.{Waits, Way, ahead, round, own-caller, own-kept, own-stays, waits-within, turn-serves, nobody-waits}
+use Rattle.desk_spec.specs.Places.{HasWaiting, Way, ahead, round, own-caller, own-kept, own-stays, waits-within, turn-serves, nobody-waits}
 use Rattle.desk_order.specs.Ops.{Op, sends, turns, sendTo, serveAt, after, afterAll, emptyDesk, queueOf, servedAt, served, allServed, turnsIn}
 use Rattle.desk_order.specs.Claims.{Limits, ServedWithin}
 use Rattle.desk_order.specs.Limits.{limits-kept}
@@ -28,7 +28,7 @@ wayTo caller d = onTheWay (d .next) (placeOf caller (d .places))
 
 -- a turn that serves another place goes on from a place nearer to i
 nearer
-    : (d : Desk) (i k : ℕ) → Limits d → Waits (d .places) i → Waits (d .places) k → Way d k → (k ≡ i → ⊥)
+    : (d : Desk) (i k : ℕ) → Limits d → HasWaiting (d .places) i → HasWaiting (d .places) k → Way d k → (k ≡ i → ⊥)
     → onTheWay (suc k) i < onTheWay (d .next) i
 nearer d i k h w v way n =
     let a = waits-within (d .places) i w in
@@ -54,14 +54,14 @@ module _ (caller : ℕ) (d : Desk) (h : Limits d) (w : 0 < length (queueOf calle
   abbrev ownPlace : ℕ
   ownPlace = placeOf caller (d .places)
 
-  waits-there : Waits (d .places) ownPlace
+  waits-there : HasWaiting (d .places) ownPlace
   unfolding queueOf
   waits-there = w
 
   abbrev leftAt : ℕ → Place
   leftAt k = place (placeAt (d .places) k .caller) (drop 1 (placeAt (d .places) k .waiting))
 
-  stays-there : (k : ℕ) → Waits (d .places) k → placeOf caller (changed (Served k) d .places) ≡ ownPlace
+  stays-there : (k : ℕ) → HasWaiting (d .places) k → placeOf caller (changed (Served k) d .places) ≡ ownPlace
   unfolding changed placeAfter
   stays-there k v = own-kept caller (d .places) k (leftAt k) (waits-within (d .places) k v) refl
 
@@ -71,7 +71,7 @@ module _ (caller : ℕ) (d : Desk) (h : Limits d) (w : 0 < length (queueOf calle
       let c = own-caller caller (d .places) (waits-within (d .places) ownPlace waits-there) in
       rw (eq-eqb (placeAt (d .places) ownPlace .caller) caller c)
 
-  gives-none : (k : ℕ) → Waits (d .places) k → (k ≡ ownPlace → ⊥) → servedAt caller (Of k) d ≡ []
+  gives-none : (k : ℕ) → HasWaiting (d .places) k → (k ≡ ownPlace → ⊥) → servedAt caller (Of k) d ≡ []
   unfolding servedAt
   gives-none k v n =
       let c : placeAt (d .places) k .caller ≡ caller → ⊥ =
@@ -139,7 +139,7 @@ served-now
 unfolding turnsIn afterAll queueOf oldest allServed
 served-now m caller buffer later ops d e q l =
     let i = placeOf caller (d .places) in
-    let w : Waits (d .places) i = rw q (omega arith) in (
+    let w : HasWaiting (d .places) i = rw q (omega arith) in (
       record {
         before = [];
         rest = ops;

@@ -32,11 +32,11 @@ use Rattle.desk_spec.specs.Outcome.{answered, handleCommand, handle, idle, turn
 use Rattle.desk_order.specs.Refusals.{keeps-3, keeps-4}
 
 -- neither 3 nor 4
-abbrev Own : ℕ → Type 0
-Own n = 3 ≤ n → n ≤ 4 → ⊥
+abbrev OwnNumber : ℕ → Type 0
+OwnNumber n = 3 ≤ n → n ≤ 4 → ⊥
 
 abbrev OwnAnswer : Answer → Type 0
-OwnAnswer a = Own (number a)
+OwnAnswer a = OwnNumber (number a)
 
 enter-own
     : (records names : ℕ) (r : Register) (base size : ℕ) (auto : Bool) (next : Module → Prog Answer) → ((m : Module) → AnyResult OwnAnswer (next m))
@@ -75,28 +75,28 @@ program-own (Load l auto level) records names r = load-own l (not (eqb auto 0)) 
 program-own (Unload base) records names r = leave-own r base (firstWithBase base (r .modules) 0)
 
 module _ (at : ℕ) (b : Buffers) (good : goodWindow at (b .window) ≡ true) (valid : isRegister (b .records) (b .names) (b .missing) ≡ true) where
-  given-own : (c : Call) → Own (given c at b .number)
+  given-own : (c : Call) → OwnNumber (given c at b .number)
   unfolding outcomeOf
   given-own c =
       let p = program c (length (b .records)) (length (b .names)) (lentRegister b) in
       rw (given-program c at b, answers (program c) at b good valid refl)
       (gives-run OwnAnswer at p (b .window) (program-own c (length (b .records)) (length (b .names)) (lentRegister b)))
 
-  command-own : (c : Command) (id p : ℕ) → Own (handleCommand c id at p b .number)
+  command-own : (c : Command) (id p : ℕ) → OwnNumber (handleCommand c id at p b .number)
   unfolding handleCommand answered
   command-own (Command.Call c) id p = given-own c
   command-own Elsewhere id p = omega arith
   command-own Acknowledged id p = omega arith
   command-own Unknown id p = omega arith
 
-  serve-own : (t : Turn) (bytes : List ℕ) → Own (serve t at bytes b .did .number)
+  serve-own : (t : Turn) (bytes : List ℕ) → OwnNumber (serve t at bytes b .did .number)
   unfolding serve handle
   serve-own Nobody bytes = omega arith
   serve-own (Of i) bytes =
       let p = oldest (placeAt (deskOf bytes .places) i) in
       command-own (commandAt at (b .window) p) (idAt at (b .window) p) p
 
-  turn-own : (bytes : List ℕ) → Own (turnOutcome at bytes b .did .number)
+  turn-own : (bytes : List ℕ) → OwnNumber (turnOutcome at bytes b .did .number)
   unfolding turnOutcome
   turn-own bytes = rw (good, valid) (serve-own (turnAt bytes) bytes)
 

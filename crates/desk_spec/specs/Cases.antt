@@ -1,16 +1,12 @@
--- Cases of the request's worked example, and of its ids, by computation.
+-- Commands and replies of the request's worked example, and its ids, by computation.
 use Prim.Native.Nat.{ℕ}
 use mathlib.Core.Path.{_≡_, refl}
 use mathlib.Core.List.{List, [], _∷_}
 use lib.ListN.{getD}
 use Rattle.linker_spec.specs.declared.call.Call.the-variants.{Load, Unload}
 use Rattle.linker_spec.specs.Outcome.{loadArguments}
-use Rattle.desk_spec.specs.declared.place.Turn.the-variants.{Of}
-use Rattle.desk_spec.specs.declared.place.Change.the-variants.{Sent, Served}
 use Rattle.desk_spec.specs.declared.command.Command.{Command}
 use Rattle.desk_spec.specs.declared.command.Command.the-variants.{Elsewhere, Acknowledged, Unknown}
-use Rattle.desk_spec.specs.Desk.{Desk, desk, placeAt, withPlace, placeOf, placeAfter, nextAfter, changed, firstWaiting, turnOf}
-use Rattle.desk_spec.specs.Bytes.{placeWord, deskWord, wordsFrom}
 use Rattle.desk_spec.specs.Command.{inPlace, initializeAsked, loadAsked, commandOf, doneReply, loadedReply, errorReply}
 
 -- the words of a command buffer, 0 past them
@@ -55,24 +51,3 @@ module _ (word : ℕ → ℕ) where
 replies
     : (loadedReply 4 0x1000 ≡ 0x00040080 ∷ 0 ∷ 0x1000 ∷ []) × (doneReply 5 ≡ 0x00050040 ∷ 0 ∷ []) × (errorReply 1 ≡ 0x00010040 ∷ 0xd9012402 ∷ [])
 replies = (refl, refl, refl)
-
--- five sendings of three callers, 7, 9 and 5
-withSent : (caller buffer : ℕ) → Desk → Desk
-withSent caller buffer d = changed (Sent (placeOf caller (d .places)) caller buffer) d
-
-sent : Desk
-sent = withSent 5 0x101400 (withSent 5 0x101300 (withSent 9 0x101200 (withSent 7 0x101100 (withSent 7 0x101000 (desk [] 0)))))
-
-desk-begins : wordsFrom sent 8 0 ≡ 3 ∷ 0 ∷ 0 ∷ 0 ∷ 7 ∷ 2 ∷ 0x101000 ∷ 0x101100 ∷ []
-unfolding sent withSent changed placeAfter nextAfter withPlace placeAt placeOf wordsFrom deskWord placeWord
-desk-begins = refl
-
--- the turns go to 7, 9, 5, round to 7, and past 9, which has nothing left, to 5
-turns
-    : let second = changed (Served 0) sent in
-    let third = changed (Served 1) second in
-    let fourth = changed (Served 2) third in
-    let fifth = changed (Served 0) fourth in
-    (turnOf sent ≡ Of 0) × (turnOf second ≡ Of 1) × (turnOf third ≡ Of 2) × (turnOf fourth ≡ Of 0) × (turnOf fifth ≡ Of 2)
-unfolding sent withSent changed placeAfter nextAfter withPlace placeAt placeOf turnOf firstWaiting
-turns = (refl, refl, refl, refl, refl)

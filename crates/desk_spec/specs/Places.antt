@@ -147,10 +147,10 @@ room-for caller ps e =
 
 -- whom a turn serves
 
-abbrev pub Waits : List Place → ℕ → Type 0
-Waits ps i = 0 < length (placeAt ps i .waiting)
+abbrev pub HasWaiting : List Place → ℕ → Type 0
+HasWaiting ps i = 0 < length (placeAt ps i .waiting)
 
-pub waits-within : (ps : List Place) (i : ℕ) → Waits ps i → i < length ps
+pub waits-within : (ps : List Place) (i : ℕ) → HasWaiting ps i → i < length ps
 unfolding placeAt
 waits-within [] i h = absurd (omega arith)
 waits-within (q ∷ qs) zero h = omega arith
@@ -158,8 +158,8 @@ waits-within (q ∷ qs) (suc i) h = let g = waits-within qs i h in omega arith
 
 -- the first of these places at which a buffer waits
 record First (ps : List Place) (j : ℕ) : Type 0 where
-  waits : Waits ps j
-  first : (k : ℕ) → Waits ps k → j ≤ k
+  waits : HasWaiting ps j
+  first : (k : ℕ) → HasWaiting ps k → j ≤ k
 
 first-of : (i : ℕ) (ps : List Place) {n : ℕ} → firstWaiting i ps ≡ Of n → (j : ℕ) × (n ≡ i + j) × First ps j
 unfolding firstWaiting placeAt
@@ -168,7 +168,7 @@ first-of i (q ∷ qs) {n} e =
     elim (ℕ-discrete (length (q .waiting)) 0) [
       | yes z ↦
           let (j, s, f) = first-of (suc i) qs {n = n} (rw (eq-eqb (length (q .waiting)) 0 z) at e) in
-          let least : (k : ℕ) → Waits (q ∷ qs) k → suc j ≤ k =
+          let least : (k : ℕ) → HasWaiting (q ∷ qs) k → suc j ≤ k =
           λ k. elim k [ zero ↦ λ w. absurd (omega arith) | suc m ↦ λ w. let g = f .first m w in omega arith ] in
           (suc j, omega arith, record { waits = f .waits; first = least })
       | no z ↦
@@ -177,7 +177,7 @@ first-of i (q ∷ qs) {n} e =
           (0, omega arith, record { waits = omega arith; first = λ k w. omega arith })
     ]
 
-none-waits : (i : ℕ) (ps : List Place) → firstWaiting i ps ≡ Nobody → (k : ℕ) → Waits ps k → ⊥
+none-waits : (i : ℕ) (ps : List Place) → firstWaiting i ps ≡ Nobody → (k : ℕ) → HasWaiting ps k → ⊥
 unfolding firstWaiting placeAt
 none-waits i [] e k w = omega arith
 none-waits i (q ∷ qs) e k w =
@@ -186,24 +186,24 @@ none-waits i (q ∷ qs) e k w =
       | no z ↦ let e₁ : Of i ≡ Nobody = rw (ne-eqb (length (q .waiting)) 0 z) at e in let o : _≡_ {A = ℕ} 0 1 = cc in omega arith
     ]
   where
-    go : ((m : ℕ) → Waits qs m → ⊥) → length (q .waiting) ≡ 0 → (m : ℕ) → Waits (q ∷ qs) m → ⊥
+    go : ((m : ℕ) → HasWaiting qs m → ⊥) → length (q .waiting) ≡ 0 → (m : ℕ) → HasWaiting (q ∷ qs) m → ⊥
     go f z zero v = omega arith
     go f z (suc m) v = f m v
 
 -- from `next` on, or round from the start where nobody waits from there on
 pub data Way (d : Desk) (i : ℕ) : Type 0 where
-  ahead : d .next ≤ i → ((k : ℕ) → Waits (d .places) k → d .next ≤ k → i ≤ k) → Way d i
-  round : ((k : ℕ) → Waits (d .places) k → k < d .next) → ((k : ℕ) → Waits (d .places) k → i ≤ k) → Way d i
+  ahead : d .next ≤ i → ((k : ℕ) → HasWaiting (d .places) k → d .next ≤ k → i ≤ k) → Way d i
+  round : ((k : ℕ) → HasWaiting (d .places) k → k < d .next) → ((k : ℕ) → HasWaiting (d .places) k → i ≤ k) → Way d i
 
 dropped : (ps : List Place) (n j : ℕ) → placeAt (drop n ps) j ≡ placeAt ps (n + j)
 unfolding placeAt
 dropped ps n j = getD-drop n ps j (place 0 [])
 
 -- number k is number k - n of those from n on
-from-there : (ps : List Place) (n k : ℕ) → n ≤ k → Waits ps k → Waits (drop n ps) (k - n)
+from-there : (ps : List Place) (n k : ℕ) → n ≤ k → HasWaiting ps k → HasWaiting (drop n ps) (k - n)
 from-there ps n k h w = let z : n + (k - n) ≡ k = omega arith in rw (dropped ps n (k - n), z) w
 
-pub turn-serves : (d : Desk) (i : ℕ) → turnOf d ≡ Of i → Waits (d .places) i × Way d i
+pub turn-serves : (d : Desk) (i : ℕ) → turnOf d ≡ Of i → HasWaiting (d .places) i × Way d i
 unfolding turnOf
 turn-serves d i e = go (firstWaiting (d .next) (drop (d .next) (d .places))) refl e
   where
@@ -212,11 +212,11 @@ turn-serves d i e = go (firstWaiting (d .next) (drop (d .next) (d .places))) ref
 
     go
         : (t : Turn) → firstWaiting (d .next) there ≡ t → orElse t (firstWaiting 0 (d .places)) ≡ Of i
-        → Waits (d .places) i × Way d i
+        → HasWaiting (d .places) i × Way d i
     go Nobody f g =
         let (j, s, m) = first-of 0 (d .places) g in
         let z : i ≡ j = omega arith in
-        let before : (k : ℕ) → Waits (d .places) k → k < d .next =
+        let before : (k : ℕ) → HasWaiting (d .places) k → k < d .next =
         λ k w. elim (decLt k (d .next)) [
           | yes l ↦ l
           | no l ↦ absurd (none-waits (d .next) there f (k - d .next) (from-there (d .places) (d .next) k (omega arith) w))
@@ -226,15 +226,15 @@ turn-serves d i e = go (firstWaiting (d .next) (drop (d .next) (d .places))) ref
         let (j, s, m) = first-of (d .next) there f in
         let o : i ≡ n = cc in
         let z : i ≡ d .next + j = omega arith in
-        let w : Waits (d .places) (d .next + j) = rw (dropped (d .places) (d .next) j) at (m .waits) in
-        let least : (k : ℕ) → Waits (d .places) k → d .next ≤ k → d .next + j ≤ k =
+        let w : HasWaiting (d .places) (d .next + j) = rw (dropped (d .places) (d .next) j) at (m .waits) in
+        let least : (k : ℕ) → HasWaiting (d .places) k → d .next ≤ k → d .next + j ≤ k =
         λ k v h. let l = m .first (k - d .next) (from-there (d .places) (d .next) k h v) in omega arith in
         rw z (w, ahead (omega arith) least)
 
-pub nobody-waits : (d : Desk) → turnOf d ≡ Nobody → (k : ℕ) → Waits (d .places) k → ⊥
+pub nobody-waits : (d : Desk) → turnOf d ≡ Nobody → (k : ℕ) → HasWaiting (d .places) k → ⊥
 unfolding turnOf
 nobody-waits d e k w = go (firstWaiting (d .next) (drop (d .next) (d .places))) e k w
   where
-    go : (t : Turn) → orElse t (firstWaiting 0 (d .places)) ≡ Nobody → (k : ℕ) → Waits (d .places) k → ⊥
+    go : (t : Turn) → orElse t (firstWaiting 0 (d .places)) ≡ Nobody → (k : ℕ) → HasWaiting (d .places) k → ⊥
     go Nobody g k w = none-waits 0 (d .places) g k w
     go (Of n) g k w = let o : _≡_ {A = ℕ} 0 1 = cc in omega arith

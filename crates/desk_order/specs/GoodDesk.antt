@@ -55,8 +55,8 @@ words-served i d w =
     let (c, b) = each-place WordPlace (d .places) i w nobody-words in
     each-with WordPlace (d .places) i (place (p .caller) (drop 1 (p .waiting))) w (c, below-drop (p .waiting) b)
 
--- bytes in which a desk stands
-pub record Stands (bytes : List ℕ) : Type 0 where
+-- bytes that hold a desk within its limits, whose callers and buffers are words
+pub record GoodDesk (bytes : List ℕ) : Type 0 where
   pub long : deskLength ≤ length bytes
   pub limits : Limits (deskOf bytes)
   pub words : Words (deskOf bytes)
@@ -66,7 +66,7 @@ unfolding withDesk
 length-with-desk d bytes = length-sets bytes 0 (flat (wordsFrom d deskWords 0))
 
 -- a desk stored over another
-stored : (d : Desk) (bytes : List ℕ) → Stands bytes → Limits d → Words d → Stands (withDesk d bytes)
+stored : (d : Desk) (bytes : List ℕ) → GoodDesk bytes → Limits d → Words d → GoodDesk (withDesk d bytes)
 stored d bytes s h w =
     let l = s .long in
     let e = reads-back d bytes h w l in
@@ -74,19 +74,19 @@ stored d bytes s h w =
 
 -- what a call does at the desk
 
-pub record Does (after : Desk) (n : ℕ) (bytes : List ℕ) : Type 0 where
+pub record DeskLeft (after : Desk) (n : ℕ) (bytes : List ℕ) : Type 0 where
   pub reads : deskOf bytes ≡ after
   pub same-length : length bytes ≡ n
-  pub stands : Stands bytes
+  pub stands : GoodDesk bytes
 
-module _ (bytes : List ℕ) (s : Stands bytes) where
+module _ (bytes : List ℕ) (s : GoodDesk bytes) where
   long-enough : ltb (length bytes) deskLength ≡ false
   long-enough = le-ltb (length bytes) deskLength (s .long)
 
-  stores : (d : Desk) → Limits d → Words d → Does d (length bytes) (withDesk d bytes)
+  stores : (d : Desk) → Limits d → Words d → DeskLeft d (length bytes) (withDesk d bytes)
   stores d h w = record { reads = reads-back d bytes h w (s .long); same-length = length-with-desk d bytes; stands = stored d bytes s h w }
 
-  unchanged : Does (deskOf bytes) (length bytes) bytes
+  unchanged : DeskLeft (deskOf bytes) (length bytes) bytes
   unchanged = record { reads = refl; same-length = refl; stands = s }
 
   -- the sending, decided by its one test
@@ -100,7 +100,7 @@ module _ (bytes : List ℕ) (s : Stands bytes) where
 
   send-does
       : (caller buffer : ℕ) → caller < 2 ^ 32 → buffer < 2 ^ 32
-      → Does (sendTo caller buffer (deskOf bytes)) (length bytes) (sendOutcome caller buffer bytes .2)
+      → DeskLeft (sendTo caller buffer (deskOf bytes)) (length bytes) (sendOutcome caller buffer bytes .2)
   unfolding sendTo
   send-does caller buffer c b = rw (send-outcome caller buffer) (go (noRoomFor caller (deskOf bytes .places)) refl)
     where
@@ -109,7 +109,7 @@ module _ (bytes : List ℕ) (s : Stands bytes) where
 
       go
           : (r : Bool) → noRoomFor caller (deskOf bytes .places) ≡ r
-          → Does (if r then deskOf bytes else new) (length bytes) (if_then_else_ {A = ℕ × ℕ × List ℕ} r (8, 0, bytes) (0, 0, withDesk new bytes) .2)
+          → DeskLeft (if r then deskOf bytes else new) (length bytes) (if_then_else_ {A = ℕ × ℕ × List ℕ} r (8, 0, bytes) (0, 0, withDesk new bytes) .2)
       go true e = unchanged
       go false e = stores new (limits-sent caller buffer (deskOf bytes) e (s .limits)) (words-sent caller buffer (deskOf bytes) c b (s .words))
 
@@ -132,26 +132,26 @@ module _ (bytes : List ℕ) (s : Stands bytes) where
         go true good false valid f = (4, keeps-4 at lent bytes good valid)
         go false good r valid f = (3, keeps-3 at lent bytes good)
 
-    serve-does : (t : Turn) → turnOf (deskOf bytes) ≡ t → Does (serveAt t (deskOf bytes)) (length bytes) (serve t at bytes lent .desk)
+    serve-does : (t : Turn) → turnOf (deskOf bytes) ≡ t → DeskLeft (serveAt t (deskOf bytes)) (length bytes) (serve t at bytes lent .desk)
     unfolding serveAt serve
     serve-does Nobody e = unchanged
     serve-does (Of i) e =
         stores (changed (Served i) (deskOf bytes)) (limits-served i (deskOf bytes) (turn-serves (deskOf bytes) i e .0) (s .limits))
         (words-served i (deskOf bytes) (s .words))
 
-    turn-does : Does (afterAll (opOf (turn at lent)) (deskOf bytes)) (length bytes) (turnOutcome at bytes lent .desk)
+    turn-does : DeskLeft (afterAll (opOf (turn at lent)) (deskOf bytes)) (length bytes) (turnOutcome at bytes lent .desk)
     unfolding opOf afterAll after
     turn-does = go (free at lent) refl
       where
         go
             : (f : Bool) → free at lent ≡ f
-            → Does (afterAll (if f then turns ∷ [] else []) (deskOf bytes)) (length bytes) (turnOutcome at bytes lent .desk)
+            → DeskLeft (afterAll (if f then turns ∷ [] else []) (deskOf bytes)) (length bytes) (turnOutcome at bytes lent .desk)
         go true f = rw (free-turn f) (serve-does (turnOf (deskOf bytes)) refl)
         go false f = let (n, e) = other-turn f in rw e unchanged
 
 pub call-does
-    : (call : DeskCall) (bytes : List ℕ) → Stands bytes → WordCall call
-    → Does (afterAll (opOf call) (deskOf bytes)) (length bytes) (bytesAfter call bytes)
+    : (call : DeskCall) (bytes : List ℕ) → GoodDesk bytes → WordCall call
+    → DeskLeft (afterAll (opOf call) (deskOf bytes)) (length bytes) (bytesAfter call bytes)
 unfolding WordCall bytesAfter opOf afterAll after
 call-does (send caller buffer) bytes s w = send-does bytes s caller buffer (w .0) (w .1)
 call-does (turn at lent) bytes s w = turn-does bytes s at lent
@@ -161,14 +161,14 @@ unfolding afterAll
 after-append [] b d = refl
 after-append (op ∷ a) b d = after-append a b (after op d)
 
-pub stands-after : (calls : List DeskCall) (bytes : List ℕ) → Stands bytes → WordCalls calls → Stands (afterCalls calls bytes)
+pub stands-after : (calls : List DeskCall) (bytes : List ℕ) → GoodDesk bytes → WordCalls calls → GoodDesk (afterCalls calls bytes)
 unfolding afterCalls Each
 stands-after [] bytes s w = s
 stands-after (call ∷ calls) bytes s w = stands-after calls (bytesAfter call bytes) (call-does call bytes s (w .0) .stands) (w .1)
 
 -- the bytes go as the desk does
 pub follows
-    : (calls : List DeskCall) (bytes : List ℕ) → Stands bytes → WordCalls calls
+    : (calls : List DeskCall) (bytes : List ℕ) → GoodDesk bytes → WordCalls calls
     → deskOf (afterCalls calls bytes) ≡ afterAll (opsOf calls) (deskOf bytes)
 unfolding afterCalls opsOf afterAll Each
 follows [] bytes s w = refl
@@ -178,7 +178,7 @@ follows (call ∷ calls) bytes s w =
     ∙ ap (afterAll (opsOf calls)) (f .reads)
     ∙ sym (after-append (opOf call) (opsOf calls) (deskOf bytes))
 
-pub length-kept : (calls : List DeskCall) (bytes : List ℕ) → Stands bytes → WordCalls calls → length (afterCalls calls bytes) ≡ length bytes
+pub length-kept : (calls : List DeskCall) (bytes : List ℕ) → GoodDesk bytes → WordCalls calls → length (afterCalls calls bytes) ≡ length bytes
 unfolding afterCalls Each
 length-kept [] bytes s w = refl
 length-kept (call ∷ calls) bytes s w =
@@ -196,6 +196,6 @@ empty-desk n l =
     let z : n ≡ suc (suc (suc (suc (suc (suc (suc (suc (n - 8)))))))) = omega arith in
     ap (λ k. deskOf (replicate k 0)) z ∙ zero-bytes (n - 8)
 
-pub empty-stands : (bytes : List ℕ) → deskLength ≤ length bytes → deskOf bytes ≡ emptyDesk → Stands bytes
+pub empty-stands : (bytes : List ℕ) → deskLength ≤ length bytes → deskOf bytes ≡ emptyDesk → GoodDesk bytes
 unfolding Each
 empty-stands bytes l e = record { long = l; limits = rw e empty-limits; words = rw e tt }
