@@ -1,1 +1,0 @@
--- Laws about the definitions of `desk_spec` that the proofs of `desk` cite.
