@@ -3,5 +3,6 @@ pub mod Header
 pub mod Format
 pub mod Tables
 pub mod Segments
+pub mod SegmentRow
 pub mod Cases
 pub mod Relocation

@@ -2,6 +2,7 @@
 ghost use mathlib.Core.Path.{_≡_};
 ghost use Rattle.window.specs.Trace.{runT};
 ghost use Rattle.layout.specs.Segments.{segment, setSegment, tagToAddress};
+ghost use Rattle.layout.specs.SegmentRow.{segmentRow};
 use crate::fields::entry_address;
 use crate::fields::field;
 use crate::format::SEGMENT_ENTRY_SIZE;
@@ -10,6 +11,9 @@ use crate::format::SegmentTag;
 use crate::format::SegmentType;
 use crate::header::SEGMENT_NUM;
 use crate::header::SEGMENT_TABLE_OFFSET;
+use window::load32;
+use window::row::Row;
+use window::row::row_of;
 
 pub enum FoundSegment {
     Found(Segment),
@@ -21,8 +25,41 @@ pub enum Address {
     Nowhere,
 }
 
+// Where the entry of a segment stands, if table offset, count and entry are inside, each in a row, and the segment exists.
+pub fn segment_row(at: u32, w: &[u8], base: u32, index: u32) -> Row
+    ensures { λ r. ⌜ r ≡ segmentRow at (now (w .entry)) base index ⌝ }
+{
+    let Row::At(head) = row_of(
+        at,
+        w.len(),
+        std::num::wrapping_add_u32(base, SEGMENT_TABLE_OFFSET),
+        8,
+    ) else {
+        return Row::Elsewhere;
+    };
+    if index >= load32(w, head + 4) {
+        return Row::Elsewhere;
+    }
+    let entry = entry_address(load32(w, head), index, SEGMENT_ENTRY_SIZE);
+    row_of(at, w.len(), entry, 12)
+}
+
 // Looks a segment up: count, table offset and entry are read anew.
 pub fn segment(at: u32, w: &[u8], trace: &mut [u8], base: u32, index: u32) -> FoundSegment
+    ensures { λ r. ⌜ (r, (now (w .entry), now (trace .exit))) ≡ runT at (segment base index) (now (w .entry), now (trace .entry)) ⌝ }
+{
+    let Row::At(i) = segment_row(at, w, base, index) else {
+        return segment_anywhere(at, &w[..], trace, base, index);
+    };
+    FoundSegment::Found(Segment {
+        offset: load32(w, i),
+        size: load32(w, i + 4),
+        kind: SegmentType::from_raw(load32(w, i + 8)),
+    })
+}
+
+// The same where some of it may be outside, access by access.
+fn segment_anywhere(at: u32, w: &[u8], trace: &mut [u8], base: u32, index: u32) -> FoundSegment
     ensures { λ r. ⌜ (r, (now (w .entry), now (trace .exit))) ≡ runT at (segment base index) (now (w .entry), now (trace .entry)) ⌝ }
 {
     if index >= field(at, w, trace, base, SEGMENT_NUM) {

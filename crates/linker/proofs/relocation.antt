@@ -1,2 +1,3 @@
 -- What the proofs of `linker::relocation` share.
 pub mod Laws
+pub mod Walk

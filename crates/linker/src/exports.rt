@@ -25,6 +25,7 @@ use crate::record::begin;
 use crate::record::indexed_address;
 use crate::record::keep_or_give_up;
 use crate::record::segment_offset;
+use crate::sorted;
 use crate::waiting::put_waiting;
 use crate::waiting::write_names;
 use layout::fields::entry_address;
@@ -34,9 +35,13 @@ use layout::format::SegmentTag;
 use layout::header;
 use layout::peek;
 use layout::segments::Address;
+use register::append::bytes::clear;
+use register::append::bytes::fits;
+use register::append::bytes::room;
 use register::append::draft;
 use register::append::draft::Draft;
 use register::append::draft::Drafted;
+use window::outside::stride;
 
 // Whether the module has its record.
 pub(crate) enum IndexResult {
@@ -113,7 +118,7 @@ fn add_indexed(
     keep_or_give_up(records, names, before, after)
 }
 
-// Adds the indexed exports.
+// Adds the indexed exports. Each takes a word, so where so many words have no room none is looked at.
 fn add_all_indexed(
     at: u32,
     w: &[u8],
@@ -127,6 +132,10 @@ fn add_all_indexed(
 {
     let table = peek::field(at, w, base, header::EXPORT_INDEXED_SYMBOL_TABLE_OFFSET);
     let count = peek::field(at, w, base, header::EXPORT_INDEXED_SYMBOL_NUM);
+    if !draft::has_words(records, before, count) {
+        draft::give_up(records, names, before);
+        return Drafted::Full;
+    }
     let mut last = before;
     let mut i: u32 = 0;
     while i < count {
@@ -171,8 +180,8 @@ fn gather_named(
     }
 }
 
-// Gathers the named exports after a record that has none; where they have no room the record is given up.
-fn gather_all_named(
+// Gathers the named exports after a record that has none, each put where its name stands; where they have no room the record is given up.
+fn insert_all_named(
     at: u32,
     w: &[u8],
     base: u32,
@@ -205,9 +214,61 @@ fn gather_all_named(
                 last = next;
             }
         }
-        i += 1;
+        let entry = entry_address(table, i, EXPORT_NAMED_SYMBOL_ENTRY_SIZE);
+        i += stride(
+            at,
+            w.len(),
+            entry,
+            EXPORT_NAMED_SYMBOL_ENTRY_SIZE,
+            count - i,
+        );
     }
     Drafted::Open(last)
+}
+
+// Gathers the named exports after a record that has none; where they have no room the record is given up. Where the free bytes
+// hold the record of as many exports as the table has entries they are sorted there, else each is put where its name stands.
+fn gather_all_named(
+    at: u32,
+    w: &[u8],
+    base: u32,
+    records: &mut [u8],
+    names: &mut [u8],
+    first: Draft,
+) -> Drafted
+    requires { ⌜ (first .end ≤ roomIn (length (now records))) × (first .last < 2 ^ 32) ⌝ }
+    ensures { λ r. ⌜ (EndsWithin r (first .end) (roomIn (length (now (records .exit)))))
+        × ((g : Ground) (m : Module) → Bare m → Writing g m (Open first) (now (records .entry)) (now (names .entry))
+        → GatheredAll at (now (w .entry)) g m first (run at (namedExports base) (now (w .entry)) .0) r (now (records .exit)) (now (names .exit))) ⌝ }
+{
+    let count = peek::field(at, w, base, header::EXPORT_NAMED_SYMBOL_NUM);
+    let size = 12 * (count as usize);
+    let from = first.end;
+    if !fits(room(records.len()), from, size) {
+        return insert_all_named(at, w, base, records, names, first);
+    }
+    let table = peek::field(at, w, base, header::EXPORT_NAMED_SYMBOL_TABLE_OFFSET);
+    let end = from + size;
+    let n = sorted::gather(at, w, base, table, 0, count, &mut records[from..end]);
+    let to = from + 8 * n;
+    let bytes = sorted::names_length(at, w, &records[from..to]);
+    if !fits(room(names.len()), first.last, bytes) {
+        let written = Draft {
+            start: first.start,
+            end: end,
+            names: first.names,
+            last: first.last,
+        };
+        draft::give_up(records, names, written);
+        return Drafted::Full;
+    }
+    clear(records, to, end);
+    Drafted::Open(Draft {
+        start: first.start,
+        end: from + 12 * n,
+        names: first.names,
+        last: first.last + bytes,
+    })
 }
 
 // Adds the named exports: first all are gathered, then they are written.

@@ -13,6 +13,7 @@ use layout::header::INTERNAL_RELOCATION_TABLE_OFFSET;
 use layout::relocation::apply_relocation;
 use layout::segments::FoundSegment;
 use layout::segments::segment;
+use window::outside::silent_stride;
 
 // Where the word goes: one for Data is written to the copy still sitting in the module's image, which nobody has moved yet.
 fn write_place(kind: SegmentType, old: u32, offset: u32, target_final: u32) -> u32
@@ -78,8 +79,17 @@ pub(crate) fn apply_internal_relocations(
 {
     let table = field(at, w, trace, base, INTERNAL_RELOCATION_TABLE_OFFSET);
     let count = field(at, w, trace, base, INTERNAL_RELOCATION_NUM);
-    for index in 0..count {
+    let mut index: u32 = 0;
+    while index < count {
         let entry = entry_address(table, index, RELOCATION_ENTRY_SIZE);
         apply_internal_relocation(at, w, trace, base, old, entry);
+        index += silent_stride(
+            at,
+            w.len(),
+            trace,
+            entry,
+            RELOCATION_ENTRY_SIZE,
+            count - index,
+        );
     }
 }

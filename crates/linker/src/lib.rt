@@ -11,6 +11,7 @@ mod rebase;
 mod record;
 mod relocation;
 mod resets;
+mod sorted;
 mod sources;
 mod touches;
 mod unrebase;

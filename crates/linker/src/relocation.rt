@@ -13,9 +13,14 @@ use layout::header::EXTERNAL_RELOCATION_TABLE_OFFSET;
 use layout::header::ON_UNRESOLVED_SEGMENT_TAG;
 use layout::relocation::apply_relocation;
 use layout::segments::Address;
+use layout::segments::segment_row;
 use layout::segments::tag_to_address;
+use window::load32;
+use window::outside::silent_stride;
 use window::read8;
 use window::read32;
+use window::row::Row;
+use window::row::row_of;
 use window::write8;
 
 // Applies one external relocation with symbol, if its tag is usable.
@@ -40,9 +45,32 @@ fn apply_entry(at: u32, w: &mut [u8], trace: &mut [u8], base: u32, symbol: u32, 
     );
 }
 
-// The same for an entry of a batch, and gives its end mark, which is read between kind and addend.
-// Written out here: a function shared with apply_entry would be one more call in each turn of the walk.
+// The same for an entry of a batch, and gives its end mark. Where entry and segment are inside, each in a row, they are read by place.
+// Two paths lead to walk_anywhere, so that the compiler leaves it a call and puts this one into the walk.
 fn walk_entry(at: u32, w: &mut [u8], trace: &mut [u8], base: u32, symbol: u32, entry: u32) -> u8
+    ensures { λ r. ⌜ (r, (now (w .exit), now (trace .exit))) ≡ runT at (walkEntry base symbol entry) (now (w .entry), now (trace .entry)) ⌝ }
+{
+    let Row::At(i) = row_of(at, w.len(), entry, 12) else {
+        return walk_anywhere(at, w, trace, base, symbol, entry);
+    };
+    let tag = SegmentTag(load32(w, i));
+    let Row::At(s) = segment_row(at, w, base, tag.segment()) else {
+        return walk_anywhere(at, w, trace, base, symbol, entry);
+    };
+    let end = w[i + 5];
+    let offset = tag.offset();
+    if offset >= load32(w, s + 4) {
+        return end;
+    }
+    let target = std::num::wrapping_add_u32(load32(w, s), offset);
+    let kind = RelocationType::from_raw(w[i + 4]);
+    let addend = load32(w, i + 8);
+    apply_relocation(at, w, trace, target, kind, addend, symbol, target);
+    end
+}
+
+// The same where some of it may be outside, access by access; the end mark is read between kind and addend.
+fn walk_anywhere(at: u32, w: &mut [u8], trace: &mut [u8], base: u32, symbol: u32, entry: u32) -> u8
     ensures { λ r. ⌜ (r, (now (w .exit), now (trace .exit))) ≡ runT at (walkEntry base symbol entry) (now (w .entry), now (trace .entry)) ⌝ }
 {
     let tag = read32(at, w, trace, entry);
@@ -74,14 +102,17 @@ pub(crate) fn apply_relocation_batch(
     let mut walked: u16 = 0;
     loop {
         let end = walk_entry(at, w, trace, base, symbol, entry);
-        walked += 1;
         if end != 0 {
+            walked += 1;
             break;
         }
+        let left = (0x1001 - walked) as u32;
+        let passed = silent_stride(at, w.len(), trace, entry, RELOCATION_ENTRY_SIZE, left);
+        walked += passed as u16;
         if walked == 0x1001 {
             break;
         }
-        entry = std::num::wrapping_add_u32(entry, RELOCATION_ENTRY_SIZE);
+        entry = entry_address(entry, passed, RELOCATION_ENTRY_SIZE);
     }
     write8(
         at,
@@ -128,8 +159,17 @@ pub(crate) fn reset_external_relocations(at: u32, w: &mut [u8], trace: &mut [u8]
     let handler = unresolved_symbol(at, w, trace, base);
     let table = field(at, w, trace, base, EXTERNAL_RELOCATION_TABLE_OFFSET);
     let count = field(at, w, trace, base, EXTERNAL_RELOCATION_NUM);
-    for index in 0..count {
+    let mut index: u32 = 0;
+    while index < count {
         let entry = entry_address(table, index, RELOCATION_ENTRY_SIZE);
         reset_entry(at, w, trace, base, handler, entry);
+        index += silent_stride(
+            at,
+            w.len(),
+            trace,
+            entry,
+            RELOCATION_ENTRY_SIZE,
+            count - index,
+        );
     }
 }

@@ -26,6 +26,7 @@ use register::read::modules::module_count;
 use register::read::record_at;
 use register::read::record_end;
 use register::read::record_name;
+use window::outside::silent_stride;
 
 // Points a resolved batch at the handler, even if that is 0, and marks it unresolved.
 fn reset(at: u32, w: &mut [u8], trace: &mut [u8], base: u32, handler: u32, batch: u32)
@@ -59,9 +60,18 @@ fn reset_table(
 )
     ensures { λ _. ⌜ (now (w .exit), now (trace .exit)) ≡ runT at (resetTable base handler table count) (now (w .entry), now (trace .entry)) .1 ⌝ }
 {
-    for index in 0..count {
+    let mut index: u32 = 0;
+    while index < count {
         let entry = entry_address(table, index, IMPORT_INDEXED_SYMBOL_ENTRY_SIZE);
         reset_at(at, w, trace, base, handler, entry);
+        index += silent_stride(
+            at,
+            w.len(),
+            trace,
+            entry,
+            IMPORT_INDEXED_SYMBOL_ENTRY_SIZE,
+            count - index,
+        );
     }
 }
 
@@ -145,9 +155,18 @@ fn reset_all_named(
 {
     let table = field(at, w, trace, base, IMPORT_NAMED_SYMBOL_TABLE_OFFSET);
     let count = field(at, w, trace, base, IMPORT_NAMED_SYMBOL_NUM);
-    for index in 0..count {
+    let mut index: u32 = 0;
+    while index < count {
         let entry = entry_address(table, index, IMPORT_NAMED_SYMBOL_ENTRY_SIZE);
         reset_named(at, w, trace, records, names, place, base, handler, entry);
+        index += silent_stride(
+            at,
+            w.len(),
+            trace,
+            entry,
+            IMPORT_NAMED_SYMBOL_ENTRY_SIZE,
+            count - index,
+        );
     }
 }
 
@@ -167,9 +186,18 @@ fn reset_all_modules(
 {
     let table = field(at, w, trace, base, IMPORT_MODULE_TABLE_OFFSET);
     let count = field(at, w, trace, base, IMPORT_MODULE_NUM);
-    for index in 0..count {
+    let mut index: u32 = 0;
+    while index < count {
         let entry = entry_address(table, index, IMPORT_MODULE_ENTRY_SIZE);
         reset_module(at, w, trace, records, names, place, base, handler, entry);
+        index += silent_stride(
+            at,
+            w.len(),
+            trace,
+            entry,
+            IMPORT_MODULE_ENTRY_SIZE,
+            count - index,
+        );
     }
 }
 

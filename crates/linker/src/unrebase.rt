@@ -3,6 +3,7 @@ ghost use mathlib.Core.Path.{_≡_};
 ghost use Rattle.window.specs.Trace.{runT};
 ghost use Rattle.linker_spec.specs.Unrebase.{offsetBack, leavesAs, unmoveSegment, unmoveSegments, unrebase};
 use crate::rebase::segments::at_offset;
+use crate::rebase::segments::segment_stride;
 use crate::rebase::tables::move_tables;
 use crate::rebase::words::move_header;
 use layout::fields::field;
@@ -51,8 +52,10 @@ fn unmove_segments(at: u32, w: &mut [u8], trace: &mut [u8], base: u32)
     ensures { λ _. ⌜ (now (w .exit), now (trace .exit)) ≡ runT at (unmoveSegments base) (now (w .entry), now (trace .entry)) .1 ⌝ }
 {
     let count = field(at, w, trace, base, SEGMENT_NUM);
-    for index in 0..count {
+    let mut index: u32 = 0;
+    while index < count {
         unmove_segment(at, w, trace, base, index);
+        index += segment_stride(at, w, trace, base, index, count - index);
     }
 }
 

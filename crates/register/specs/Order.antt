@@ -9,7 +9,7 @@ use lib.ListN.{length, take, drop, getD, set}
 use lib.Dec.{ltb, eqb}
 use borrow.Author.Tests.{ltb-true, ltb-false, eq-eqb, ne-eqb}
 use Rattle.window.specs.Memory.{if_then_else_}
-use Rattle.window.specs.Name.{orderOf, order-same, order-turned, turned, before-trans}
+use Rattle.window.specs.Name.{orderOf, order-self, order-same, order-turned, turned, before-trans}
 use Rattle.window.specs.declared.name.NameOrder.{NameOrder}
 use Rattle.window.specs.declared.name.NameOrder.the-variants.{Before, Same, After}
 use Rattle.window.specs.Tests.{both, also}
@@ -78,6 +78,25 @@ module _ (x : Export) (xs : List Export) (name : List ℕ) (a : ℕ) where
   pub put-same : orderOf name (x .name) ≡ Same → putNamed (x ∷ xs) name a ≡ record { name = x .name; address = a } ∷ xs
   unfolding putNamed byOrder
   put-same e = rw e
+
+-- an export put twice is put once
+pub put-twice : (xs : List Export) (name : List ℕ) (a : ℕ) → putNamed (putNamed xs name a) name a ≡ putNamed xs name a
+unfolding putNamed byOrder
+put-twice [] name a = rw (order-self name)
+put-twice (x ∷ xs) name a = go (orderOf name (x .name)) refl (put-twice xs name a)
+  where
+    new : Export
+    new = record { name = name; address = a }
+
+    again : Export
+    again = record { name = x .name; address = a }
+
+    go
+        : (o : NameOrder) → orderOf name (x .name) ≡ o → putNamed (putNamed xs name a) name a ≡ putNamed xs name a
+        → putNamed (byOrder o (new ∷ x ∷ xs) (again ∷ xs) (x ∷ putNamed xs name a)) name a ≡ byOrder o (new ∷ x ∷ xs) (again ∷ xs) (x ∷ putNamed xs name a)
+    go Before e h = put-same new (x ∷ xs) name a (order-self name)
+    go Same e h = put-same again xs name a e
+    go After e h = rw e (ap (λ t. x ∷ t) h)
 
 -- an export put keeps the order
 

@@ -11,6 +11,8 @@ pub mod Trace
 pub mod TraceRuns
 pub mod Within
 pub mod Silent
+pub mod Outside
+pub mod Row
 pub mod Mirror
 -- What a name is, and how two names stand to each other.
 pub mod Name

@@ -273,6 +273,13 @@ unfoldable pub ended : List ℕ → List ℕ
 ended [] = []
 ended (b ∷ t) = if eqb b 0 then [] else b ∷ ended t
 
+-- no byte of the word at place i is 0, so no name ends in it
+pub record NonZero (row : List ℕ) (i : ℕ) : Type 0 where
+  pub at0 : getD row i 0 ≢ 0
+  pub at1 : getD row (i + 1) 0 ≢ 0
+  pub at2 : getD row (i + 2) 0 ≢ 0
+  pub at3 : getD row (i + 3) 0 ≢ 0
+
 -- a name whose bytes are those of a row is the one that the row begins with
 name-of-row
     : (at p : ℕ) (w row : List ℕ) → ((k : ℕ) → k < length row → byteAt at w (p + k) ≡ getD row k 0)

@@ -83,7 +83,7 @@ module _ (at : ℕ) where
   trace-kept m w t h = ap (λ (s : State). length (s .1)) h ∙ lengthT m (w, t) .1
 
   -- the first touch stands
-  saw-said : (n x k : ℕ) (t : List ℕ) → said t ≡ true → saw at n x k t ≡ t
+  pub saw-said : (n x k : ℕ) (t : List ℕ) → said t ≡ true → saw at n x k t ≡ t
   unfolding saw noted
   saw-said n x k t e = rw e (same (outside at n x k))
     where

@@ -1,9 +1,12 @@
 // A window on a 32-bit address space: its first address `at` and its bytes `w`. Every sum of addresses wraps at 2^32.
-// The test of a window and the five accesses stand here, names in `name`; no other crate indexes a window.
+// The test of a window and the five accesses stand here, names in `name`; other crates index a window only at places that `row` gave.
 // Each access says whether any of its bytes lay outside: the lent trace keeps where the first such access started.
 // Only this crate looks into a trace, and it is total in the trace's length.
 pub mod name;
+mod name_rows;
+pub mod outside;
 mod plain;
+pub mod row;
 
 ghost use mathlib.Core.Path.{_≡_};
 ghost use mathlib.Core.Bool.{_&&_};

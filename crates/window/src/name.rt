@@ -8,6 +8,7 @@ ghost use Rattle.window.specs.Word.{wordIn};
 ghost use Rattle.window.specs.Access.{run};
 ghost use Rattle.window.specs.Trace.{runT};
 ghost use Rattle.window.specs.Name.{nameAt, nameFrom, noZero, laidOver, orderOf, ended};
+use crate::name_rows;
 
 // Reads the name at `address` into `buffer` and gives its length; the bytes of `buffer` past the name stay.
 pub fn read_name(at: u32, w: &[u8], trace: &mut [u8], address: u32, buffer: &mut [u8; 512]) -> usize
@@ -196,4 +197,28 @@ pub fn compare_name_at(at: u32, w: &[u8], name: &[u8], address: u32) -> NameOrde
     let mut buffer = [0u8; 512];
     let n = peek_name(at, w, address, &mut buffer);
     compare_names(name, &buffer[..n])
+}
+
+// The order of the names at two addresses, of which the first is copied.
+fn compare_copied(at: u32, w: &[u8], first: u32, second: u32) -> NameOrder
+    ensures { λ r. ⌜ r ≡ orderOf (run at (nameAt first) (now (w .entry)) .0) (run at (nameAt second) (now (w .entry)) .0) ⌝ }
+{
+    let mut buffer = [0u8; 512];
+    let n = peek_name(at, w, first, &mut buffer);
+    compare_name_at(at, w, &buffer[..n], second)
+}
+
+// The order of the names at two addresses, which are compared where they stand if 512 bytes from each on are inside.
+pub fn compare_names_at(at: u32, w: &[u8], first: u32, second: u32) -> NameOrder
+    ensures { λ r. ⌜ r ≡ orderOf (run at (nameAt first) (now (w .entry)) .0) (run at (nameAt second) (now (w .entry)) .0) ⌝ }
+{
+    let i = crate::place_of(at, first);
+    let j = crate::place_of(at, second);
+    if first == 0 || !in_row(i, 512, w.len()) {
+        return compare_copied(at, &w[..], first, second);
+    }
+    if second == 0 || !in_row(j, 512, w.len()) {
+        return compare_copied(at, &w[..], first, second);
+    }
+    name_rows::compare_rows(&w[i..i + 512], &w[j..j + 512])
 }

@@ -2,37 +2,47 @@
 use Prim.Native.Nat.{ℕ, suc, _+_, _-_, _*_, _/_, _^_, _≤_, _<_}
 use mathlib.Core.Path.{_≡_, refl, sym, ap, _∙_, subst}
 use mathlib.Core.List.{List, [], _++_, append-assoc}
-use mathlib.Core.Bool.{Bool, true, false}
+use mathlib.Core.Bool.{Bool, true, false, not}
 use native.Mathlib.Omega.{arith}
-use lib.ListN.{length, take, drop, length-drop}
-use lib.Seq.{sets, sets-eq, take-take, length-take-le}
-use borrow.Rule.Slice.PartMut.{putMid, post-is}
+use borrow.Author.Tests.{leb-false, not-true, leb-true}
+use lib.Dec.{leb, ltb}
+use lib.ListN.{length, take, drop, length-drop, replicate, length-append, take-append-drop}
+use lib.Seq.{sets, sets-eq, take-take, length-take-le, length-sets}
+use borrow.Rule.Slice.PartMut.{putMid, post-is, midOf, same-len-mid, mid-len}
 use Rattle.window.specs.Memory.{_⊕_, wordAt}
 use Rattle.window.specs.Word.{setWordIn}
 use Rattle.window.specs.Access.{run}
+use Rattle.window.specs.Outside.{strideOf}
 use Rattle.layout.specs.Header.{exportNamedSymbolTableOffset, exportNamedSymbolNum, exportNamedSymbolEntrySize, exportIndexedSymbolTableOffset, exportIndexedSymbolNum, exportIndexedSymbolEntrySize, segmentNum}
 use Rattle.layout.specs.Segments.{field, field-word, entryAt, tagToAddress}
 use Rattle.layout.specs.declared.segments.Address.{Address}
 use Rattle.layout.specs.declared.segments.Address.the-variants.{At, Nowhere}
 use Rattle.register.specs.Module.{Export, Module}
-use Rattle.register.specs.Words.{flat}
+use Rattle.register.specs.Words.{part, flat}
 use Rattle.register.specs.Buffers.{length-flat}
 use Rattle.register.specs.CheckComplete.{length-exportWords}
-use Rattle.register.specs.Encode.{exportWords, exportNames}
+use Rattle.register.specs.Encode.{exportWords, exportNames, moduleNames, moduleWords}
 use Rattle.register.specs.Change.{withSegment, withIndexed, withNamed, putNamed}
 use Rattle.register.specs.declared.append.draft.Draft.{Draft}
 use Rattle.register.specs.declared.append.draft.Drafted.{Drafted}
 use Rattle.register.specs.declared.append.draft.Drafted.the-variants.{Open, Full}
-use Rattle.register.specs.Append.Draft.{roomIn, room-inside, opened, opened-parts, pushListed, givenUp}
+use Rattle.register.specs.Append.Draft.{roomIn, room-inside, opened, opened-parts, pushListed, givenUp, room-word}
+use Rattle.register.specs.Append.Held.{words-long, Held}
+use Rattle.register.specs.Append.Sets.{sets-append}
+use Rattle.register.specs.Append.Laid.{part-sets}
+use Rattle.register.specs.Append.Append.{given-up, cut-short}
 use Rattle.register.specs.Append.Steps.{held-ready, ready-open}
 use Rattle.linker_spec.specs.Relocation.{addressOr0}
 use Rattle.linker_spec.specs.Exports.{readSegments, namedExports, indexedExports, putUsable}
-use Rattle.linker.specs.Record.Read.{headerWord, segmentOf, segmentsTo, length-segments, namedEntry, nameOf, addressOf, namedTo, named-gives, indexedEntry, indexedOf, indexedTo, indexed-gives, atMost16, segments-give}
+use Rattle.linker.specs.Record.Read.{headerWord, segmentOf, segmentsTo, length-segments, namedEntry, nameOf, addressOf, namedTo, named-gives, indexedEntry, indexedOf, indexedTo, indexed-gives, atMost16, segments-give, named-past}
 use Rattle.linker.specs.Record.Tried.{tried}
-use Rattle.linker.specs.Exports.Writing.{Ground, Writing, Grows, roomy, none-greater, held, writing-is, segment-tried, indexed-tried}
-use Rattle.linker.specs.Exports.Waiting.{Waiting, Waits, nameFor, exportsFor, length-exports}
-use Rattle.linker.specs.Exports.Gathered.{Gathered, GatherStep, GatheredAll, gathered-none, gathered-long, gathered-waits, gathered-gone, gathered-written}
+use Rattle.linker.specs.Exports.Writing.{Ground, Writing, Grows, named, roomy, no-words, none-greater, held, ends, same-room, gone, writing-is, segment-tried, indexed-tried, starts, begins, roomy-named, and-no}
+use Rattle.linker.specs.Exports.Waiting.{Waiting, Waits, nameFor, exportsFor, length-exports, waitingWords, length-bytes}
+use Rattle.linker.specs.Exports.Gathered.{Gathered, GatherStep, GatheredAll, gathered-none, gathered-long, gathered-waits, gathered-gone, gathered-written, EndsWithin}
+use Rattle.linker.specs.Exports.Puts.{namedFrom, from-start}
+use Rattle.linker.specs.Exports.Sorted.{Sorted, sorted-taken}
 use Rattle.linker.specs.Exports.Modules.{withSegments, withIndexeds, segments-more, indexeds-more, segments-rest, segments-grow, indexeds-grow, named-grow, named-longer, length-indexed, full-greater, DraftStep, Bare, Unindexed, AnyModule}
+use Rattle.linker.proofs.waiting.Laws.{ends-open}
 
 -- a loop whose turn i makes F m (i + 1) of F m i
 
@@ -127,6 +137,20 @@ module _ (at : ℕ) (w : List ℕ) (base : ℕ) where
   indexed-to i n h g m =
       indexeds-grow g m (indexedTo at w base i) (indexedTo at w base n) (omega (arith, h, length-indexed at w base i, length-indexed at w base n))
 
+  -- each takes a word, so where so many have no room, there is none for all
+  pub indexed-too-many
+      : (n : ℕ) (d : Draft) (rs ns rs₁ ns₁ : List ℕ) {room : Bool} → room ≡ leb (d .end + 4 * n) (roomIn (length rs)) → not room ≡ true
+      → _≡_ {A = List ℕ × List ℕ} (rs₁, ns₁) (givenUp rs ns d) → DraftStep AnyModule (λ m. WithIndexedTo m 0) (λ m. WithIndexedTo m n) d rs ns Full rs₁ ns₁
+  unfolding indexedTo withIndexeds
+  indexed-too-many n d rs ns rs₁ ns₁ {room} e full u g m any h =
+      let q = named g in
+      let l : roomIn (length rs) < d .end + 4 * n = leb-false (d .end + 4 * n) (roomIn (length rs)) (sym e ∙ not-true room full) in
+      let s : roomIn (length rs) ≡ roomIn (length (g .records)) = ap roomIn (same-room g (WithIndexedTo m 0) d rs ns h) in
+      let none : roomy g (WithIndexedTo m n) ≡ false =
+      no-words g (WithIndexedTo m n)
+      (omega (arith, l, s, ends g (WithIndexedTo m 0) d rs ns h, words-long q (WithIndexedTo m 0), words-long q (WithIndexedTo m n), length-indexed at w base n)) in
+      subst (λ (x : List ℕ × List ℕ). Writing g (WithIndexedTo m n) Full (x .0) (x .1)) (sym u) (gone g (WithIndexedTo m 0) d rs ns h (WithIndexedTo m n) none)
+
   pub indexed-done
       : (n : ℕ) (d₀ : Draft) (rs₀ ns₀ : List ℕ) (r : Drafted) (rs ns : List ℕ) → n ≡ run at (field base exportIndexedSymbolNum) w .0
       → DraftStep AnyModule (λ m. WithIndexedTo m 0) (λ m. WithIndexedTo m n) d₀ rs₀ ns₀ r rs ns
@@ -143,10 +167,10 @@ module _ (at : ℕ) (w : List ℕ) (base : ℕ) where
   module _ (i table entry p₄ tag : ℕ) (x : Address) (ee : entry ≡ entryAt table i exportNamedSymbolEntrySize)
       (e₄ : p₄ ≡ entry ⊕ 4) (et : tag ≡ wordAt at w p₄) (ex : x ≡ run at (tagToAddress base tag) w .0)
       (h : table ≡ headerWord at w base exportNamedSymbolTableOffset) where
-    the-entry : entry ≡ namedEntry at w base i
+    pub the-entry : entry ≡ namedEntry at w base i
     the-entry = ee ∙ ap (λ t. entryAt t i exportNamedSymbolEntrySize) h
 
-    the-address : x ≡ addressOf at w base i
+    pub the-address : x ≡ addressOf at w base i
     the-address = ex ∙ ap (λ t. run at (tagToAddress base t) w .0) (et ∙ ap (wordAt at w) (e₄ ∙ ap (λ t. t ⊕ 4) the-entry))
 
     next-named : putUsable (namedTo at w base i) (nameOf at w base i) x ≡ namedTo at w base (i + 1)
@@ -196,6 +220,17 @@ module _ (at : ℕ) (w : List ℕ) (base : ℕ) where
         → Writing g m (Open first) rs₀ ns₀ → GatheredAll at w g m first (run at (namedExports base) w .0) (Open last) rs ns
     unfolding GatheredAll
     gathered-last n e t g m p h = subst (λ xs. Gathered at w g m first xs last rs ns) (all-named e) (t g m p h)
+
+    -- entry i made, a stride passes over those wholly outside
+    pub gathered-past
+        : (i left : ℕ) {table entry k : ℕ} → table ≡ run at (field base exportNamedSymbolTableOffset) w .0
+        → entry ≡ entryAt table i exportNamedSymbolEntrySize → k ≡ strideOf at (length w) entry exportNamedSymbolEntrySize left → 0 < left
+        → GatheredTo (i + 1) first last rs₀ ns₀ rs ns → GatheredTo (i + k) first last rs₀ ns₀ rs ns
+    gathered-past i left et ee ek l t g m p h =
+        subst (λ xs. Gathered at w g m first xs last rs ns)
+        (named-past at w base i left
+        (ee ∙ ap (λ table. entryAt table i exportNamedSymbolEntrySize) (et ∙ field-word at base exportNamedSymbolTableOffset w)) ek l)
+        (t g m p h)
 
     -- the turn of entry i
 
@@ -299,3 +334,183 @@ module _ (d : Draft) (rs ns : List ℕ) (xs : List Export) where
         ∙ sym (sets-eq (flat x) rs₁ (d .end) (omega (arith, end, k .room, room-inside (length (g .records)), lr))
         ∙ append-assoc (take (d .end) rs₁) (flat x) (drop (d .end + length (flat x)) rs₁)) in
         rw (es, mid, n, en, ← named-again m xs) (gathered-written at w g m′ d k)
+
+-- named exports gathered by a sort
+
+-- what a test for room says
+pub has-room
+    : (from count size : ℕ) {free : ℕ} {t : Bool} → free ≡ roomIn size → t ≡ leb (from + count) free → t ≡ true → from + count ≤ roomIn size
+has-room from count size e f z = leb-true (from + count) (roomIn size) (ap (leb (from + count)) (sym e) ∙ sym f ∙ z)
+
+module _ (at : ℕ) (w : List ℕ) (base count n : ℕ) (first : Draft) (rs ns items : List ℕ) (ec : count ≡ run at (field base exportNamedSymbolNum) w .0)
+    (s : Sorted at w (namedFrom at w base 0 count) n items)
+    (li : length items ≡ length (midOf (first .end) (first .end + 12 * count - first .end) rs))
+    (room : first .end + 12 * count ≤ roomIn (length rs)) (few : n ≤ count) where
+  abbrev all : List Export
+  all = run at (namedExports base) w .0
+
+  -- the bytes are lent from the record's end on
+  abbrev after : List ℕ
+  after = putMid (first .end) (first .end + 12 * count - first .end) rs items
+
+  size-is : first .end + 12 * count - first .end ≡ 12 * count
+  size-is = omega arith
+
+  items-long : length items ≡ 12 * count
+  items-long = li ∙ mid-len (first .end) (first .end + 12 * count) rs (omega (arith, room-inside (length rs))) ∙ size-is
+
+  all-is : namedFrom at w base 0 count ≡ all
+  all-is = from-start at w base count ∙ all-named at w base ec
+
+  sorted-all : Sorted at w all n items
+  sorted-all = subst (λ xs. Sorted at w xs n items) all-is s
+
+  after-is : after ≡ sets rs (first .end) items
+  after-is =
+      let e : first .end + 12 * count ≡ first .end + length items = omega (arith, items-long) in
+      ap (λ t. take (first .end) rs ++ (items ++ t)) (post-is (first .end) (first .end + 12 * count) rs (omega arith))
+      ∙ ap (λ j. take (first .end) rs ++ (items ++ drop j rs)) e
+      ∙ sym (sets-eq items rs (first .end) (omega (arith, items-long, room-inside (length rs)))
+      ∙ append-assoc (take (first .end) rs) items (drop (first .end + length items) rs))
+
+  pub after-long : length after ≡ length rs
+  after-long = same-len-mid (first .end) (first .end + 12 * count - first .end) rs items li
+
+  pub sorted-ends
+      : (rs′ ns′ : List ℕ) (bytes : ℕ) → length rs′ ≡ length after → first .last + bytes ≤ roomIn (length ns′)
+      → EndsWithin (Open (record { start = first .start; end = first .end + 12 * n; names = first .names; last = first .last + bytes })) (first .end)
+      (roomIn (length rs′))
+  sorted-ends rs′ ns′ bytes e fits =
+      ends-open _ (first .end) (roomIn (length rs′)) (omega arith)
+      (subst (λ t. first .end + 12 * n ≤ roomIn t) (sym (e ∙ after-long)) (omega (arith, room))) (omega (arith, fits, room-word (length ns′)))
+
+  -- those that wait, for the sum of their names' lengths
+  abbrev waits : List ℕ
+  waits = take (first .end + 8 * n - first .end) (drop (first .end) after)
+
+  waits-is : waits ≡ take (8 * n) items
+  unfolding part
+  waits-is =
+      let k : first .end + 8 * n - first .end ≡ 8 * n = omega arith in
+      let z : first .end + 0 ≡ first .end = omega arith in
+      ap (λ j. take j (drop (first .end) after)) k ∙ ap (λ t. take (8 * n) (drop (first .end) t)) after-is
+      ∙ ap (λ j. take (8 * n) (drop j (sets rs (first .end) items))) (sym z)
+      ∙ part-sets rs (first .end) items 0 (8 * n) (omega (arith, items-long, room-inside (length rs))) (omega (arith, items-long))
+
+  waits-long : length waits ≡ 8 * n
+  waits-long = ap length waits-is ∙ length-take-le (8 * n) items (omega (arith, items-long))
+
+  sorted-waits : Sorted at w all (length waits / 8) waits
+  sorted-waits =
+      let c : n ≡ length waits / 8 = omega (arith, waits-long) in
+      subst (λ j. Sorted at w all j waits) c (subst (Sorted at w all n) (sym waits-is) (sorted-taken at w sorted-all))
+
+  pub waits-short : length waits < 2 ^ 32
+  waits-short = omega (arith, waits-long, room-word (length rs))
+
+  -- that sum decides, and then the bytes that the sort used besides are cleared
+
+  module _ (bytes : ℕ) (eb : (xs : List Export) → Sorted at w xs (length waits / 8) waits → bytes ≡ length (exportNames xs)) where
+    bytes-are : bytes ≡ length (exportNames all)
+    bytes-are = eb all sorted-waits
+
+    module _ (g : Ground) (m : Module) (p : Bare m) (h : Writing g m (Open first) rs ns) where
+      abbrev words : List ℕ
+      words = flat (moduleWords (first .names) m)
+
+      the-record : Held (g .records) (g .names) first m rs ns
+      the-record = held g m first rs ns h
+
+      words-end : first .start + length words ≡ first .end
+      words-end = omega (arith, length-flat (moduleWords (first .names) m), the-record .end)
+
+      records-long : length rs ≡ length (g .records)
+      records-long = ap length (the-record .words) ∙ length-sets (g .records) (first .start) words
+
+      names-long : length ns ≡ length (g .names)
+      names-long = ap length (the-record .bytes) ∙ length-sets (g .names) (first .names) (moduleNames m)
+
+      -- what follows the record's words
+      laid-after : (x : List ℕ) → sets rs (first .end) x ≡ sets (g .records) (first .start) (words ++ x)
+      laid-after x =
+          ap (λ t. sets t (first .end) x) (the-record .words)
+          ∙ ap (λ j. sets (sets (g .records) (first .start) words) j x) (sym words-end)
+          ∙ sym (sets-append (g .records) (first .start) words x)
+
+      pub sorted-full
+          : {rs′ ns′ : List ℕ} {t : Bool} {free : ℕ} → free ≡ roomIn (length ns) → t ≡ leb (first .last + bytes) free → t ≡ false
+          → _≡_ {A = List ℕ × List ℕ} (rs′, ns′)
+          (givenUp after ns (record { start = first .start; end = first .end + 12 * count; names = first .names; last = first .last }))
+          → GatheredAll at w g m first all Full rs′ ns′
+      unfolding GatheredAll
+      sorted-full {rs′} {ns′} {t} {free} ef et z e =
+          let no : leb (first .last + length (exportNames all)) (roomIn (length (g .names))) ≡ false =
+          ap (λ k. leb (first .last + k) (roomIn (length (g .names)))) (sym bytes-are)
+          ∙ ap (λ k. leb (first .last + bytes) (roomIn k)) (sym names-long) ∙ ap (leb (first .last + bytes)) (sym ef) ∙ sym et ∙ z in
+          let gone : _≡_ {A = List ℕ × List ℕ} (rs′, ns′) (g .records, g .names) =
+          e
+          ∙ given-up (g .records) (g .names) (g .missing) (g .register) (g .right) (g .holds) (g .bytes) _ (words ++ items) (moduleNames m) after ns
+          (starts g m first rs ns h) (begins g m first rs ns h) (after-is ∙ laid-after items) (the-record .bytes)
+          (omega (arith, length-append words items, words-end, items-long)) (omega (arith, the-record .last))
+          (omega (arith, room, records-long, room-inside (length rs))) (omega (arith, the-record .name-room, room-inside (length (g .names)))) in (
+            ap (λ (x : List ℕ × List ℕ). x .0) gone,
+            ap (λ (x : List ℕ × List ℕ). x .1) gone,
+            roomy-named g m first rs ns h (p .0) (p .1) all
+                ∙ rw (no, and-no (leb (first .end + 12 * length all) (roomIn (length (g .records))))) (and-no (ltb (length (g .register .modules)) 64)),
+          )
+
+      -- the words of those that wait, and what the sort used besides
+      sorted-words : List ℕ
+      sorted-words = flat (waitingWords at w (sorted-all .waiting))
+
+      items-are : items ≡ sorted-words ++ drop (8 * n) items
+      unfolding part sorted-words
+      items-are =
+          let k : 8 * length (sorted-all .waiting) ≡ 8 * n = ap (λ t. 8 * t) (sorted-all .counted) in
+          sym (take-append-drop (8 * n) items) ∙ ap (λ t. t ++ drop (8 * n) items) (ap (λ j. take j items) (sym k) ∙ sorted-all .laid .are)
+
+      sorted-long : length sorted-words ≡ 8 * n
+      unfolding sorted-words
+      sorted-long = length-bytes at w (sorted-all .waiting) ∙ ap (λ t. 8 * t) (sorted-all .counted)
+
+      cleared-is : sets after (first .end + 8 * n) (replicate (first .end + 12 * count - (first .end + 8 * n)) 0) ≡ sets rs (first .end) sorted-words
+      cleared-is =
+          let k = first .end + 12 * count - (first .end + 8 * n) in
+          let rest = drop (8 * n) items in
+          let front = words ++ sorted-words in
+          let lf : length front ≡ length words + 8 * n = length-append words sorted-words ∙ ap (λ t. length words + t) sorted-long in
+          let o : first .end + 8 * n ≡ first .start + length front = omega (arith, lf, words-end) in
+          let a : after ≡ sets (g .records) (first .start) (front ++ rest) =
+          after-is ∙ laid-after items ∙ ap (λ t. sets (g .records) (first .start) (words ++ t)) items-are
+          ∙ ap (sets (g .records) (first .start)) (sym (append-assoc words sorted-words rest)) in
+          ap (λ t. sets t (first .end + 8 * n) (replicate k 0)) a
+          ∙ ap (λ j. sets (sets (g .records) (first .start) (front ++ rest)) j (replicate k 0)) o
+          ∙ cut-short (g .records) (g .names) (g .missing) (g .register) (g .right) (g .holds) (g .bytes) front rest (first .start) k
+          (starts g m first rs ns h) (omega (arith, length-drop (8 * n) items, items-long))
+          (omega (arith, lf, words-end, room, records-long, room-inside (length rs)))
+          ∙ sym (laid-after sorted-words)
+
+      pub sorted-open
+          : {rs′ : List ℕ} → first .last + bytes ≤ roomIn (length ns)
+          → rs′ ≡ sets after (first .end + 8 * n) (replicate (first .end + 12 * count - (first .end + 8 * n)) 0)
+          → GatheredAll at w g m first all
+          (Open (record { start = first .start; end = first .end + 12 * n; names = first .names; last = first .last + bytes })) rs′ ns
+      unfolding GatheredAll sorted-words
+      sorted-open fits e =
+          record {
+            alone = rs;
+            written = h;
+            none = p .0;
+            no-indexed = p .1;
+            waiting = sorted-all .waiting;
+            are = sorted-all .are;
+            ascends = sorted-all .ascends;
+            small = sorted-all .laid .small;
+            bytes = e ∙ cleared-is;
+            start = refl;
+            names = refl;
+            end = ap (λ t. first .end + 12 * t) (sym (sorted-all .counted));
+            last-name = ap (λ t. first .last + t) bytes-are;
+            room = subst (λ t. first .end + 12 * n ≤ roomIn t) records-long (omega (arith, room));
+            name-room = subst (λ t. first .last + bytes ≤ roomIn t) names-long fits;
+          }

@@ -8,9 +8,11 @@ use native.Mathlib.Omega.{arith}
 use Rattle.window.specs.Memory.{if_then_else_, _⊕_}
 use Rattle.window.specs.Access.{Prog, ret, _>>=_, get32}
 use Rattle.window.specs.Trace.{State, runT}
-use Rattle.window.specs.TraceRuns.{gives, then-it, two}
+use Rattle.window.specs.TraceRuns.{left, given, gives, then-it, two}
+use Rattle.window.specs.Outside.{Idle, first-read, part-read, name-outside}
 use Rattle.window.specs.Loop.{loop}
 use Rattle.window.specs.Name.{nameAt}
+use Rattle.layout.specs.Header.{importNamedSymbolEntrySize, importModuleEntrySize}
 use Rattle.layout.specs.Segments.{field}
 use Rattle.register.specs.Words.{same}
 use Rattle.register.specs.Module.{Module}
@@ -25,6 +27,7 @@ use Rattle.linker.specs.declared.sources.source.ModuleTables.{ModuleTabl
 use Rattle.layout.proofs.Accesses.{read-there}
 use Rattle.linker.specs.Sources.Laws.{paired, tables-linked}
 use Rattle.linker.specs.Imports.Served.{serveAllNamed, serveAllModules}
+use Rattle.linker.proofs.sources.Laws.{no-batch, entry-idle}
 
 -- a table's place and count read, then the loop over its entries
 pub table-starts
@@ -154,3 +157,27 @@ module _ (records names : List ℕ) (at base entry : ℕ) (s : State) {p : ℕ} 
       ap (λ l. moduleByName l name) (d .split) ∙ first-named 32 (d .before) (d .found) (d .after) name (d .first) (d .passes)
       ∙ ap some (sym (d .stands .back)) in
       module-is k h
+
+-- once a touch is kept, entries wholly outside import nothing
+
+pub serve-named-idle : (at base : ℕ) (new : Module) → Idle at (serveNamed new base) importNamedSymbolEntrySize
+serve-named-idle at base new w t kept x out =
+    serve-passed at base x new (w, t) refl (part-read at w t kept x importNamedSymbolEntrySize out 4 (omega arith)) (no-batch at 0 (w, t) refl) refl
+
+pub serve-module-idle : (at base : ℕ) (new : Module) → Idle at (serveModule new base) importModuleEntrySize
+unfolding serveModule
+serve-module-idle at base new w t kept x out =
+    then-it at (get32 x) (w, t) _ (first-read at w t kept x importModuleEntrySize out (omega arith))
+    (then-it at (nameAt 0) (w, t) (λ name. if same name (new .name) then importsOf (some new) base x else ret tt) (name-outside at (w, t))
+    (by-name (same [] (new .name))))
+  where
+    by-name : (b : Bool) → (w, t) ≡ runT at (if b then importsOf (some new) base x else ret tt) (w, t) .1
+    by-name true = entry-idle at base (some new) w t kept x out
+    by-name false = ap left (given at tt (w, t))
+
+pub import-module-idle : (at base : ℕ) (ms : List Module) → Idle at (importModule ms base) importModuleEntrySize
+unfolding importModule
+import-module-idle at base ms w t kept x out =
+    then-it at (get32 x) (w, t) _ (first-read at w t kept x importModuleEntrySize out (omega arith))
+    (then-it at (nameAt 0) (w, t) (λ name. importsOf (moduleByName ms name) base x) (name-outside at (w, t))
+    (entry-idle at base (moduleByName ms []) w t kept x out))

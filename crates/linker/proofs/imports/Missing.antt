@@ -3,18 +3,20 @@ use Prim.Native.Nat.{ℕ, _+_, _-_, _≤_, _<_}
 use mathlib.Core.Path.{_≡_, refl, sym, ap, _∙_, subst}
 use mathlib.Core.List.{List}
 use mathlib.Core.Bool.{Bool, true, false}
+use native.Mathlib.Omega.{arith}
 use lib.ListN.{length, take}
 use Rattle.window.specs.Memory.{if_then_else_, _⊕_}
 use Rattle.window.specs.Access.{Prog, ret, _>>=_, _>>_, get32}
 use Rattle.window.specs.Word.{setWordIn}
 use Rattle.window.specs.Loop.{loop}
-use Rattle.window.specs.Trace.{State, runT}
+use Rattle.window.specs.Trace.{State, said, runT}
 use Rattle.window.specs.TraceRuns.{given, gives, seq, on-true, on-false, turn-made, turns-over}
 use Rattle.window.specs.Silent.{reads-runT}
+use Rattle.window.specs.Outside.{AllOutside, silentStride, part-read, stride-made}
 use Rattle.window.specs.Name.{nameAt, nameAt-reads, isName, nameAt-isName, laidOver, name-is}
 use Rattle.layout.specs.Header.{importNamedSymbolEntrySize}
 use Rattle.layout.specs.Segments.{entryAt}
-use Rattle.register.specs.Module.{Register}
+use Rattle.register.specs.Module.{Register, Module}
 use Rattle.register.specs.Decode.{readRegister, registerOf, isRegister}
 use Rattle.register.specs.CheckIs.{register-parts}
 use Rattle.register.specs.Buffers.{Below, names-are, encodeMissing}
@@ -30,6 +32,7 @@ use Rattle.linker_spec.specs.Calls.{missingNow}
 use Rattle.linker.specs.Imports.Missing.{imported, MissingAdded}
 use Rattle.layout.proofs.Accesses.{read-there}
 use Rattle.linker.specs.Sources.Laws.{paired, unresolved-stays, resolved-by}
+use Rattle.linker.proofs.sources.Laws.{no-batch}
 
 -- the bytes that a step leaves, and that they are the register with its missing names
 abbrev pub MissingLeft : Register → List ℕ → List ℕ → State → List ℕ → List ℕ → List (List ℕ) × State → Type 0
@@ -127,6 +130,16 @@ module _ (records names missing : List ℕ) (at base entry : ℕ) (s : State) (s
         (a ∙ push-counts records names missing name i small pre ∙ ap (λ t. setWordIn records 20 (length t)) (sym n))
         (rw (a, b) (g .0), rw (a, b) (g .1) ∙ ap (missingNow r) (sym n)))
 
+-- once a touch is kept, an import wholly outside has no batch
+import-idle
+    : (at base : ℕ) (ms : List Module) (ns : List (List ℕ)) (w t : List ℕ) → said t ≡ true → (x : ℕ)
+    → AllOutside at (length w) x importNamedSymbolEntrySize → (ns, (w, t)) ≡ runT at (importNamed ms base x ns) (w, t)
+unfolding importNamed
+import-idle at base ms ns w t kept x out =
+    given at ns (w, t)
+    ∙ gives at (isUnresolved 0) (w, t) (λ b. if b then _ else ret ns) (no-batch at 0 (w, t) refl)
+    ∙ gives at (get32 (x ⊕ 4)) (w, t) _ (part-read at w t kept x importNamedSymbolEntrySize out 4 (omega arith))
+
 -- the imports of a table, in turn
 
 module _ (at base table : ℕ) (r₀ : Register) where
@@ -187,4 +200,20 @@ unfolding missingNow
 reached-starts at base table count records names missing s b h = (
   registerOf records names missing .missing,
   ((h, refl), refl, sym (count-again records names missing b h)),
+)
+
+-- a turn made, a stride passes over those wholly outside
+pub reached-past
+    : (at base table : ℕ) (r₀ : Register) (records₀ records names missing : List ℕ) (i n : ℕ) (w t : List ℕ) (end : List (List ℕ) × State) {entry k : ℕ}
+    → Reached at base table r₀ records₀ records names missing (i + 1) n (w, t) end → i < n → entry ≡ entryAt table i importNamedSymbolEntrySize
+    → k ≡ silentStride at (length w) t entry importNamedSymbolEntrySize (n - i)
+    → Reached at base table r₀ records₀ records names missing (i + k) n (w, t) end
+reached-past at base table r₀ records₀ records names missing i n w t end h l e k = (
+  h .0,
+  (
+    h .1 .0,
+    stride-made at (turn at base table r₀) table importNamedSymbolEntrySize (h .0) i n w t (h .1 .1) l e k
+        (λ y j out. import-idle at base (r₀ .modules) (h .0) w t y (entryAt table j importNamedSymbolEntrySize) out),
+    h .1 .2,
+  ),
 )

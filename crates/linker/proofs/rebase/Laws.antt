@@ -204,7 +204,7 @@ all-three (suc (suc (suc zero))) a b c x y z = refl
 all-three (suc (suc (suc (suc n)))) a b c x y z = refl
 
 module _ (at : ℕ) (forward : Bool) (base entry : ℕ) where
-  pointers-more
+  pub pointers-more
       : (x : ℕ) (xs : List ℕ) (s : State) {y : ℕ} {u : State} → y ≡ entry ⊕ x → u ≡ runT at (moveWord forward base y) s .1
       → runT at (movePointers forward base entry xs) u ≡ runT at (movePointers forward base entry (x ∷ xs)) s
   unfolding movePointers
@@ -257,9 +257,9 @@ module _ (at : ℕ) (forward : Bool) (base : ℕ) (s : State) (t : PointerTable)
 
   pub table-starts
       : (table ≡ 0 → ⊥)
-      → runT at (loop (λ i _. movePointers forward base (entryAt table i (t .«entry_size»)) (pointersOf t)) 0 (count - 0) tt) s₂
+      → runT at (loop (λ i _. movePointers forward base (entryAt table i (t .«entry_size»)) (pointersOf t)) 0 count tt) s₂
       ≡ runT at (moveTable forward base t) s
-  table-starts n = let z : count - 0 ≡ count = omega arith in rw z (rw (ne-eqb table 0 n) at table-is)
+  table-starts n = rw (ne-eqb table 0 n) at table-is
 
 -- the tables, i of them moved
 tables-more

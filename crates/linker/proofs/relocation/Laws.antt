@@ -1,26 +1,31 @@
 -- From the code's calls and branches to the programs of `Relocation`.
 use Prim.Native.Nat.{ℕ, suc, _+_, _-_, _<_}
 use mathlib.Core.Path.{_≡_, refl, sym, ap, _∙_}
+use mathlib.Core.List.{List}
 use mathlib.Core.Bool.{Bool, true, false, not}
 use native.Mathlib.Omega.{arith}
+use native.Mathlib.Decide.{ℕ-discrete}
 use lib.Dec.{eqb}
 use mir.Val.{boolByte}
 use borrow.Author.Tests.{eq-eqb, ne-eqb}
 use Rattle.window.specs.Memory.{if_then_else_, _⊕_}
 use Rattle.window.specs.Access.{Prog, ret, _>>=_, _>>_, get8, get32, put8}
 use Rattle.window.specs.Loop.{loop}
-use Rattle.window.specs.Trace.{State, runT, runT-bind}
+use Rattle.window.specs.Trace.{State, said, runT, runT-bind}
 use Rattle.window.specs.TraceRuns.{given, gives, seq, then-it, two, pick-then, pick-else}
+use Rattle.window.specs.Silent.{silent-reads}
+use Rattle.window.specs.Outside.{Idle, first-read, part-read, part-byte-read, part-byte-dropped}
 use Rattle.layout.specs.Header.{externalRelocationTableOffset, externalRelocationNum, relocationEntrySize, onUnresolvedSegmentTag}
 use Rattle.layout.specs.Format.{relocationType}
-use Rattle.layout.specs.Segments.{field, entryAt, tagToAddress}
+use Rattle.layout.specs.Segments.{field, entryAt, tagToAddress, tagToAddress-reads}
 use Rattle.layout.proofs.Accesses.{read-there}
-use Rattle.layout.specs.Relocation.Relocation.{applyRelocation}
+use Rattle.layout.specs.Relocation.Relocation.{applyRelocation, patch}
 use Rattle.layout.specs.declared.format.RelocationType.{RelocationType}
 use Rattle.layout.specs.declared.segments.Address.{Address}
 use Rattle.layout.specs.declared.segments.Address.the-variants.{At, Nowhere}
 use Rattle.linker_spec.specs.Relocation.{addressOr0, unresolvedSymbol, relocateAt, resetEntry, resetExternalRelocations, walk, batchLimit, mark, applyRelocationBatch, batchIsResolved}
 use Rattle.linker.specs.Relocation.Entry.{relocateEntry, applyEntry, walkEntry}
+use Rattle.linker.specs.Sources.Laws.{paired}
 
 -- a byte at a sum that the code made first
 module _ (at : ℕ) (s : State) {p q : ℕ} (e : p ≡ q) where
@@ -117,13 +122,9 @@ module _ (at base symbol entry : ℕ) (s : State) where
         → runT at (walk (m - (k + 1)) base symbol next (k + 1)) v ≡ runT at (walk (m - k) base symbol entry k) s
     walk-on z n = sym (walk-step ∙ rw (eq-eqb end 0 z, ← n))
 
-    pub walk-end : (end ≡ 0 → ⊥) → (k + 1, v) ≡ runT at (walk (m - k) base symbol entry k) s
+    pub walk-end : {n : ℕ} → n ≡ k + 1 → (end ≡ 0 → ⊥) → (n, v) ≡ runT at (walk (m - k) base symbol entry k) s
     unfolding runT
-    walk-end z = sym (walk-step ∙ rw (ne-eqb end 0 z, runT))
-
-    pub walk-full : end ≡ 0 → k + 1 ≡ m → (k + 1, v) ≡ runT at (walk (m - k) base symbol entry k) s
-    unfolding walk runT
-    walk-full z f = let y : m - (k + 1) ≡ 0 = omega arith in sym (walk-step ∙ rw (eq-eqb end 0 z, y, walk, runT))
+    walk-end e z = rw e (sym (walk-step ∙ rw (ne-eqb end 0 z, runT)))
 
 -- the walk, then the mark
 pub batch-made
@@ -191,3 +192,39 @@ external-starts at base s {handler} {table} {count} {s₁} {s₂} h t n =
     (λ count. loop (λ i _. resetEntry base handler (entryAt table i relocationEntrySize)) 0 count tt) n
     ∙ gives at (field base externalRelocationTableOffset) s₁ _ t
     ∙ gives at (unresolvedSymbol base) s _ h)
+
+-- once a touch is kept, an entry wholly outside has kind 0, which writes nothing, and its mark is not there
+
+pub kind-0 : (at target addend symbol final : ℕ) (s : State) → s ≡ runT at (applyRelocation target (relocationType 0) addend symbol final) s .1
+unfolding applyRelocation patch relocationType runT
+kind-0 at target addend symbol final s = refl
+
+pub entry-idle
+    : (at base symbol : ℕ) (w t : List ℕ) → said t ≡ true → (w, t) ≡ runT at (relocateEntry base symbol 0 0 0) (w, t) .1
+entry-idle at base symbol w t kept =
+    by-address _ (paired at (tagToAddress base 0) s (sym (silent-reads at (tagToAddress base 0) w t (tagToAddress-reads base 0) kept)))
+  where
+    s : State
+    s = (w, t)
+
+    by-address : (r : Address) → (r, s) ≡ runT at (tagToAddress base 0) s → s ≡ runT at (relocateEntry base symbol 0 0 0) s .1
+    by-address (At a) h = relocate-at at base symbol 0 0 0 s h refl refl (kind-0 at a 0 symbol a s)
+    by-address Nowhere h = relocate-nowhere at base symbol 0 0 0 s h refl
+
+pub external-idle : (at base handler : ℕ) → Idle at (resetEntry base handler) relocationEntrySize
+external-idle at base handler w t kept x out = elim (ℕ-discrete handler 0) [
+  | yes z ↦ reset-none at base handler x s refl dropped z refl
+  | no n ↦ reset-some at base handler x s refl dropped n applied
+]
+  where
+    s : State
+    s = (w, t)
+
+    dropped : s ≡ runT at (put8 (x ⊕ 6) 0) s .1
+    dropped = part-byte-dropped at w t kept x relocationEntrySize out 6 0 (omega arith)
+
+    applied : s ≡ runT at (applyEntry base handler x) s .1
+    applied =
+        entry-applied at base handler x s (first-read at w t kept x relocationEntrySize out (omega arith)) refl
+        (part-byte-read at w t kept x relocationEntrySize out 4 (omega arith)) refl (part-read at w t kept x relocationEntrySize out 8 (omega arith))
+        (entry-idle at base handler w t kept)

@@ -1,7 +1,7 @@
 -- From the code's calls and branches to the programs of `Resets`.
 use Prim.Native.Nat.{ℕ, _-_}
 use mathlib.Core.Path.{_≡_, refl, sym, ap, _∙_}
-use mathlib.Core.List.{List}
+use mathlib.Core.List.{List, []}
 use mathlib.Core.Bool.{Bool, true, false}
 use native.Mathlib.Omega.{arith}
 use borrow.Author.Tests.{eq-eqb, ne-eqb}
@@ -9,7 +9,8 @@ use Rattle.window.specs.Memory.{if_then_else_, _⊕_}
 use Rattle.window.specs.Access.{Prog, ret, _>>=_, _>>_, get32}
 use Rattle.window.specs.Loop.{loop}
 use Rattle.window.specs.Trace.{State, runT}
-use Rattle.window.specs.TraceRuns.{left, gives, seq, then-it, two}
+use Rattle.window.specs.TraceRuns.{left, given, gives, seq, then-it, two}
+use Rattle.window.specs.Outside.{Idle, first-read, part-read, name-outside}
 use Rattle.window.specs.Name.{nameAt}
 use Rattle.layout.specs.Header.{importNamedSymbolTableOffset, importNamedSymbolNum, importNamedSymbolEntrySize, importModuleTableOffset, importModuleNum, importModuleEntrySize, importIndexedSymbolEntrySize}
 use Rattle.layout.specs.Segments.{field, entryAt}
@@ -24,6 +25,7 @@ use Rattle.linker_spec.specs.Resets.{reset, resetAt, exists, resetNamed, resetM
 use Rattle.linker.specs.declared.sources.source.ModuleTables.{ModuleTables}
 use Rattle.linker.specs.Sources.Source.{tablesOf}
 use Rattle.linker.specs.Resets.Tables.{resetTable, resetAllNamed, resetAllModules}
+use Rattle.linker.proofs.sources.Laws.{tables-outside}
 
 -- one batch
 
@@ -142,3 +144,42 @@ module _ (at base : ℕ) (s : State) (gone : Module) where
   both-reset {handler} {s₁} e h g =
       rw imports-are
       (then-it at (unresolvedSymbol base) s halves e (two at (resetAllNamed gone base handler) s₁ (resetAllModules gone base handler) h g))
+
+-- once a touch is kept, entries wholly outside have no batch to reset
+
+pub at-idle : (at base handler : ℕ) → Idle at (resetAt base handler) importIndexedSymbolEntrySize
+at-idle at base handler w t kept x out =
+    reset-entry at base handler x (w, t) refl (part-read at w t kept x importIndexedSymbolEntrySize out 4 (omega arith))
+    (reset-none at base handler 0 (w, t) refl)
+
+pub named-idle : (at base handler : ℕ) (gone : Module) → Idle at (resetNamed gone base handler) importNamedSymbolEntrySize
+unfolding resetNamed
+named-idle at base handler gone w t kept x out =
+    then-it at (get32 x) (w, t) _ (first-read at w t kept x importNamedSymbolEntrySize out (omega arith))
+    (then-it at (nameAt 0) (w, t) (λ name. if exists (exportOf gone name) then resetAt base handler x else ret tt) (name-outside at (w, t))
+    (by-export (exists (exportOf gone []))))
+  where
+    by-export : (b : Bool) → (w, t) ≡ runT at (if b then resetAt base handler x else ret tt) (w, t) .1
+    by-export true = at-idle at base handler w t kept x out
+    by-export false = ap left (given at tt (w, t))
+
+no-resets : (at base handler : ℕ) (s : State) → s ≡ runT at (resetTable base handler 0 0) s .1
+unfolding resetTable loop runT
+no-resets at base handler s = refl
+
+pub module-idle : (at base handler : ℕ) (gone : Module) → Idle at (resetModule gone base handler) importModuleEntrySize
+module-idle at base handler gone w t kept x out = by-name _ refl
+  where
+    s : State
+    s = (w, t)
+
+    p : (0, s) ≡ runT at (get32 x) s
+    p = first-read at w t kept x importModuleEntrySize out (omega arith)
+
+    n : s ≡ runT at (nameAt 0) s .1
+    n = ap left (name-outside at s)
+
+    by-name : (b : Bool) → same (runT at (nameAt 0) s .0) (gone .name) ≡ b → s ≡ runT at (resetModule gone base handler x) s .1
+    by-name true e =
+        module-reset at base handler x s p n gone refl refl e (tables-outside at w t kept x out) (no-resets at base handler s) (no-resets at base handler s)
+    by-name false e = module-kept at base handler x s p n gone refl refl e

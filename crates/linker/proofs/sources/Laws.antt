@@ -2,18 +2,19 @@
 use Prim.Native.Nat.{ℕ, _-_}
 use mathlib.Core.Path.{_≡_, refl, ap, _∙_}
 use mathlib.Core.List.{List}
-use mathlib.Core.Option.{some}
+use mathlib.Core.Option.{Option, some, none}
 use mathlib.Core.Bool.{Bool, true, false, not}
 use native.Mathlib.Omega.{arith}
-use lib.ListN.{take}
+use lib.ListN.{length, take}
 use borrow.Author.Tests.{eq-eqb, ne-eqb}
 use Rattle.window.specs.Memory.{if_then_else_, _⊕_}
-use Rattle.window.specs.Access.{ret, get32}
-use Rattle.window.specs.Trace.{State, runT}
+use Rattle.window.specs.Access.{ret, _>>=_, get32}
+use Rattle.window.specs.Trace.{State, said, runT}
 use Rattle.window.specs.TraceRuns.{given, gives, then-it, two, on-true, on-false}
+use Rattle.window.specs.Outside.{AllOutside, Idle, first-read, part-read}
 use Rattle.window.specs.Loop.{loop}
 use Rattle.window.specs.Name.{nameAt, laidOver, name-is}
-use Rattle.layout.specs.Header.{importIndexedSymbolEntrySize}
+use Rattle.layout.specs.Header.{importIndexedSymbolEntrySize, importModuleEntrySize}
 use Rattle.layout.specs.Format.{tagSegment, tagOffset}
 use Rattle.layout.specs.Segments.{entryAt}
 use Rattle.register.specs.Module.{Module}
@@ -21,9 +22,10 @@ use Rattle.register.specs.Read.Read.{entryOf}
 use Rattle.register.specs.declared.read.Symbol.{Symbol}
 use Rattle.register.specs.declared.read.Symbol.the-variants.{At, Nothing}
 use Rattle.linker_spec.specs.Relocation.{batchIsResolved}
-use Rattle.linker_spec.specs.Imports.{anonymousOf, isUnresolved, resolve, importFrom, linkFrom}
+use Rattle.linker_spec.specs.Imports.{anonymousOf, isUnresolved, resolve, importFrom, linkFrom, importsOf}
 use Rattle.layout.proofs.Accesses.{read-there}
 use Rattle.linker.specs.Sources.Source.{symbolOf, importTable, tablesOf, linkTables}
+use Rattle.linker.specs.Sources.Laws.{tables-linked}
 use Rattle.linker.specs.declared.sources.source.ImportTable.{ImportTable}
 use Rattle.linker.specs.declared.sources.source.ImportTable.the-variants.{Indexed, Anonymous}
 use Rattle.linker.specs.declared.sources.source.ModuleTables.{ModuleTables}
@@ -124,3 +126,29 @@ unfolding linkFrom importTable symbolOf
 tables-made at base source t s h g =
     two at (importTable Indexed source base (t .«indexed_table») (t .«indexed_count»)) s
     (importTable Anonymous source base (t .«anonymous_table») (t .«anonymous_count»)) h g
+
+-- once a touch is kept, an import wholly outside has no batch, and a module entry no imports
+
+pub from-idle : (at base : ℕ) (symbol : ℕ → Symbol) → Idle at (importFrom symbol base) importIndexedSymbolEntrySize
+from-idle at base symbol w t kept x out =
+    from-passed at base x symbol (w, t) (first-read at w t kept x importIndexedSymbolEntrySize out (omega arith)) refl
+    (part-read at w t kept x importIndexedSymbolEntrySize out 4 (omega arith)) (no-batch at 0 (w, t) refl) refl
+
+abbrev pub noTables : ModuleTables
+noTables = record { «indexed_table» = 0; «indexed_count» = 0; «anonymous_table» = 0; «anonymous_count» = 0 }
+
+pub tables-outside
+    : (at : ℕ) (w t : List ℕ) → said t ≡ true → (x : ℕ) → AllOutside at (length w) x importModuleEntrySize → (noTables, (w, t)) ≡ runT at (tablesOf x) (w, t)
+tables-outside at w t kept x out =
+    tables-read at x (w, t) refl (part-read at w t kept x importModuleEntrySize out 4 (omega arith)) refl
+    (part-read at w t kept x importModuleEntrySize out 8 (omega arith)) refl (part-read at w t kept x importModuleEntrySize out 12 (omega arith)) refl
+    (part-read at w t kept x importModuleEntrySize out 16 (omega arith))
+
+none-linked : (at base : ℕ) (source : Option Module) (s : State) → s ≡ runT at (linkTables source base noTables) s .1
+unfolding linkFrom loop runT _>>=_
+none-linked at base none s = refl
+none-linked at base (some source) s = refl
+
+pub entry-idle : (at base : ℕ) (source : Option Module) → Idle at (importsOf source base) importModuleEntrySize
+entry-idle at base source w t kept x out =
+    tables-linked at base x source (w, t) (tables-outside at w t kept x out) (none-linked at base source (w, t))

@@ -40,7 +40,7 @@ below-front [] b n h z k = omega arith
 below-front (x ∷ a) b n h z zero = h 0
 below-front (x ∷ a) b n h z (suc k) = below-front a b n (λ j. h (suc j)) z k
 
-below-back : (a b : List ℕ) (n : ℕ) → Below n (a ++ b) → Below n b
+pub below-back : (a b : List ℕ) (n : ℕ) → Below n (a ++ b) → Below n b
 below-back [] b n h = h
 below-back (x ∷ a) b n h = below-back a b n (λ j. h (suc j))
 
@@ -137,12 +137,12 @@ module _ (at : ℕ) (w : List ℕ) where
   inserted : List Waiting → ℕ → Waiting → List Waiting
   inserted xs k x = take k xs ++ (x ∷ drop k xs)
 
-  more-words : (xs ys : List Waiting) → waitingWords (xs ++ ys) ≡ waitingWords xs ++ waitingWords ys
+  pub more-words : (xs ys : List Waiting) → waitingWords (xs ++ ys) ≡ waitingWords xs ++ waitingWords ys
   unfolding waitingWords
   more-words [] ys = refl
   more-words (x ∷ xs) ys = ap (λ t. x .place ∷ x .address ∷ t) (more-words xs ys)
 
-  more-exports : (xs ys : List Waiting) → exportsFor (xs ++ ys) ≡ exportsFor xs ++ exportsFor ys
+  pub more-exports : (xs ys : List Waiting) → exportsFor (xs ++ ys) ≡ exportsFor xs ++ exportsFor ys
   unfolding exportsFor
   more-exports [] ys = refl
   more-exports (x ∷ xs) ys = ap (λ t. exportFor x ∷ t) (more-exports xs ys)

@@ -6,7 +6,7 @@ use mathlib.Core.Bool.{Bool, true, false, _&&_}
 use native.Mathlib.Omega.{arith}
 use native.Mathlib.Decide.{decLe}
 use lib.ListN.{length, length-append}
-use lib.Seq.{sets}
+use lib.Seq.{sets, length-sets}
 use lib.Dec.{ltb, leb}
 use borrow.Author.Tests.{lt-ltb, ltb-true, leb-true, le-leb, lt-leb}
 use Rattle.window.specs.Word.{setWordIn}
@@ -90,7 +90,7 @@ pub and-no : (t : Bool) → (t && false) ≡ false
 and-no true = refl
 and-no false = refl
 
-no-words : (g : Ground) (m : Module) → roomIn (length (g .records)) < used g + 4 * length (moduleWords (named g) m) → roomy g m ≡ false
+pub no-words : (g : Ground) (m : Module) → roomIn (length (g .records)) < used g + 4 * length (moduleWords (named g) m) → roomy g m ≡ false
 unfolding roomy
 no-words g m h = rw (lt-leb _ _ h) (and-no (ltb (length (g .register .modules)) 64))
 
@@ -149,11 +149,14 @@ module _ (g : Ground) (m : Module) (d : Draft) (rs ns : List ℕ) (h : Writing g
   unfolding Writing
   few = h .3
 
-  ends : d .end ≡ used g + 4 * length (moduleWords (named g) m)
+  pub ends : d .end ≡ used g + 4 * length (moduleWords (named g) m)
   ends = held .end ∙ rw (starts, begins)
 
   lasts : d .last ≡ named g + length (moduleNames m)
   lasts = held .last ∙ rw begins
+
+  pub same-room : length rs ≡ length (g .records)
+  same-room = ap length (held .words) ∙ length-sets (g .records) (d .start) (flat (moduleWords (d .names) m))
 
   -- it has room
   pub holding : roomy g m ≡ true
@@ -164,7 +167,7 @@ module _ (g : Ground) (m : Module) (d : Draft) (rs ns : List ℕ) (h : Writing g
       (le-leb (named g + length (moduleNames m)) (roomIn (length (g .names))) (omega (arith, lasts, held .name-room))))
 
   -- given up
-  gone : (m′ : Module) → roomy g m′ ≡ false → Writing g m′ Full (givenUp rs ns d .0) (givenUp rs ns d .1)
+  pub gone : (m′ : Module) → roomy g m′ ≡ false → Writing g m′ Full (givenUp rs ns d .0) (givenUp rs ns d .1)
   unfolding Writing
   gone m′ e =
       let x = flat (moduleWords (d .names) m) in

@@ -1,6 +1,6 @@
 -- What the loops over a module's tables gather, entry by entry, and so what `readModule` gives.
-use Prim.Native.Nat.{ℕ, zero, suc, _+_, _-_}
-use mathlib.Core.Path.{_≡_, refl, ap, _∙_}
+use Prim.Native.Nat.{ℕ, zero, suc, _+_, _-_, _≤_, _<_}
+use mathlib.Core.Path.{_≡_, refl, sym, ap, _∙_}
 use mathlib.Core.List.{List, [], _∷_, _++_}
 use mathlib.Core.Bool.{Bool}
 use native.Mathlib.Omega.{arith}
@@ -12,11 +12,14 @@ use borrow.Author.Tests.{lt-ltb, le-ltb}
 use Rattle.window.specs.Memory.{if_then_else_, _⊕_, wordAt}
 use Rattle.window.specs.Access.{Prog, ret, _>>=_, run, run-bind, Reads, reads-same}
 use Rattle.window.specs.Loop.{loop, loop-none, loop-more}
-use Rattle.window.specs.Name.{nameAt, nameAt-reads}
+use Rattle.window.specs.Name.{nameAt, nameAt-reads, name-none}
+use Rattle.window.specs.Outside.{AllOutside, strideOf, first-zero, part-zero, passed-outside, stride-goes}
 use Rattle.layout.specs.Header.{exportNamedSymbolTableOffset, exportNamedSymbolNum, exportNamedSymbolEntrySize, exportIndexedSymbolTableOffset, exportIndexedSymbolNum, exportIndexedSymbolEntrySize, segmentNum, moduleNameOffset}
 use Rattle.layout.specs.Segments.{field, field-word, field-reads, entryAt, segment, segment-reads, tagToAddress, tagToAddress-reads}
 use Rattle.layout.specs.declared.segments.Address.{Address}
+use Rattle.layout.specs.declared.segments.Address.the-variants.{At, Nowhere}
 use Rattle.register.specs.Module.{Export, Module}
+use Rattle.register.specs.Order.{put-twice}
 use Rattle.linker_spec.specs.Relocation.{addressOr0}
 use Rattle.linker_spec.specs.Exports.{putUsable, namedExport, namedExports, indexedExport, indexedExports, offsetOr0, readSegments, readModule, namedExports-reads, indexedExports-reads, readSegments-reads}
 
@@ -34,6 +37,11 @@ loop-gives {A = A} at body w s turn i (suc n) =
     let z : i + suc n ≡ suc i + n = omega arith in
     rw z (loop-more at body i n (s i) w ∙ ap (λ (t : A × List ℕ). run at (loop body (suc i) n (t .0)) (t .1)) (turn i)
     ∙ loop-gives at body w s turn (suc i) n)
+
+put-again : (xs : List Export) (name : List ℕ) (x : Address) → putUsable (putUsable xs name x) name x ≡ putUsable xs name x
+unfolding putUsable
+put-again xs name (At a) = put-twice xs name a
+put-again xs name Nowhere = refl
 
 module _ (at : ℕ) (w : List ℕ) (base : ℕ) where
   abbrev pub headerWord : ℕ → ℕ
@@ -85,6 +93,47 @@ module _ (at : ℕ) (w : List ℕ) (base : ℕ) where
       let n = headerWord exportNamedSymbolNum in
       let z : 0 + n ≡ n = omega arith in
       loop-gives at (λ i xs. namedExport base (namedEntry i) xs) w namedTo named-turn 0 n ∙ ap (λ k. (namedTo k, w)) z
+
+  -- each entry wholly outside puts the empty name with the address of tag 0, so that of several only the first counts
+
+  outside-turn
+      : (j : ℕ) → AllOutside at (length w) (namedEntry j) exportNamedSymbolEntrySize
+      → namedTo (suc j) ≡ putUsable (namedTo j) [] (run at (tagToAddress base 0) w .0)
+  unfolding namedTo
+  outside-turn j out =
+      ap (λ p. putUsable (namedTo j) (run at (nameAt p) w .0) (addressOf j)) (first-zero at w (namedEntry j) exportNamedSymbolEntrySize out (omega arith))
+      ∙ ap (λ name. putUsable (namedTo j) name (addressOf j)) (name-none at 0 w refl)
+      ∙ ap (λ tag. putUsable (namedTo j) [] (run at (tagToAddress base tag) w .0))
+      (part-zero at w (namedEntry j) exportNamedSymbolEntrySize out 4 (omega arith))
+
+  outside-same
+      : (i m : ℕ) → ((j : ℕ) → i ≤ j → j ≤ i + m → AllOutside at (length w) (namedEntry j) exportNamedSymbolEntrySize)
+      → namedTo (suc i) ≡ namedTo (suc (i + m))
+  outside-same i zero out = let z : i + 0 ≡ i = omega arith in rw z
+  outside-same i (suc m) out =
+      let z : i + suc m ≡ suc (i + m) = omega arith in
+      let x = run at (tagToAddress base 0) w .0 in
+      let t = outside-turn (i + m) (out (i + m) (omega arith) (omega arith)) in
+      outside-same i m (λ j l h. out j l (omega arith))
+      ∙ t
+      ∙ sym (put-again (namedTo (i + m)) [] x)
+      ∙ ap (λ xs. putUsable xs [] x) (sym t)
+      ∙ sym (outside-turn (suc (i + m)) (out (suc (i + m)) (omega arith) (omega arith)))
+      ∙ ap (λ k. namedTo (suc k)) (sym z)
+
+  pub named-past
+      : (i left : ℕ) {entry k : ℕ} → entry ≡ namedEntry i → k ≡ strideOf at (length w) entry exportNamedSymbolEntrySize left → 0 < left
+      → namedTo (i + 1) ≡ namedTo (i + k)
+  named-past i left {entry} {k} e d l = elim (decLt 1 k) [
+    | yes many ↦ let z : suc i ≡ i + 1 = omega arith in
+        let y : suc (i + (k - 1)) ≡ i + k = omega arith in
+        ap namedTo (sym z)
+        ∙ outside-same i (k - 1)
+        (λ j h g. passed-outside at (length w) (headerWord exportNamedSymbolTableOffset) exportNamedSymbolEntrySize i left j e (omega (arith, d)) h
+        (omega (arith, d)))
+        ∙ ap namedTo y
+    | no one ↦ let z : 1 ≡ k = omega (arith, stride-goes at (length w) entry exportNamedSymbolEntrySize left d l) in ap (λ k. namedTo (i + k)) z
+  ]
 
   indexed-turn : (j : ℕ) → run at (indexedExport base (indexedEntry j) (indexedTo j)) w ≡ (indexedTo (suc j), w)
   unfolding indexedExport indexedTo run _>>=_

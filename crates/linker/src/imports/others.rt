@@ -23,6 +23,7 @@ use register::read::modules::module_count;
 use register::read::record_at;
 use register::read::record_end;
 use register::read::record_name;
+use window::outside::silent_stride;
 
 // One named import, if it still waits and the module exports its name.
 fn serve_named(
@@ -85,9 +86,18 @@ fn serve_all_named(
 {
     let table = field(at, w, trace, base, IMPORT_NAMED_SYMBOL_TABLE_OFFSET);
     let count = field(at, w, trace, base, IMPORT_NAMED_SYMBOL_NUM);
-    for index in 0..count {
+    let mut index: u32 = 0;
+    while index < count {
         let entry = entry_address(table, index, IMPORT_NAMED_SYMBOL_ENTRY_SIZE);
         serve_named(at, w, trace, records, names, place, base, entry);
+        index += silent_stride(
+            at,
+            w.len(),
+            trace,
+            entry,
+            IMPORT_NAMED_SYMBOL_ENTRY_SIZE,
+            count - index,
+        );
     }
 }
 
@@ -106,9 +116,18 @@ fn serve_all_modules(
 {
     let table = field(at, w, trace, base, IMPORT_MODULE_TABLE_OFFSET);
     let count = field(at, w, trace, base, IMPORT_MODULE_NUM);
-    for index in 0..count {
+    let mut index: u32 = 0;
+    while index < count {
         let entry = entry_address(table, index, IMPORT_MODULE_ENTRY_SIZE);
         serve_module(at, w, trace, records, names, place, base, entry);
+        index += silent_stride(
+            at,
+            w.len(),
+            trace,
+            entry,
+            IMPORT_MODULE_ENTRY_SIZE,
+            count - index,
+        );
     }
 }
 

@@ -24,6 +24,7 @@ use register::header::missing::push_missing;
 use register::read::Symbol;
 use register::read::modules::lookup;
 use window::name::read_name;
+use window::outside::silent_stride;
 
 // One named import, if it still waits; a name that nothing provides is kept as missing.
 fn import_named(
@@ -76,9 +77,18 @@ pub(crate) fn apply_import_named_symbols(
 {
     let table = field(at, w, trace, base, IMPORT_NAMED_SYMBOL_TABLE_OFFSET);
     let count = field(at, w, trace, base, IMPORT_NAMED_SYMBOL_NUM);
-    for index in 0..count {
+    let mut index: u32 = 0;
+    while index < count {
         let entry = entry_address(table, index, IMPORT_NAMED_SYMBOL_ENTRY_SIZE);
         import_named(at, w, trace, records, names, missing, base, entry);
+        index += silent_stride(
+            at,
+            w.len(),
+            trace,
+            entry,
+            IMPORT_NAMED_SYMBOL_ENTRY_SIZE,
+            count - index,
+        );
     }
 }
 
@@ -118,8 +128,17 @@ pub(crate) fn apply_module_imports(
 {
     let table = field(at, w, trace, base, IMPORT_MODULE_TABLE_OFFSET);
     let count = field(at, w, trace, base, IMPORT_MODULE_NUM);
-    for index in 0..count {
+    let mut index: u32 = 0;
+    while index < count {
         let entry = entry_address(table, index, IMPORT_MODULE_ENTRY_SIZE);
         import_module(at, w, trace, records, names, base, entry);
+        index += silent_stride(
+            at,
+            w.len(),
+            trace,
+            entry,
+            IMPORT_MODULE_ENTRY_SIZE,
+            count - index,
+        );
     }
 }

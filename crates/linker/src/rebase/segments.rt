@@ -1,18 +1,27 @@
 // The segments of a load: code and read-only data stay in the module's image, Data and Bss get places of their own.
 ghost use mathlib.Core.Path.{_≡_};
+ghost use lib.ListN.{length};
 ghost use Rattle.window.specs.Trace.{runT};
+ghost use Rattle.window.specs.Outside.{silentStride};
+ghost use Rattle.layout.specs.Header.{segmentEntrySize};
+ghost use Rattle.layout.specs.Segments.{segmentPlace};
 ghost use Rattle.linker_spec.specs.declared.rebase.Moved.the-variants.{OldPlace};
 ghost use Rattle.linker_spec.specs.Rebase.{at-offset, lentPlace, movedPlace, place, writeBack, moveSegment, moveSegments, lookAtSegments};
+use layout::fields::entry_address;
 use layout::fields::field;
+use layout::format::SEGMENT_ENTRY_SIZE;
 use layout::format::Segment;
 use layout::format::SegmentType;
 use layout::header::SEGMENT_NUM;
+use layout::header::SEGMENT_TABLE_OFFSET;
+use layout::peek;
 use layout::segments::FoundSegment;
 use layout::segments::segment;
 use layout::segments::set_segment;
 use linker_spec::rebase::LoadArguments;
 use linker_spec::rebase::Moved;
 use linker_spec::rebase::Placed;
+use window::outside::silent_stride;
 
 // The segment at another offset.
 pub(crate) fn at_offset(s: Segment, offset: u32) -> Segment
@@ -110,6 +119,22 @@ fn move_segment(
     write_back(at, w, trace, base, index, place(lent, s, old))
 }
 
+// How far a loop over the segments goes on from this one.
+pub(crate) fn segment_stride(
+    at: u32,
+    w: &[u8],
+    trace: &[u8],
+    base: u32,
+    index: u32,
+    left: u32,
+) -> u32
+    ensures { λ r. ⌜ r ≡ silentStride at (length (now (w .entry))) (now (trace .entry)) (segmentPlace at (now (w .entry)) base index) segmentEntrySize left ⌝ }
+{
+    let table = peek::field(at, w, base, SEGMENT_TABLE_OFFSET);
+    let entry = entry_address(table, index, SEGMENT_ENTRY_SIZE);
+    silent_stride(at, w.len(), trace, entry, SEGMENT_ENTRY_SIZE, left)
+}
+
 // Moves the segments in order, up to the first that is refused.
 pub(crate) fn move_segments(at: u32, w: &mut [u8], trace: &mut [u8], lent: LoadArguments) -> Moved
     ensures { λ r. ⌜ (r, (now (w .exit), now (trace .exit))) ≡ runT at (moveSegments lent) (now (w .entry), now (trace .entry)) ⌝ }
@@ -117,11 +142,13 @@ pub(crate) fn move_segments(at: u32, w: &mut [u8], trace: &mut [u8], lent: LoadA
     let base = lent.base;
     let count = field(at, w, trace, base, SEGMENT_NUM);
     let mut old: u32 = 0;
-    for index in 0..count {
+    let mut index: u32 = 0;
+    while index < count {
         let Moved::OldPlace(next) = move_segment(at, w, trace, lent, index, old) else {
             return Moved::Bad;
         };
         old = next;
+        index += segment_stride(at, w, trace, base, index, count - index);
     }
     Moved::OldPlace(old)
 }

@@ -1,5 +1,9 @@
 // Words of a module that hold an offset in its file and an address while it is loaded.
+ghost use Prim.Native.Nat.{ℕ, _+_, _≤_};
 ghost use mathlib.Core.Path.{_≡_};
+ghost use mathlib.Core.List.{List};
+ghost use lib.ListN.{length};
+ghost use Rattle.window.specs.Row.{Stands};
 ghost use Rattle.window.specs.Trace.{runT};
 ghost use Rattle.linker_spec.specs.Rebase.{moved, moveWord, moveHeader};
 use layout::header::FIRST_REBASED;
@@ -24,6 +28,19 @@ pub(crate) fn move_word(at: u32, w: &mut [u8], trace: &mut [u8], forward: bool, 
         return;
     }
     window::write32(at, w, trace, p, moved(forward, base, value));
+}
+
+// The same for a word that stands inside, from place i on.
+pub(crate) fn move_word_in(w: &mut [u8], forward: bool, base: u32, i: usize)
+    requires { ⌜ i + 4 ≤ length (now w) ⌝ }
+    ensures { λ _. ⌜ ((at p : ℕ) (trace : List ℕ) → Stands at (length (now (w .entry))) p 4 i
+        → (now (w .exit), trace) ≡ runT at (moveWord forward base p) (now (w .entry), trace) .1) ⌝ }
+{
+    let value = window::load32(w, i);
+    if value == 0 {
+        return;
+    }
+    window::store32(w, i, moved(forward, base, value));
 }
 
 // Moves the name's offset, then the offset of each pair of offset and size from the code's on.

@@ -15,6 +15,7 @@ use layout::format::SegmentTag;
 use register::read::Symbol;
 use register::read::export_indexed;
 use register::read::segment_address;
+use window::outside::silent_stride;
 
 // The two tables of a module entry; the entries of both have the same size.
 pub(crate) enum ImportTable {
@@ -93,9 +94,18 @@ fn import_table(
     ensures { λ _. ⌜ ((names : List ℕ) → (now (w .exit), now (trace .exit))
         ≡ runT at (importTable kind (moduleAt (now (records .entry)) names place) base table count) (now (w .entry), now (trace .entry)) .1) ⌝ }
 {
-    for index in 0..count {
+    let mut index: u32 = 0;
+    while index < count {
         let entry = entry_address(table, index, IMPORT_INDEXED_SYMBOL_ENTRY_SIZE);
         import_from(at, w, trace, records, place, kind, base, entry);
+        index += silent_stride(
+            at,
+            w.len(),
+            trace,
+            entry,
+            IMPORT_INDEXED_SYMBOL_ENTRY_SIZE,
+            count - index,
+        );
     }
 }
 

@@ -4,10 +4,10 @@ use mathlib.Core.Path.{_≡_, refl, sym, ap, _∙_}
 use mathlib.Core.List.{List, [], _∷_, _++_}
 use mathlib.Core.Bool.{Bool, true, false}
 use native.Mathlib.Omega.{arith}
-use native.Mathlib.Decide.{decLe}
+use native.Mathlib.Decide.{decLe, decLt}
 use native.Mathlib.Numerals.{add-one}
-use lib.ListN.{length, take, drop, getD, set, replicate, drop-of-length-le}
-use lib.Seq.{sets, set-out, drop-cons}
+use lib.ListN.{length, take, drop, getD, set, replicate, length-drop, drop-of-length-le}
+use lib.Seq.{sets, set-out, drop-cons, take-suc, getD-drop, length-take-le}
 use lib.Dec.{leb}
 use borrow.Author.Tests.{lt-ltb, le-ltb, le-leb, lt-leb}
 use Rattle.window.specs.Memory.{if_then_else_}
@@ -17,7 +17,7 @@ use Rattle.register.specs.declared.append.draft.Drafted.{Drafted}
 use Rattle.register.specs.declared.append.draft.Drafted.the-variants.{Open, Full}
 use Rattle.register.specs.Words.{part, flat}
 use Rattle.register.specs.Buffers.{length-flat}
-use Rattle.register.specs.Append.Sets.{sets-append, set-before, sets-before, getD-below, two-words}
+use Rattle.register.specs.Append.Sets.{sets-append, set-before, sets-before, getD-below, getD-above, two-words}
 use Rattle.register.specs.Append.Draft.{roomIn, room-inside, room-word, longer, pushWord, opened, opened-parts, countUp, pushListed, exportFits, finishRecord}
 
 -- a copy, i bytes of it made
@@ -44,6 +44,32 @@ clear-turn b to i h = let e : to - i ≡ suc (to - (i + 1)) = omega arith in rw 
 
 pub clear-end : (b : List ℕ) (to i : ℕ) → to ≤ i → b ≡ sets b i (replicate (to - i) 0)
 clear-end b to i h = let e : to - i ≡ 0 = omega arith in rw e
+
+-- bytes copied, the first i done
+
+within-read
+    : (l : List ℕ) (from to count i : ℕ) → from + count ≤ length l → i < count → (to < from + count → to ≤ from)
+    → getD (sets l to (part l from i)) (from + i) 0 ≡ getD l (from + i) 0
+unfolding part
+within-read l from to count i h g ahead = elim (decLe to from) [
+  | yes y ↦ getD-above l to (take i (drop from l)) (from + i)
+      (omega (arith, length-take-le i (drop from l) (omega (arith, length-drop from l))))
+  | no y ↦ getD-below l to (take i (drop from l)) (from + i) (elim (decLt to (from + count)) [
+    | yes z ↦ absurd (y (ahead z))
+    | no z ↦ omega arith
+  ])
+]
+
+pub within-turn
+    : (l : List ℕ) (from to count i : ℕ) {b : List ℕ} → from + count ≤ length l → i < count → (to < from + count → to ≤ from)
+    → b ≡ sets l to (part l from i) → set b (to + i) (getD b (from + i) 0) ≡ sets l to (part l from (i + 1))
+unfolding part
+within-turn l from to count i h g ahead e =
+    let n : length (take i (drop from l)) ≡ i = length-take-le i (drop from l) (omega (arith, length-drop from l)) in
+    rw (e, add-one, take-suc (drop from l) i 0 (omega (arith, length-drop from l)), getD-drop from l i 0)
+    (ap (set (sets l to (take i (drop from l))) (to + i)) (within-read l from to count i h g ahead)
+    ∙ ap (λ k. set (sets l to (take i (drop from l))) (to + k) (getD l (from + i) 0)) (sym n)
+    ∙ sym (sets-append l to (take i (drop from l)) (getD l (from + i) 0 ∷ [])))
 
 -- bytes moved up by 8, those from i on done
 

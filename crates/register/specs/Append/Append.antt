@@ -19,7 +19,7 @@ use Rattle.register.specs.Change.{newModule, appended}
 use Rattle.register.specs.Buffers.{Below, padded, length-flat, records-are, names-are, encodeRecords, encodeNames}
 use Rattle.register.specs.declared.append.draft.Draft.{Draft}
 use Rattle.register.specs.declared.append.draft.Drafted.the-variants.{Open, Full}
-use Rattle.register.specs.Append.Sets.{sets-over, four-inside, word-below, store-word, flat-set, flat-append}
+use Rattle.register.specs.Append.Sets.{sets-append, sets-over, four-inside, word-below, store-word, flat-set, flat-append}
 use Rattle.register.specs.Append.Draft.{roomIn, room-inside, room-word, usedBytes, usedNames, opened, firstWords, draftAt, beginRecord, finishRecord, cleared, givenUp}
 use Rattle.register.specs.Append.Held.{Held}
 use Rattle.register.specs.Append.Steps.{held-ready, ready-open}
@@ -240,6 +240,22 @@ module _ (l n missing : List ℕ) (r : Register) (p : proper r ≡ true) (e : en
       ∙ zeros-again rn y (length n - length rn) (d .names) (d .last - d .names) en (omega (arith, el)) (omega (arith, name-room, en))
       ∙ sym c in
       rw (er, fn)
+
+  -- zeros over the end of what was written from the first free byte on: so much of it is as it was
+  pub cut-short
+      : (x y : List ℕ) (o k : ℕ) → o ≡ 4 * length (encodeWords r) → length y ≤ k → o + length x + k ≤ length l
+      → sets (sets l o (x ++ y)) (o + length x) (replicate k 0) ≡ sets l o x
+  unfolding padded
+  cut-short x y o k eo hy room =
+      let le : length (flat E′) ≡ 4 * length E′ = length-flat E′ in
+      let free = length l - length (flat E′) in
+      let a : l ≡ flat E′ ++ replicate free 0 = records-are l n missing r b e in
+      let oe : o ≡ length (flat E′) = omega (arith, eo, size) in
+      let written : sets l o x ≡ flat E′ ++ x ++ replicate (free - length x) 0 =
+      ap (λ t. sets t o x) a ∙ ap (λ t. sets (flat E′ ++ replicate free 0) t x) oe ∙ sets-zeros (flat E′) x free (omega (arith, oe)) in
+      ap (λ t. sets t (o + length x) (replicate k 0)) (sets-append l o x y ∙ ap (λ t. sets t (o + length x) y) written)
+      ∙ zeros-again (flat E′ ++ x) y (free - length x) (o + length x) k (omega (arith, oe, length-append (flat E′) x)) hy (omega (arith, oe))
+      ∙ sym written
 
 -- begun: the first eight words and the name stand
 

@@ -54,6 +54,10 @@ pub getD-below : (l : List ℕ) (i : ℕ) (vs : List ℕ) (j : ℕ) → j < i �
 getD-below l i [] j h = refl
 getD-below l i (v ∷ vs) j h = getD-below (set l i v) (suc i) vs j (omega arith) ∙ getD-set-other l i j v 0 (λ e. omega arith)
 
+pub getD-above : (l : List ℕ) (i : ℕ) (vs : List ℕ) (j : ℕ) → i + length vs ≤ j → getD (sets l i vs) j 0 ≡ getD l j 0
+getD-above l i [] j h = refl
+getD-above l i (v ∷ vs) j h = getD-above (set l i v) (suc i) vs j (omega arith) ∙ getD-set-other l i j v 0 (λ e. omega arith)
+
 -- what stands in a run of stores
 pub getD-sets : (l : List ℕ) (o : ℕ) (bs : List ℕ) (i : ℕ) → o + length bs ≤ length l → i < length bs → getD (sets l o bs) (o + i) 0 ≡ getD bs i 0
 getD-sets l o [] i h g = absurd (omega arith)

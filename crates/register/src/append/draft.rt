@@ -2,7 +2,8 @@
 ghost use mathlib.Core.Path.{_≡_};
 ghost use Prim.Native.Nat.{_+_, _*_, _≤_, _<_};
 ghost use lib.ListN.{length};
-ghost use Rattle.register.specs.Append.Draft.{pushWord, opened, countUp, pushListed, exportFits, finishRecord, givenUp};
+ghost use lib.Dec.{leb};
+ghost use Rattle.register.specs.Append.Draft.{roomIn, pushWord, opened, countUp, pushListed, exportFits, finishRecord, givenUp};
 use crate::append::bytes;
 
 // Where a record's words and names begin and end in the two buffers.
@@ -102,6 +103,13 @@ pub fn has_room(records: &[u8], names: &[u8], draft: Draft, count: usize) -> boo
         return false;
     }
     bytes::fits(bytes::room(names.len()), draft.last, count)
+}
+
+// Whether there is room for so many words more.
+pub fn has_words(records: &[u8], draft: Draft, count: u32) -> bool
+    ensures { λ r. ⌜ r ≡ leb (draft .end + 4 * count) (roomIn (length (now (records .entry)))) ⌝ }
+{
+    bytes::fits(bytes::room(records.len()), draft.end, 4 * (count as usize))
 }
 
 // Counts the record in the header: it stands.

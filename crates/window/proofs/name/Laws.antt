@@ -3,20 +3,23 @@ use Prim.Native.Nat.{ℕ, zero, suc, _+_, _-_, _%_, _^_, _≤_, _<_}
 use mathlib.Core.Path.{_≡_, refl, sym, ap, _∙_}
 use mathlib.Core.Logic.{_≢_}
 use mathlib.Core.List.{List, [], _∷_, _++_, append-assoc, append-nil}
+use mathlib.Core.Bool.{true}
 use native.Mathlib.Omega.{arith}
 use native.Mathlib.Decide.{ℕ-discrete, decLt}
 use native.Mathlib.Numerals.{add-one}
 use lib.ListN.{length, take, drop, getD, set, drop-of-length-le, take-append-drop}
+use lib.Dec.{leb}
 use lib.Seq.{getD-take, getD-drop, drop-cons, length-take-le, take-suc-set, drop-set-lt, drop-drop}
 use borrow.Author.Tests.{eq-eqb, ne-eqb, lt-ltb, le-ltb}
 use Rattle.window.specs.Memory.{_⊕_, place, byteAt}
+use Rattle.window.specs.Tests.{both}
 use Rattle.window.specs.Bytes.{place-on, place-add, join}
 use Rattle.window.specs.Word.{wordIn, highWordIn}
 use Rattle.window.specs.Access.{ret, get8, run}
 use Rattle.window.specs.Trace.{State, runT}
 use Rattle.window.specs.TraceRuns.{left, given, gives, on-true, on-false}
 use Rattle.window.specs.Silent.{reads-runT}
-use Rattle.window.specs.Name.{nameAt, nameFrom, nameAt-0, name-some, name-stop, name-on, nameAt-reads, same-bytes-same-name, laidOver, orderOf, turned, order-turned}
+use Rattle.window.specs.Name.{nameAt, nameFrom, nameAt-0, name-some, name-stop, name-on, nameAt-reads, nameAt-isName, isName, noZero, same-bytes-same-name, laidOver, orderOf, turned, order-turned}
 use Rattle.window.proofs.Laws.{byte-in}
 use Rattle.window.proofs.TraceLaws.{saw-byte-in, read8-is}
 use Rattle.window.specs.declared.name.NameOrder.the-variants.{Before, Same, After}
@@ -213,7 +216,7 @@ order-first a b i j e l m h rest = go (decLt (getD a i 0) (getD b i 0))
         rw e at (rest s) ∙ order-on a b i l m (omega arith) (omega arith)
 
 module _ (a b : List ℕ) (i : ℕ) (small-a : (k : ℕ) → getD a k 0 < 256) (small-b : (k : ℕ) → getD b k 0 < 256) where
-  same-bytes
+  pub same-bytes
       : (i₀ i₁ i₂ i₃ : ℕ)
       → join (getD a i₀ 0) (getD a i₁ 0) (getD a i₂ 0) (getD a i₃ 0) ≡ join (getD b i₀ 0) (getD b i₁ 0) (getD b i₂ 0) (getD b i₃ 0)
       → (getD a i₀ 0 ≡ getD b i₀ 0) × (getD a i₁ 0 ≡ getD b i₁ 0) × (getD a i₂ 0 ≡ getD b i₂ 0) × (getD a i₃ 0 ≡ getD b i₃ 0)
@@ -258,7 +261,7 @@ module _ (a b : List ℕ) (i : ℕ) (small-a : (k : ℕ) → getD a k 0 < 256) (
       (λ e₁. order-first a b (i + 2) (i + 3) (omega arith) (omega arith) (omega arith) (omega arith)
       (λ e₂. order-less a b (i + 3) (omega arith) (omega arith) (omega arith))))
 
-  high-differs : wordIn a i ≢ wordIn b i → highWordIn a i ≢ highWordIn b i
+  pub high-differs : wordIn a i ≢ wordIn b i → highWordIn a i ≢ highWordIn b i
   unfolding wordIn highWordIn
   high-differs n e = let s = same-bytes (i + 3) (i + 2) (i + 1) i e in n (rw (s .0, s .1, s .2, s .3))
 
@@ -272,3 +275,8 @@ pub word-after
     → highWordIn b i < highWordIn a i → After ≡ orderOf (drop i a) (drop i b)
 word-after a b i small-a small-b l m h =
     ap turned (order-high b a i small-b small-a m l h) ∙ sym (order-turned (drop i b) (drop i a))
+
+-- a name that was read has no zero
+pub read-no-zero : (at p : ℕ) (w : List ℕ) → noZero (run at (nameAt p) w .0) ≡ true
+unfolding isName
+read-no-zero at p w = both (leb (length (run at (nameAt p) w .0)) 512) (noZero (run at (nameAt p) w .0)) (nameAt-isName at p w) .1

@@ -1,19 +1,22 @@
--- The walk from here on gives what the whole walk gives (`walk-on`); it ends at a mark or at the last entry, then the mark is set.
-use Prim.Native.Nat.{_-_, _<_}
+-- The walk from here on gives what the whole walk gives (`walk-past`); it ends at a mark or at the last entry, then the mark is set.
+use Prim.Native.Nat.{_-_, _^_, _<_}
 use mathlib.Core.Path.{_≡_, refl, _∙_}
 use mathlib.Core.Logic.{⊎-elim}
 use native.Mathlib.Omega.{arith}
 use lib.ListN.{length}
 use borrow.Author.Needs.{needs}
 use Rattle.window.specs.Trace.{runT}
+use Rattle.window.specs.Outside.{silent-goes}
 use Rattle.linker_spec.specs.Relocation.{walk, batchLimit}
-use Rattle.linker.proofs.relocation.Laws.{walk-on, walk-end, walk-full, batch-made, mark-byte}
+use Rattle.linker.proofs.relocation.Laws.{walk-end, batch-made, mark-byte}
+use Rattle.linker.proofs.relocation.Walk.{walk-past, walk-filled}
 use Rattle.linker.proofs.relocation.apply_relocation_batch.Statement.{statement}
 use Rattle.linker.proofs.relocation.apply_relocation_batch.Tie as tie
 
 abbrev Inv-loop : tie.InvT-loop
 Inv-loop at w₀ trace₀ base batch symbol resolved entry₀ walked₀ w trace entry walked =
     (walked < 0x1001)
+    × (entry < 2 ^ 32)
     × (length w ≡ length w₀)
     × (runT at (walk (0x1001 - walked) base symbol entry walked) (w, trace) ≡ runT at (walk batchLimit base symbol batch 0) (w₀, trace₀))
     × (length trace ≡ length trace₀)
@@ -22,37 +25,68 @@ abbrev μ-loop : tie.MeasureT-loop
 μ-loop at w₀ trace₀ base batch symbol resolved entry₀ walked₀ w trace entry walked = 0x1001 - walked
 
 loop-holds : tie.Need-loop-holds Inv-loop μ-loop
-loop-holds c = (omega arith, refl, refl, refl)
+loop-holds c =
+    let p2 = c .before .before in
+    (omega arith, omega (arith, p2 .fits .batch), refl, refl, refl)
 
 walk-entry-requires : tie.Need-walk-entry-requires Inv-loop μ-loop
 walk-entry-requires c κs = search needs
 
 add-walked : tie.Need-add-walked Inv-loop μ-loop
-add-walked c = omega arith
+add-walked c =
+    let p8 = c .before .before .before .before .before .before .before .before in
+    omega (arith, p8 .loop .inv .0)
 
-wrapping-add-u32-requires : tie.Need-wrapping-add-u32-requires Inv-loop μ-loop
-wrapping-add-u32-requires c κs = search needs
+sub-left : tie.Need-sub-left Inv-loop μ-loop
+sub-left c =
+    let p8 = c .before .before .before .before .before .before .before .before in
+    omega (arith, p8 .loop .inv .0)
+
+cast-left : tie.Need-cast-left Inv-loop μ-loop
+cast-left c = omega arith
+
+silent-stride-requires : tie.Need-silent-stride-requires Inv-loop μ-loop
+silent-stride-requires c κs = search needs
+
+cast-walked : tie.Need-cast-walked Inv-loop μ-loop
+cast-walked c =
+    let p10 = c .before .before .before .before .before .before .before .before .before .before in
+    omega (arith, silent-goes _ _ _ _ _ _ (c .silent-stride .ensures) (omega (arith, p10 .loop .inv .0)))
+
+add-walked-2 : tie.Need-add-walked-2 Inv-loop μ-loop
+add-walked-2 c =
+    let p10 = c .before .before .before .before .before .before .before .before .before .before in
+    omega (arith, p10 .loop .inv .0, silent-goes _ _ _ _ _ _ (c .silent-stride .ensures) (omega (arith, p10 .loop .inv .0)))
+
+entry-address-requires : tie.Need-entry-address-requires Inv-loop μ-loop
+entry-address-requires c κs = search needs
 
 loop-less : tie.Need-loop-less Inv-loop μ-loop
-loop-less c = omega arith
+loop-less c =
+    let p2 = c .before .before in
+    let p12 = p2 .before .before .before .before .before .before .before .before .before .before in
+    omega (arith, p12 .loop .inv .0, silent-goes _ _ _ _ _ _ (p2 .silent-stride .ensures) (omega (arith, p12 .loop .inv .0)))
 
 loop-again : tie.Need-loop-again Inv-loop μ-loop
 loop-again c =
-    let p2 = c .before .before in
-    let p7 = p2 .before .before .before .before .before in
-    let p10 = p7 .before .before .before in
-    let p13 = p10 .before .before .before in
-    let a = p13 .args in (
-      omega arith,
-      p7 .walk-entry .kept .1 .0 ∙ p10 .loop .inv .1,
-      walk-on (a .at) (a .base) (a .symbol) (p10 .loop .entry) (p10 .loop .w, p10 .loop .trace) 0x1001 (p10 .loop .walked) (p10 .loop .inv .0)
-          (p7 .walk-entry .ensures) (p2 .if1 .left) (c .wrapping-add-u32 .ensures)
-          ∙ p10 .loop .inv .2,
-      p7 .walk-entry .kept .1 .1 .0 ∙ p10 .loop .inv .3,
+    let p1 = c .before in
+    let p2 = p1 .before in
+    let p4 = p2 .before .before in
+    let p9 = p4 .before .before .before .before .before in
+    let p12 = p9 .before .before .before in
+    let p15 = p12 .before .before .before in
+    let a = p15 .args in (
+      omega (arith, p1 .if2 .left, p12 .loop .inv .0, silent-goes _ _ _ _ _ _ (p2 .silent-stride .ensures) (omega (arith, p12 .loop .inv .0))),
+      omega (arith, c .entry-address .ensures),
+      p9 .walk-entry .kept .1 .0 ∙ p12 .loop .inv .2,
+      walk-past (a .at) (a .base) (a .symbol) (p12 .loop .entry) (p12 .loop .w, p12 .loop .trace) 0x1001 (p12 .loop .walked) (p12 .loop .inv .1)
+          (p12 .loop .inv .0) (p9 .walk-entry .ensures) (p4 .if1 .left) (p2 .silent-stride .ensures) (c .entry-address .ensures)
+          ∙ p12 .loop .inv .3,
+      p9 .walk-entry .kept .1 .1 .0 ∙ p12 .loop .inv .4,
     )
 
-wrapping-add-u32-requires-2 : tie.Need-wrapping-add-u32-requires-2 Inv-loop μ-loop
-wrapping-add-u32-requires-2 c κs = search needs
+wrapping-add-u32-requires : tie.Need-wrapping-add-u32-requires Inv-loop μ-loop
+wrapping-add-u32-requires c κs = search needs
 
 cast-write8 : tie.Need-cast-write8 Inv-loop μ-loop
 cast-write8 c = search needs
@@ -60,41 +94,38 @@ cast-write8 c = search needs
 write8-requires : tie.Need-write8-requires Inv-loop μ-loop
 write8-requires c κs = search needs
 
-cast-result : tie.Need-cast-result Inv-loop μ-loop
-cast-result c = search needs
-
 same-length : tie.Need-same-length Inv-loop μ-loop
 same-length c =
-    let p4 = c .before .before .before .before in
-    let p13 = p4 .before .before .before .before .before .before .before .before .before in
-    let p16 = p13 .before .before .before in
-    p4 .write8 .kept .1 .0 ∙ p13 .walk-entry .kept .1 .0 ∙ p16 .loop .inv .1
+    let p5 = c .before .before .before .before .before in
+    let p14 = p5 .before .before .before .before .before .before .before .before .before in
+    let p17 = p14 .before .before .before in
+    p5 .write8 .kept .1 .0 ∙ p14 .walk-entry .kept .1 .0 ∙ p17 .loop .inv .2
 
 same-length-2 : tie.Need-same-length-2 Inv-loop μ-loop
 same-length-2 c =
-    let p4 = c .before .before .before .before in
-    let p13 = p4 .before .before .before .before .before .before .before .before .before in
-    let p16 = p13 .before .before .before in
-    p4 .write8 .kept .1 .1 .0 ∙ p13 .walk-entry .kept .1 .1 .0 ∙ p16 .loop .inv .3
+    let p5 = c .before .before .before .before .before in
+    let p14 = p5 .before .before .before .before .before .before .before .before .before in
+    let p17 = p14 .before .before .before in
+    p5 .write8 .kept .1 .1 .0 ∙ p14 .walk-entry .kept .1 .1 .0 ∙ p17 .loop .inv .4
 
 returns : tie.Need-returns Inv-loop μ-loop
 returns c =
-    let p4 = c .before .before .before .before in
-    let p5 = p4 .before in
-    let p8 = p5 .before .before .before in
-    let p13 = p8 .before .before .before .before .before in
-    let p16 = p13 .before .before .before in
-    let p19 = p16 .before .before .before in
-    let a = p19 .args in
+    let p5 = c .before .before .before .before .before in
+    let p6 = p5 .before in
+    let p9 = p6 .before .before .before in
+    let p14 = p9 .before .before .before .before .before in
+    let p17 = p14 .before .before .before in
+    let p20 = p17 .before .before .before in
+    let a = p20 .args in
     batch-made (a .at) (a .base) (a .batch) (a .symbol) (a .resolved) (a .w .now, a .trace .now)
     (⊎-elim
-    (λ e. walk-end (a .at) (a .base) (a .symbol) (p16 .loop .entry) (p16 .loop .w, p16 .loop .trace) 0x1001 (p16 .loop .walked) (p16 .loop .inv .0)
-    (p13 .walk-entry .ensures) (e .taken))
-    (λ e. walk-full (a .at) (a .base) (a .symbol) (p16 .loop .entry) (p16 .loop .w, p16 .loop .trace) 0x1001 (p16 .loop .walked) (p16 .loop .inv .0)
-    (p13 .walk-entry .ensures) (e .0 .left) (e .1 .taken))
-    (p8 .if1 .came)
-    ∙ p16 .loop .inv .2)
-    (p5 .wrapping-add-u322 .ensures) (mark-byte (a .resolved)) (p4 .write8 .ensures)
+    (λ e. walk-end (a .at) (a .base) (a .symbol) (p17 .loop .entry) (p17 .loop .w, p17 .loop .trace) 0x1001 (p17 .loop .walked) (p17 .loop .inv .0)
+    (p14 .walk-entry .ensures) (e .1) (e .0 .taken))
+    (λ e. walk-filled (a .at) (a .base) (a .symbol) (p17 .loop .entry) (p17 .loop .w, p17 .loop .trace) 0x1001 (p17 .loop .walked) (p17 .loop .inv .1)
+    (p17 .loop .inv .0) (p14 .walk-entry .ensures) (e .0 .left) (e .2 .ensures) (e .4) (e .3 .taken))
+    (p9 .if1 .came)
+    ∙ p17 .loop .inv .3)
+    (p6 .wrapping-add-u32 .ensures) (mark-byte (a .resolved)) (p5 .write8 .ensures)
 
 pub apply-relocation-batch-spec : {M : Type 1} → statement M
 apply-relocation-batch-spec =
@@ -105,13 +136,17 @@ apply-relocation-batch-spec =
     loop-holds
     walk-entry-requires
     add-walked
-    wrapping-add-u32-requires
+    sub-left
+    cast-left
+    silent-stride-requires
+    cast-walked
+    add-walked-2
+    entry-address-requires
     loop-less
     loop-again
-    wrapping-add-u32-requires-2
+    wrapping-add-u32-requires
     cast-write8
     write8-requires
-    cast-result
     same-length
     same-length-2
     returns)

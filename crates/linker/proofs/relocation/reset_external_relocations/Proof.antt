@@ -1,4 +1,4 @@
--- A counted loop over the table: `external-starts`, `step-made`, `steps-over`.
+-- A counted loop over the table: `external-starts`, `strides-made`, `steps-over`.
 use Prim.Native.Nat.{_-_, _≤_}
 use mathlib.Core.Path.{_≡_, refl, ap, _∙_}
 use native.Mathlib.Omega.{arith}
@@ -9,8 +9,9 @@ use Rattle.window.specs.Loop.{loop}
 use Rattle.layout.specs.Header.{relocationEntrySize}
 use Rattle.layout.specs.Segments.{entryAt}
 use Rattle.linker_spec.specs.Relocation.{resetEntry}
-use Rattle.window.specs.TraceRuns.{left, step-made, steps-over}
-use Rattle.linker.proofs.relocation.Laws.{external-starts}
+use Rattle.window.specs.TraceRuns.{left, steps-over}
+use Rattle.window.specs.Outside.{silent-goes, strides-made}
+use Rattle.linker.proofs.relocation.Laws.{external-starts, external-idle}
 use Rattle.linker.proofs.relocation.reset_external_relocations.Statement.{statement}
 use Rattle.linker.proofs.relocation.reset_external_relocations.Tie as tie
 
@@ -43,29 +44,36 @@ entry-address-requires c κs = search needs
 reset-entry-requires : tie.Need-reset-entry-requires Inv-loop μ-loop
 reset-entry-requires c κs = search needs
 
+sub-silent-stride : tie.Need-sub-silent-stride Inv-loop μ-loop
+sub-silent-stride c = omega arith
+
+silent-stride-requires : tie.Need-silent-stride-requires Inv-loop μ-loop
+silent-stride-requires c κs = search needs
+
 add-index : tie.Need-add-index Inv-loop μ-loop
-add-index c = omega arith
+add-index c = omega (arith, silent-goes _ _ _ _ _ _ (c .silent-stride .ensures) (omega arith))
 
 loop-less : tie.Need-loop-less Inv-loop μ-loop
-loop-less c = omega arith
+loop-less c = omega (arith, silent-goes _ _ _ _ _ _ (c .silent-stride .ensures) (omega arith))
 
 loop-again : tie.Need-loop-again Inv-loop μ-loop
 loop-again c =
-    let p4 = c .before .before .before .before in
-    let p7 = p4 .before .before .before in
-    let p8 = p7 .before in
-    let p9 = p8 .before in
-    let p12 = p9 .before .before .before in
-    let p17 = p12 .before .before .before .before .before in
-    let p22 = p17 .before .before .before .before .before in
-    let p27 = p22 .before .before .before .before .before in
-    let a = p27 .args in (
-      omega arith,
-      p4 .reset-entry .kept .1 .0 ∙ p9 .loop .inv .1,
-      step-made (a .at) (resetEntry (a .base) (p22 .unresolved-symbol .result)) (λ i. entryAt (p17 .field .result) i relocationEntrySize)
-          (p9 .loop .index) (p12 .field2 .result) (p9 .loop .w, p9 .loop .trace) (p9 .loop .inv .2) (p8 .loop-test .taken) (p7 .entry-address .ensures)
-          (p4 .reset-entry .ensures),
-      p4 .reset-entry .kept .1 .1 .0 ∙ p9 .loop .inv .3,
+    let p6 = c .before .before .before .before .before .before in
+    let p9 = p6 .before .before .before in
+    let p10 = p9 .before in
+    let p11 = p10 .before in
+    let p14 = p11 .before .before .before in
+    let p19 = p14 .before .before .before .before .before in
+    let p24 = p19 .before .before .before .before .before in
+    let p29 = p24 .before .before .before .before .before in
+    let a = p29 .args in (
+      omega (arith, silent-goes _ _ _ _ _ _ (c .silent-stride .ensures) (omega arith)),
+      p6 .reset-entry .kept .1 .0 ∙ p11 .loop .inv .1,
+      strides-made (a .at) (resetEntry (a .base) (p24 .unresolved-symbol .result)) relocationEntrySize (p19 .field .result)
+          (p11 .loop .index) (p14 .field2 .result) (p11 .loop .w, p11 .loop .trace) (p11 .loop .inv .2) (p10 .loop-test .taken) (p9 .entry-address .ensures)
+          (p6 .reset-entry .ensures)
+          (c .silent-stride .ensures) (external-idle (a .at) (a .base) (p24 .unresolved-symbol .result)),
+      p6 .reset-entry .kept .1 .1 .0 ∙ p11 .loop .inv .3,
     )
 
 same-length : tie.Need-same-length Inv-loop μ-loop
@@ -105,6 +113,8 @@ reset-external-relocations-spec =
     loop-holds
     entry-address-requires
     reset-entry-requires
+    sub-silent-stride
+    silent-stride-requires
     add-index
     loop-less
     loop-again

@@ -1,4 +1,4 @@
--- A counted loop over the table: `resets-start`, `step-made`, `steps-over`.
+-- A counted loop over the table: `resets-start`, `strides-made`, `steps-over`.
 use Prim.Native.Nat.{_-_, _≤_}
 use mathlib.Core.Path.{_≡_, refl, _∙_}
 use native.Mathlib.Omega.{arith}
@@ -9,9 +9,10 @@ use Rattle.window.specs.Loop.{loop}
 use Rattle.layout.specs.Segments.{entryAt}
 use Rattle.layout.specs.Header.{importIndexedSymbolEntrySize}
 use Rattle.linker_spec.specs.Resets.{resetAt}
-use Rattle.window.specs.TraceRuns.{step-made, steps-over}
+use Rattle.window.specs.TraceRuns.{steps-over}
+use Rattle.window.specs.Outside.{silent-goes, strides-made}
 use Rattle.linker.specs.Resets.Tables.{resetTable}
-use Rattle.linker.proofs.resets.Laws.{resets-start}
+use Rattle.linker.proofs.resets.Laws.{resets-start, at-idle}
 use Rattle.linker.proofs.resets.reset_table.Statement.{statement}
 use Rattle.linker.proofs.resets.reset_table.Tie as tie
 
@@ -38,25 +39,32 @@ entry-address-requires c κs = search needs
 reset-at-requires : tie.Need-reset-at-requires Inv-loop μ-loop
 reset-at-requires c κs = search needs
 
+sub-silent-stride : tie.Need-sub-silent-stride Inv-loop μ-loop
+sub-silent-stride c = omega arith
+
+silent-stride-requires : tie.Need-silent-stride-requires Inv-loop μ-loop
+silent-stride-requires c κs = search needs
+
 add-index : tie.Need-add-index Inv-loop μ-loop
-add-index c = omega arith
+add-index c = omega (arith, silent-goes _ _ _ _ _ _ (c .silent-stride .ensures) (omega arith))
 
 loop-less : tie.Need-loop-less Inv-loop μ-loop
-loop-less c = omega arith
+loop-less c = omega (arith, silent-goes _ _ _ _ _ _ (c .silent-stride .ensures) (omega arith))
 
 loop-again : tie.Need-loop-again Inv-loop μ-loop
 loop-again c =
-    let p4 = c .before .before .before .before in
-    let p7 = p4 .before .before .before in
-    let p8 = p7 .before in
-    let p9 = p8 .before in
-    let p12 = p9 .before .before .before in
-    let a = p12 .args in (
-      omega arith,
-      p4 .reset-at .kept .1 .0 ∙ p9 .loop .inv .1,
-      step-made (a .at) (resetAt (a .base) (a .handler)) (λ i. entryAt (a .table) i importIndexedSymbolEntrySize) (p9 .loop .index)
-          (a .count) (p9 .loop .w, p9 .loop .trace) (p9 .loop .inv .2) (p8 .loop-test .taken) (p7 .entry-address .ensures) (p4 .reset-at .ensures),
-      p4 .reset-at .kept .1 .1 .0 ∙ p9 .loop .inv .3,
+    let p6 = c .before .before .before .before .before .before in
+    let p9 = p6 .before .before .before in
+    let p10 = p9 .before in
+    let p11 = p10 .before in
+    let p14 = p11 .before .before .before in
+    let a = p14 .args in (
+      omega (arith, silent-goes _ _ _ _ _ _ (c .silent-stride .ensures) (omega arith)),
+      p6 .reset-at .kept .1 .0 ∙ p11 .loop .inv .1,
+      strides-made (a .at) (resetAt (a .base) (a .handler)) importIndexedSymbolEntrySize (a .table) (p11 .loop .index)
+          (a .count) (p11 .loop .w, p11 .loop .trace) (p11 .loop .inv .2) (p10 .loop-test .taken) (p9 .entry-address .ensures) (p6 .reset-at .ensures)
+          (c .silent-stride .ensures) (at-idle (a .at) (a .base) (a .handler)),
+      p6 .reset-at .kept .1 .1 .0 ∙ p11 .loop .inv .3,
     )
 
 same-length : tie.Need-same-length Inv-loop μ-loop
@@ -82,6 +90,8 @@ reset-table-spec =
     loop-holds
     entry-address-requires
     reset-at-requires
+    sub-silent-stride
+    silent-stride-requires
     add-index
     loop-less
     loop-again

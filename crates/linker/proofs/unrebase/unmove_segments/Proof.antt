@@ -1,4 +1,4 @@
--- A counted loop: `unmove-starts`, `step-made`, `steps-over`.
+-- A counted loop: `unmove-starts`, `step-made`, `unmoved-past`, `steps-over`.
 use Prim.Native.Nat.{_-_, _≤_}
 use mathlib.Core.Path.{_≡_, refl, _∙_, ap}
 use native.Mathlib.Omega.{arith}
@@ -6,9 +6,11 @@ use lib.ListN.{length}
 use borrow.Author.Needs.{needs}
 use Rattle.window.specs.Trace.{runT}
 use Rattle.window.specs.Loop.{loop}
+use Rattle.window.specs.Outside.{silent-goes}
 use Rattle.linker_spec.specs.Unrebase.{unmoveSegment}
 use Rattle.window.specs.TraceRuns.{step-made, steps-over, left}
 use Rattle.linker.proofs.unrebase.Laws.{unmove-starts}
+use Rattle.linker.proofs.rebase.Outside.{unmoved-past}
 use Rattle.linker.proofs.unrebase.unmove_segments.Statement.{statement}
 use Rattle.linker.proofs.unrebase.unmove_segments.Tie as tie
 
@@ -32,25 +34,33 @@ loop-holds c = (omega arith, refl, refl, refl)
 unmove-segment-requires : tie.Need-unmove-segment-requires Inv-loop μ-loop
 unmove-segment-requires c κs = search needs
 
+sub-segment-stride : tie.Need-sub-segment-stride Inv-loop μ-loop
+sub-segment-stride c = omega arith
+
+segment-stride-requires : tie.Need-segment-stride-requires Inv-loop μ-loop
+segment-stride-requires c κs = search needs
+
 add-index : tie.Need-add-index Inv-loop μ-loop
-add-index c = omega arith
+add-index c = omega (arith, silent-goes _ _ _ _ _ _ (c .segment-stride .ensures) (omega arith))
 
 loop-less : tie.Need-loop-less Inv-loop μ-loop
-loop-less c = omega arith
+loop-less c = omega (arith, silent-goes _ _ _ _ _ _ (c .segment-stride .ensures) (omega arith))
 
 loop-again : tie.Need-loop-again Inv-loop μ-loop
 loop-again c =
-    let p4 = c .before .before .before .before in
-    let p7 = p4 .before .before .before in
-    let p8 = p7 .before in
-    let p11 = p8 .before .before .before in
-    let p16 = p11 .before .before .before .before .before in
-    let a = p16 .args in (
-      omega arith,
-      p4 .unmove-segment .kept .1 .0 ∙ p8 .loop .inv .1,
-      step-made (a .at) (unmoveSegment (a .base)) (λ i. i) (p8 .loop .index) (p11 .field .result) (p8 .loop .w, p8 .loop .trace) (p8 .loop .inv .2)
-          (p7 .loop-test .taken) refl (p4 .unmove-segment .ensures),
-      p4 .unmove-segment .kept .1 .1 .0 ∙ p8 .loop .inv .3,
+    let p7 = c .before .before .before .before .before .before .before in
+    let p10 = p7 .before .before .before in
+    let p11 = p10 .before in
+    let p14 = p11 .before .before .before in
+    let p19 = p14 .before .before .before .before .before in
+    let a = p19 .args in (
+      omega (arith, silent-goes _ _ _ _ _ _ (c .segment-stride .ensures) (omega arith)),
+      p7 .unmove-segment .kept .1 .0 ∙ p11 .loop .inv .1,
+      unmoved-past (a .at) (p11 .loop .index) (p14 .field .result) _ _ (p10 .loop-test .taken) (a .base)
+          (step-made (a .at) (unmoveSegment (a .base)) (λ i. i) (p11 .loop .index) (p14 .field .result) (p11 .loop .w, p11 .loop .trace) (p11 .loop .inv .2)
+          (p10 .loop-test .taken) refl (p7 .unmove-segment .ensures))
+          (c .segment-stride .ensures),
+      p7 .unmove-segment .kept .1 .1 .0 ∙ p11 .loop .inv .3,
     )
 
 same-length : tie.Need-same-length Inv-loop μ-loop
@@ -83,6 +93,8 @@ unmove-segments-spec =
     field-requires
     loop-holds
     unmove-segment-requires
+    sub-segment-stride
+    segment-stride-requires
     add-index
     loop-less
     loop-again

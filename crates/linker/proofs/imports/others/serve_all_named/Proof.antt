@@ -1,4 +1,4 @@
--- A counted loop over the table: `table-starts`, `step-made`, `steps-over`.
+-- A counted loop over the table: `table-starts`, `strides-made`, `steps-over`.
 use Prim.Native.Nat.{_-_, _≤_}
 use mathlib.Core.Path.{_≡_, refl, ap, _∙_}
 use native.Mathlib.Omega.{arith}
@@ -10,9 +10,10 @@ use Rattle.layout.specs.Header.{importNamedSymbolTableOffset, importNamedSymbol
 use Rattle.layout.specs.Segments.{entryAt}
 use Rattle.register.specs.Read.Read.{moduleAt}
 use Rattle.linker_spec.specs.Imports.{serveNamed}
-use Rattle.window.specs.TraceRuns.{left, step-made, steps-over}
+use Rattle.window.specs.TraceRuns.{left, steps-over}
+use Rattle.window.specs.Outside.{silent-goes, strides-made}
 use Rattle.linker.specs.Imports.Served.{serveAllNamed}
-use Rattle.linker.proofs.imports.Laws.{table-starts}
+use Rattle.linker.proofs.imports.Laws.{table-starts, serve-named-idle}
 use Rattle.linker.proofs.imports.others.serve_all_named.Statement.{statement}
 use Rattle.linker.proofs.imports.others.serve_all_named.Tie as tie
 
@@ -42,28 +43,35 @@ entry-address-requires c κs = search needs
 serve-named-requires : tie.Need-serve-named-requires Inv-loop μ-loop
 serve-named-requires c κs = search needs
 
+sub-silent-stride : tie.Need-sub-silent-stride Inv-loop μ-loop
+sub-silent-stride c = omega arith
+
+silent-stride-requires : tie.Need-silent-stride-requires Inv-loop μ-loop
+silent-stride-requires c κs = search needs
+
 add-index : tie.Need-add-index Inv-loop μ-loop
-add-index c = omega arith
+add-index c = omega (arith, silent-goes _ _ _ _ _ _ (c .silent-stride .ensures) (omega arith))
 
 loop-less : tie.Need-loop-less Inv-loop μ-loop
-loop-less c = omega arith
+loop-less c = omega (arith, silent-goes _ _ _ _ _ _ (c .silent-stride .ensures) (omega arith))
 
 loop-again : tie.Need-loop-again Inv-loop μ-loop
 loop-again c =
-    let p4 = c .before .before .before .before in
-    let p7 = p4 .before .before .before in
-    let p8 = p7 .before in
-    let p9 = p8 .before in
-    let p12 = p9 .before .before .before in
-    let p17 = p12 .before .before .before .before .before in
-    let p24 = p17 .before .before .before .before .before .before .before in
-    let a = p24 .args in
+    let p6 = c .before .before .before .before .before .before in
+    let p9 = p6 .before .before .before in
+    let p10 = p9 .before in
+    let p11 = p10 .before in
+    let p14 = p11 .before .before .before in
+    let p19 = p14 .before .before .before .before .before in
+    let p26 = p19 .before .before .before .before .before .before .before in
+    let a = p26 .args in
     let m = moduleAt (a .records .now) (a .names .now) (a .place) in (
-      omega arith,
-      p4 .serve-named .kept .1 .0 ∙ p9 .loop .inv .1,
-      step-made (a .at) (serveNamed m (a .base)) (λ i. entryAt (p17 .field .result) i importNamedSymbolEntrySize) (p9 .loop .index)
-          (p12 .field2 .result) (p9 .loop .w, p9 .loop .trace) (p9 .loop .inv .2) (p8 .loop-test .taken) (p7 .entry-address .ensures) (p4 .serve-named .ensures),
-      p4 .serve-named .kept .1 .1 .0 ∙ p9 .loop .inv .3,
+      omega (arith, silent-goes _ _ _ _ _ _ (c .silent-stride .ensures) (omega arith)),
+      p6 .serve-named .kept .1 .0 ∙ p11 .loop .inv .1,
+      strides-made (a .at) (serveNamed m (a .base)) importNamedSymbolEntrySize (p19 .field .result) (p11 .loop .index)
+          (p14 .field2 .result) (p11 .loop .w, p11 .loop .trace) (p11 .loop .inv .2) (p10 .loop-test .taken) (p9 .entry-address .ensures) (p6 .serve-named .ensures)
+          (c .silent-stride .ensures) (serve-named-idle (a .at) (a .base) m),
+      p6 .serve-named .kept .1 .1 .0 ∙ p11 .loop .inv .3,
     )
 
 same-length : tie.Need-same-length Inv-loop μ-loop
@@ -102,6 +110,8 @@ serve-all-named-spec =
     loop-holds
     entry-address-requires
     serve-named-requires
+    sub-silent-stride
+    silent-stride-requires
     add-index
     loop-less
     loop-again

@@ -1,4 +1,4 @@
--- A counted loop over the table, the missing names handed on: `table-starts`, `reached-starts`, `reached-next`, `reached-over`.
+-- A counted loop over the table, the missing names handed on: `table-starts`, `reached-starts`, `reached-next`, `reached-past`, `reached-over`.
 use Prim.Native.Nat.{_-_, _≤_}
 use mathlib.Core.Path.{_≡_, refl, _∙_}
 use native.Mathlib.Omega.{arith}
@@ -6,11 +6,12 @@ use lib.ListN.{length}
 use borrow.Author.Needs.{needs}
 use Rattle.window.specs.Trace.{runT}
 use Rattle.window.specs.Loop.{loop}
+use Rattle.window.specs.Outside.{silent-goes}
 use Rattle.layout.specs.Header.{importNamedSymbolTableOffset, importNamedSymbolNum}
 use Rattle.register.specs.Decode.{registerOf}
 use Rattle.linker_spec.specs.Imports.{applyImportNamedSymbols}
 use Rattle.linker.proofs.imports.Laws.{table-starts}
-use Rattle.linker.proofs.imports.Missing.{turn, Reached, reached-starts, reached-next, reached-over}
+use Rattle.linker.proofs.imports.Missing.{turn, Reached, reached-starts, reached-next, reached-past, reached-over}
 use Rattle.linker.proofs.imports.own.apply_import_named_symbols.Statement.{statement}
 use Rattle.linker.proofs.imports.own.apply_import_named_symbols.Tie as tie
 
@@ -55,31 +56,39 @@ entry-address-requires c κs = search needs
 import-named-requires : tie.Need-import-named-requires Inv-loop μ-loop
 import-named-requires c κs = search needs
 
+sub-silent-stride : tie.Need-sub-silent-stride Inv-loop μ-loop
+sub-silent-stride c = omega arith
+
+silent-stride-requires : tie.Need-silent-stride-requires Inv-loop μ-loop
+silent-stride-requires c κs = search needs
+
 add-index : tie.Need-add-index Inv-loop μ-loop
-add-index c = omega arith
+add-index c = omega (arith, silent-goes _ _ _ _ _ _ (c .silent-stride .ensures) (omega arith))
 
 loop-less : tie.Need-loop-less Inv-loop μ-loop
-loop-less c = omega arith
+loop-less c = omega (arith, silent-goes _ _ _ _ _ _ (c .silent-stride .ensures) (omega arith))
 
 loop-again : tie.Need-loop-again Inv-loop μ-loop
 loop-again c =
-    let p8 = c .before .before .before .before .before .before .before .before in
-    let p13 = p8 .before .before .before .before .before in
-    let p14 = p13 .before in
-    let p15 = p14 .before in
-    let p18 = p15 .before .before .before in
-    let p23 = p18 .before .before .before .before .before in
-    let p31 = p23 .before .before .before .before .before .before .before .before in
-    let a = p31 .args in
+    let p10 = c .before .before .before .before .before .before .before .before .before .before in
+    let p15 = p10 .before .before .before .before .before in
+    let p16 = p15 .before in
+    let p17 = p16 .before in
+    let p20 = p17 .before .before .before in
+    let p25 = p20 .before .before .before .before .before in
+    let p33 = p25 .before .before .before .before .before .before .before .before in
+    let a = p33 .args in
     let r = registerOf (a .records .now) (a .names .now) (a .missing .now) in (
-      omega arith,
-      p8 .import-named .kept .1 .0 ∙ p15 .loop .inv .1,
-      p8 .import-named .kept .1 .1 .1 .0 ∙ p15 .loop .inv .2,
-      p8 .import-named .kept .1 .1 .1 .1 .1 .0 ∙ p15 .loop .inv .3,
-      reached-next (a .at) (a .base) (p23 .field .result) r (a .records .now) (p15 .loop .records) (a .names .now) (p15 .loop .missing)
-          (p15 .loop .index) (p18 .field2 .result) (p15 .loop .w, p15 .loop .trace) _ (p15 .loop .inv .4) _ _ (p14 .loop-test .taken) (p13 .entry-address .ensures)
-          (p8 .import-named .ensures),
-      p8 .import-named .kept .1 .1 .0 ∙ p15 .loop .inv .5,
+      omega (arith, silent-goes _ _ _ _ _ _ (c .silent-stride .ensures) (omega arith)),
+      p10 .import-named .kept .1 .0 ∙ p17 .loop .inv .1,
+      p10 .import-named .kept .1 .1 .1 .0 ∙ p17 .loop .inv .2,
+      p10 .import-named .kept .1 .1 .1 .1 .1 .0 ∙ p17 .loop .inv .3,
+      reached-past (a .at) (a .base) (p25 .field .result) r (a .records .now) _ (a .names .now) _ (p17 .loop .index) (p20 .field2 .result) _ _ _
+          (reached-next (a .at) (a .base) (p25 .field .result) r (a .records .now) (p17 .loop .records) (a .names .now) (p17 .loop .missing)
+          (p17 .loop .index) (p20 .field2 .result) (p17 .loop .w, p17 .loop .trace) _ (p17 .loop .inv .4) _ _ (p16 .loop-test .taken) (p15 .entry-address .ensures)
+          (p10 .import-named .ensures))
+          (p16 .loop-test .taken) (p15 .entry-address .ensures) (c .silent-stride .ensures),
+      p10 .import-named .kept .1 .1 .0 ∙ p17 .loop .inv .5,
     )
 
 same-length : tie.Need-same-length Inv-loop μ-loop
@@ -123,6 +132,8 @@ apply-import-named-symbols-spec =
     loop-holds
     entry-address-requires
     import-named-requires
+    sub-silent-stride
+    silent-stride-requires
     add-index
     loop-less
     loop-again

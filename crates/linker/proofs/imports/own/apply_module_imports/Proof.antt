@@ -1,4 +1,4 @@
--- A counted loop over the table: `table-starts`, `step-made`, `steps-over`.
+-- A counted loop over the table: `table-starts`, `strides-made`, `steps-over`.
 use Prim.Native.Nat.{_-_, _≤_}
 use mathlib.Core.Path.{_≡_, refl, ap, _∙_}
 use native.Mathlib.Omega.{arith}
@@ -10,8 +10,9 @@ use Rattle.layout.specs.Header.{importModuleTableOffset, importModuleNum, impor
 use Rattle.layout.specs.Segments.{entryAt}
 use Rattle.register.specs.Read.Read.{modulesOf}
 use Rattle.linker_spec.specs.Imports.{importModule, applyModuleImports}
-use Rattle.window.specs.TraceRuns.{left, step-made, steps-over}
-use Rattle.linker.proofs.imports.Laws.{table-starts}
+use Rattle.window.specs.TraceRuns.{left, steps-over}
+use Rattle.window.specs.Outside.{silent-goes, strides-made}
+use Rattle.linker.proofs.imports.Laws.{table-starts, import-module-idle}
 use Rattle.linker.proofs.imports.own.apply_module_imports.Statement.{statement}
 use Rattle.linker.proofs.imports.own.apply_module_imports.Tie as tie
 
@@ -41,28 +42,35 @@ entry-address-requires c κs = search needs
 import-module-requires : tie.Need-import-module-requires Inv-loop μ-loop
 import-module-requires c κs = search needs
 
+sub-silent-stride : tie.Need-sub-silent-stride Inv-loop μ-loop
+sub-silent-stride c = omega arith
+
+silent-stride-requires : tie.Need-silent-stride-requires Inv-loop μ-loop
+silent-stride-requires c κs = search needs
+
 add-index : tie.Need-add-index Inv-loop μ-loop
-add-index c = omega arith
+add-index c = omega (arith, silent-goes _ _ _ _ _ _ (c .silent-stride .ensures) (omega arith))
 
 loop-less : tie.Need-loop-less Inv-loop μ-loop
-loop-less c = omega arith
+loop-less c = omega (arith, silent-goes _ _ _ _ _ _ (c .silent-stride .ensures) (omega arith))
 
 loop-again : tie.Need-loop-again Inv-loop μ-loop
 loop-again c =
-    let p4 = c .before .before .before .before in
-    let p7 = p4 .before .before .before in
-    let p8 = p7 .before in
-    let p9 = p8 .before in
-    let p12 = p9 .before .before .before in
-    let p17 = p12 .before .before .before .before .before in
-    let p24 = p17 .before .before .before .before .before .before .before in
-    let a = p24 .args in (
-      omega arith,
-      p4 .import-module .kept .1 .0 ∙ p9 .loop .inv .1,
-      step-made (a .at) (importModule (modulesOf (a .records .now) (a .names .now)) (a .base))
-          (λ i. entryAt (p17 .field .result) i importModuleEntrySize) (p9 .loop .index)
-          (p12 .field2 .result) (p9 .loop .w, p9 .loop .trace) (p9 .loop .inv .2) (p8 .loop-test .taken) (p7 .entry-address .ensures) (p4 .import-module .ensures),
-      p4 .import-module .kept .1 .1 .0 ∙ p9 .loop .inv .3,
+    let p6 = c .before .before .before .before .before .before in
+    let p9 = p6 .before .before .before in
+    let p10 = p9 .before in
+    let p11 = p10 .before in
+    let p14 = p11 .before .before .before in
+    let p19 = p14 .before .before .before .before .before in
+    let p26 = p19 .before .before .before .before .before .before .before in
+    let a = p26 .args in (
+      omega (arith, silent-goes _ _ _ _ _ _ (c .silent-stride .ensures) (omega arith)),
+      p6 .import-module .kept .1 .0 ∙ p11 .loop .inv .1,
+      strides-made (a .at) (importModule (modulesOf (a .records .now) (a .names .now)) (a .base))
+          importModuleEntrySize (p19 .field .result) (p11 .loop .index)
+          (p14 .field2 .result) (p11 .loop .w, p11 .loop .trace) (p11 .loop .inv .2) (p10 .loop-test .taken) (p9 .entry-address .ensures) (p6 .import-module .ensures)
+          (c .silent-stride .ensures) (import-module-idle (a .at) (a .base) (modulesOf (a .records .now) (a .names .now))),
+      p6 .import-module .kept .1 .1 .0 ∙ p11 .loop .inv .3,
     )
 
 same-length : tie.Need-same-length Inv-loop μ-loop
@@ -101,6 +109,8 @@ apply-module-imports-spec =
     loop-holds
     entry-address-requires
     import-module-requires
+    sub-silent-stride
+    silent-stride-requires
     add-index
     loop-less
     loop-again

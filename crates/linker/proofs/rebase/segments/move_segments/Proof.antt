@@ -1,4 +1,4 @@
--- A counted loop up to the first refusal: `segments-start`, `segments-on`, `segments-refused`, `turns-over`.
+-- A counted loop up to the first refusal: `segments-start`, `segments-on`, `moved-past`, `segments-refused`, `turns-over`.
 use Prim.Native.Nat.{_-_, _≤_}
 use mathlib.Core.Path.{_≡_, refl, _∙_}
 use native.Mathlib.Omega.{arith}
@@ -6,10 +6,12 @@ use lib.ListN.{length}
 use borrow.Author.Needs.{needs}
 use Rattle.window.specs.Trace.{runT}
 use Rattle.window.specs.Loop.{loop}
+use Rattle.window.specs.Outside.{silent-goes}
 use Rattle.linker_spec.specs.declared.rebase.Moved.the-variants.{OldPlace}
 use Rattle.linker_spec.specs.Rebase.{moveSegment}
 use Rattle.window.specs.TraceRuns.{turns-over}
 use Rattle.linker.proofs.rebase.Laws.{segments-start, segments-refused, segments-on}
+use Rattle.linker.proofs.rebase.Outside.{moved-past}
 use Rattle.linker.proofs.rebase.segments.move_segments.Statement.{statement}
 use Rattle.linker.proofs.rebase.segments.move_segments.Tie as tie
 
@@ -64,26 +66,34 @@ returns c =
     (p9 .loop-test .taken) (p6 .move-segment .ensures) (c .enum-told .given .1)
     ∙ segments-start (a .at) (a .lent) (a .w .now, a .trace .now) (p13 .field .ensures)
 
+sub-segment-stride : tie.Need-sub-segment-stride Inv-loop μ-loop
+sub-segment-stride c = omega arith
+
+segment-stride-requires : tie.Need-segment-stride-requires Inv-loop μ-loop
+segment-stride-requires c κs = search needs
+
 add-index : tie.Need-add-index Inv-loop μ-loop
-add-index c = omega arith
+add-index c = omega (arith, silent-goes _ _ _ _ _ _ (c .segment-stride .ensures) (omega arith))
 
 loop-less : tie.Need-loop-less Inv-loop μ-loop
-loop-less c = omega arith
+loop-less c = omega (arith, silent-goes _ _ _ _ _ _ (c .segment-stride .ensures) (omega arith))
 
 loop-again : tie.Need-loop-again Inv-loop μ-loop
 loop-again c =
-    let p1 = c .before in
-    let p7 = p1 .before .before .before .before .before .before in
-    let p10 = p7 .before .before .before in
-    let p11 = p10 .before in
-    let p14 = p11 .before .before .before in
-    let p19 = p14 .before .before .before .before .before in
-    let a = p19 .args in (
-      omega arith,
-      p7 .move-segment .kept .1 .0 ∙ p11 .loop .inv .1,
-      segments-on (a .at) (a .lent) (p11 .loop .w, p11 .loop .trace) (p11 .loop .index) (p14 .field .result) (OldPlace (p11 .loop .old)) (p11 .loop .inv .2)
-          (p10 .loop-test .taken) (p7 .move-segment .ensures) (p1 .next .given .1),
-      p7 .move-segment .kept .1 .1 .0 ∙ p11 .loop .inv .3,
+    let p4 = c .before .before .before .before in
+    let p10 = p4 .before .before .before .before .before .before in
+    let p13 = p10 .before .before .before in
+    let p14 = p13 .before in
+    let p17 = p14 .before .before .before in
+    let p22 = p17 .before .before .before .before .before in
+    let a = p22 .args in (
+      omega (arith, silent-goes _ _ _ _ _ _ (c .segment-stride .ensures) (omega arith)),
+      p10 .move-segment .kept .1 .0 ∙ p14 .loop .inv .1,
+      moved-past (a .at) (p14 .loop .index) (p17 .field .result) _ _ (p13 .loop-test .taken) (a .lent) _
+          (segments-on (a .at) (a .lent) (p14 .loop .w, p14 .loop .trace) (p14 .loop .index) (p17 .field .result) (OldPlace (p14 .loop .old)) (p14 .loop .inv .2)
+          (p13 .loop-test .taken) (p10 .move-segment .ensures) (p4 .next .given .1))
+          (c .segment-stride .ensures),
+      p10 .move-segment .kept .1 .1 .0 ∙ p14 .loop .inv .3,
     )
 
 same-length-3 : tie.Need-same-length-3 Inv-loop μ-loop
@@ -121,6 +131,8 @@ move-segments-spec =
     same-length
     same-length-2
     returns
+    sub-segment-stride
+    segment-stride-requires
     add-index
     loop-less
     loop-again

@@ -1,4 +1,4 @@
--- A counted loop over the table: `table-starts`, `step-made`, `steps-over`.
+-- A counted loop over the table: `table-starts`, `strides-made`, `steps-over`.
 use Prim.Native.Nat.{ℕ, _-_, _≤_}
 use mathlib.Core.Path.{_≡_, refl, _∙_}
 use mathlib.Core.List.{List}
@@ -11,9 +11,10 @@ use Rattle.layout.specs.Header.{importIndexedSymbolEntrySize}
 use Rattle.layout.specs.Segments.{entryAt}
 use Rattle.register.specs.Read.Read.{moduleAt}
 use Rattle.linker_spec.specs.Imports.{importFrom}
-use Rattle.window.specs.TraceRuns.{step-made, steps-over}
+use Rattle.window.specs.TraceRuns.{steps-over}
+use Rattle.window.specs.Outside.{silent-goes, strides-made}
 use Rattle.linker.specs.Sources.Source.{symbolOf, importTable}
-use Rattle.linker.proofs.sources.Laws.{table-starts}
+use Rattle.linker.proofs.sources.Laws.{table-starts, from-idle}
 use Rattle.linker.proofs.sources.source.import_table.Statement.{statement}
 use Rattle.linker.proofs.sources.source.import_table.Tie as tie
 
@@ -47,26 +48,33 @@ entry-address-requires c κs = search needs
 import-from-requires : tie.Need-import-from-requires Inv-loop μ-loop
 import-from-requires c κs = search needs
 
+sub-silent-stride : tie.Need-sub-silent-stride Inv-loop μ-loop
+sub-silent-stride c = omega arith
+
+silent-stride-requires : tie.Need-silent-stride-requires Inv-loop μ-loop
+silent-stride-requires c κs = search needs
+
 add-index : tie.Need-add-index Inv-loop μ-loop
-add-index c = omega arith
+add-index c = omega (arith, silent-goes _ _ _ _ _ _ (c .silent-stride .ensures) (omega arith))
 
 loop-less : tie.Need-loop-less Inv-loop μ-loop
-loop-less c = omega arith
+loop-less c = omega (arith, silent-goes _ _ _ _ _ _ (c .silent-stride .ensures) (omega arith))
 
 loop-again : tie.Need-loop-again Inv-loop μ-loop
 loop-again c =
-    let p4 = c .before .before .before .before in
-    let p7 = p4 .before .before .before in
-    let p8 = p7 .before in
-    let p9 = p8 .before in
-    let p13 = p9 .before .before .before .before in
-    let a = p13 .args in (
-      omega arith,
-      p4 .import-from .kept .1 .0 ∙ p9 .loop .inv .1,
-      λ names. step-made (a .at) (importFrom (symbolOf (a .kind) (moduleAt (a .records .now) names (a .place))) (a .base))
-          (λ i. entryAt (a .table) i importIndexedSymbolEntrySize) (p9 .loop .index) (a .count) (p9 .loop .w, p9 .loop .trace) (p9 .loop .inv .2 names)
-          (p8 .loop-test .taken) (p7 .entry-address .ensures) (p4 .import-from .ensures names),
-      p4 .import-from .kept .1 .1 .0 ∙ p9 .loop .inv .3,
+    let p6 = c .before .before .before .before .before .before in
+    let p9 = p6 .before .before .before in
+    let p10 = p9 .before in
+    let p11 = p10 .before in
+    let p15 = p11 .before .before .before .before in
+    let a = p15 .args in (
+      omega (arith, silent-goes _ _ _ _ _ _ (c .silent-stride .ensures) (omega arith)),
+      p6 .import-from .kept .1 .0 ∙ p11 .loop .inv .1,
+      λ names. strides-made (a .at) (importFrom (symbolOf (a .kind) (moduleAt (a .records .now) names (a .place))) (a .base))
+          importIndexedSymbolEntrySize (a .table) (p11 .loop .index) (a .count) (p11 .loop .w, p11 .loop .trace) (p11 .loop .inv .2 names)
+          (p10 .loop-test .taken) (p9 .entry-address .ensures) (p6 .import-from .ensures names)
+          (c .silent-stride .ensures) (from-idle (a .at) (a .base) (symbolOf (a .kind) (moduleAt (a .records .now) names (a .place)))),
+      p6 .import-from .kept .1 .1 .0 ∙ p11 .loop .inv .3,
     )
 
 same-length : tie.Need-same-length Inv-loop μ-loop
@@ -93,6 +101,8 @@ import-table-spec =
     loop-holds
     entry-address-requires
     import-from-requires
+    sub-silent-stride
+    silent-stride-requires
     add-index
     loop-less
     loop-again

@@ -1,0 +1,2 @@
+-- What the proofs of `linker::sorted` share.
+pub mod Laws

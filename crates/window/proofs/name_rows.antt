@@ -1,0 +1,2 @@
+-- What the proofs of `window::name_rows` share.
+pub mod Laws

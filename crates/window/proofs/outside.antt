@@ -1,0 +1,2 @@
+-- What the proofs of the module `outside` share.
+pub mod Laws

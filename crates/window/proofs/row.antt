@@ -1,0 +1,2 @@
+-- What the proofs of the module `row` share, and those of what reads a row.
+pub mod Laws
