@@ -10,8 +10,9 @@
  * must not overlap. The inline functions at the end take structs in place of the linker's long lists of arguments, and allow a null
  * pointer where a length is 0.
  * A call keeps no pointer, allocates nothing, and has no state but the buffers. Every call ends on any bytes and
- * any arguments, but not always soon: time grows with an image's counts, and with their product where counts nest. A host that takes
- * images from anywhere calls on a thread that it can spare, or looks at the counts first. C99 or C++.
+ * any arguments. A count, however great, costs no more than what of its table lies in the window; but counts that nest there multiply:
+ * module entries, their imports, the entries of a batch. A host that takes images from anywhere calls on a thread that it can spare.
+ * C99 or C++.
  *
  * The window: a part of a 32-bit address space.
  *   at       the address of its first byte, a multiple of 4,096

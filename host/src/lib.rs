@@ -7,9 +7,9 @@
 //! bytes below the window, is dropped whole, and one that runs off the window's end keeps its bytes inside; of any other
 //! word the bytes inside are written.
 //!
-//! The calls are proved to end on any bytes, to touch nothing but the buffers lent, and to do what their definition says. They do
-//! not always end soon: time grows with an image's counts, and with their product where counts nest. A host that takes images from
-//! anywhere calls on a thread that it can spare, or looks at the counts first.
+//! The calls are proved to end on any bytes, to touch nothing but the buffers lent, and to do what their definition says. A count,
+//! however great, costs no more than what of its table lies in the window; but counts that nest there multiply: module entries, their
+//! imports, the entries of a batch. A host that takes images from anywhere calls on a thread that it can spare.
 //!
 //! An access with a byte outside the window is a *touch*: [`Linker::touch`] says whether the last call had one, and where the
 //! first of them started.

@@ -1,5 +1,5 @@
-//! Loads of a small module, one of whose counts is 2^24 or 2^32 - 1. Each side does each in a process of its own, which
-//! may use a minute and 4 GiB.
+//! Loads of a small module, one of whose counts is 2^24 or 2^32 - 1, and one whose counts nest, all inside the window. Each side does
+//! each in a process of its own, which may use a minute and 4 GiB.
 
 use crate::work::AT;
 use fillqhano::{Linker, Window};
@@ -10,6 +10,9 @@ use std::os::unix::process::ExitStatusExt;
 use std::process::Command;
 
 const COUNTS_TRIED: [u32; 2] = [1 << 24, u32::MAX];
+
+/// How many module entries nest.
+const NESTED_TRIED: [u32; 3] = [1, 16, 255];
 
 /// What is so many.
 #[derive(Clone, Copy)]
@@ -22,9 +25,11 @@ enum Hostile {
     Entry(u32),
     /// Nothing, but a batch begins where no end mark comes.
     Batch,
+    /// Module entries, each with 255 indexed imports of one batch of 0x1001 entries.
+    Nested,
 }
 
-const CASES: [(&str, Hostile); 12] = [
+const CASES: [(&str, Hostile); 13] = [
     ("segments", Hostile::Segments),
     ("named exports", Hostile::Header(COUNTS[1])),
     ("indexed exports", Hostile::Header(COUNTS[2])),
@@ -37,14 +42,20 @@ const CASES: [(&str, Hostile); 12] = [
     ("a module entry's indexed imports", Hostile::Entry(8)),
     ("a module entry's anonymous imports", Hostile::Entry(16)),
     ("a batch without an end mark", Hostile::Batch),
+    ("module entries, 255 walks each", Hostile::Nested),
 ];
+const NESTED: usize = CASES.len() - 1;
 
 pub fn all() {
     for count in COUNTS_TRIED {
         println!("{:<36} {:>18} {:>18}", format!("{count:#x}: number and time"), "linker", "Rust");
-        for (case, (name, _)) in CASES.iter().enumerate() {
+        for (case, (name, _)) in CASES[..NESTED].iter().enumerate() {
             println!("{name:<36} {:>18} {:>18}", limited("linker", case, count), limited("rust", case, count));
         }
+    }
+    for count in NESTED_TRIED {
+        let name = format!("{count} {}", CASES[NESTED].0);
+        println!("{name:<36} {:>18} {:>18}", limited("linker", NESTED, count), limited("rust", NESTED, count));
     }
 }
 
@@ -87,6 +98,9 @@ pub fn one(side: &str, case: &str, count: &str) {
 }
 
 fn session(hostile: Hostile, count: u32) -> (Vec<u8>, Step) {
+    if let Hostile::Nested = hostile {
+        return nested(count);
+    }
     let mut window = image().bytes();
     let size = window.len() as u32;
     window.resize(0x1000, 0);
@@ -101,6 +115,7 @@ fn session(hostile: Hostile, count: u32) -> (Vec<u8>, Step) {
         }
         Hostile::Entry(offset) => put(entry + offset, count),
         Hostile::Batch => put(import + 4, 0xF00),
+        Hostile::Nested => unreachable!("it has a window of its own"),
     }
     (window, Step { call: Call::Load, auto_link: 1, fix_level: 1, ..Step::initialize(AT, size) })
 }
@@ -116,4 +131,27 @@ fn image() -> Image {
     image.modules.push(FromModule { name: b"hostile".to_vec(), indexed: vec![indexed], anonymous: vec![anonymous] });
     image.internal.push(Internal { relocation: relocation(20), symbol: 0 });
     image
+}
+
+/// A module whose entries all name it, and all have the same 255 imports of its one indexed export. Their batch begins below the window, so
+/// its mark is never kept, and each of them walks it anew; no word of the window up to its 0x1001st entry is an end mark.
+fn nested(entries: u32) -> (Vec<u8>, Step) {
+    let (name, exports, table, imports, length) = (0x10, 0x20, 0x140, 0x1_0000, 0x1_1000);
+    let mut window = vec![0; length as usize];
+    let mut put = |at: u32, word: u32| window[at as usize..][..4].copy_from_slice(&word.to_le_bytes());
+    put(0x80, u32::from_le_bytes(*b"CRO0"));
+    put(name, u32::from_le_bytes(*b"n\0\0\0"));
+    for (field, offset, count) in [(0xC0, name, 2), (0xD8, exports, 1), (0xF0, table, entries)] {
+        put(field, offset);
+        put(field + 4, count);
+    }
+    for entry in (table..).step_by(20).take(entries as usize) {
+        put(entry, name);
+        put(entry + 4, imports);
+        put(entry + 8, 255);
+    }
+    for import in (imports..).step_by(8).take(255) {
+        put(import + 4, AT - 12);
+    }
+    (window, Step { call: Call::Load, auto_link: 1, ..Step::initialize(AT, length) })
 }

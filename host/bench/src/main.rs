@@ -1,6 +1,7 @@
 //! `bench [PART]`: times the linker and the Rust on the same work, both in one process and in turn, the best of several
 //! runs; of the rows with this part in their name. The writer, which the Rust has not, is timed against four copies of its description, and the desk
 //! against the same calls made directly.
+//! `bench --growth`: works that grow, a line each: what is counted, so many, and nanoseconds of linker and Rust; `tools/growth.py` plots it.
 //! `bench --hostile`: calls with counts of 2^24 and 2^32 - 1, each in a process of its own with a limit of time and memory.
 
 mod clock;
@@ -22,6 +23,7 @@ fn main() -> ExitCode {
     }
     let words: Vec<String> = std::env::args().skip(1).collect();
     match words.iter().map(String::as_str).collect::<Vec<_>>()[..] {
+        ["--growth"] => growth(),
         ["--hostile"] => hostile::all(),
         ["--hostile", side, case, count] => hostile::one(side, case, count),
         [part] => rows(part),
@@ -53,6 +55,15 @@ fn rows(part: &str) {
     let sends = "128 sends, which fill the desk";
     if sends.contains(part) {
         println!("{sends:<44} {:>10}", shown(Some(desk::sends())));
+    }
+}
+
+fn growth() {
+    for (counted, works) in Work::growing() {
+        for (size, work) in works {
+            let (linker, rust) = work.times();
+            println!("{counted}\t{size}\t{}\t{}", linker.as_nanos(), rust.map_or("-".into(), |rust| rust.as_nanos().to_string()));
+        }
     }
 }
 

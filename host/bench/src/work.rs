@@ -29,8 +29,25 @@ impl Work {
             register_test(),
             table_moves(),
             batch_walks(),
-            many_exports("5,000 named exports, as many imports", 5_000),
-            many_exports("20,000 named exports, as many imports", 20_000),
+            many_exports("5,000 mixed exports, as many imports", 5_000, mixed),
+            many_exports("20,000 mixed exports, as many imports", 20_000, mixed),
+            many_exports("5,000 ascending exports, as many imports", 5_000, ascending),
+            many_exports("20,000 ascending exports, as many imports", 20_000, ascending),
+            cold_session("a cold session: 24 modules, 200 calls", 200),
+            in_window("the large module in a window of 4 MiB", 4),
+            in_window("the large module in a window of 64 MiB", 64),
+        ]
+    }
+
+    /// Works that grow: what is counted, so many, and the work of that size.
+    pub fn growing() -> Vec<(&'static str, Vec<(u32, Work)>)> {
+        let sizes = |from: u32| [from, 3 * from, 10 * from, 30 * from, 100 * from];
+        let works = |sizes: &[u32], work: &dyn Fn(u32) -> Work| sizes.iter().map(|&size| (size, work(size))).collect();
+        vec![
+            ("mixed exports, as many imports", works(&sizes(500), &|size| many_exports("mixed", size, mixed))),
+            ("ascending exports, as many imports", works(&sizes(500), &|size| many_exports("ascending", size, ascending))),
+            ("calls of a cold session of 24 modules", works(&sizes(40)[..4], &|size| cold_session("cold", size as usize))),
+            ("MiB of window around the large module", works(&[4, 16, 64, 256], &|size| in_window("window", size as usize))),
         ]
     }
 
@@ -124,8 +141,21 @@ impl Stage {
 
 /// Export names as C++ has them: long, with a common beginning. Their order in the table is not that of the bytes.
 fn export(module: u32, index: u32) -> Vec<u8> {
-    let number = index / 10_000 * 10_000 + index.wrapping_mul(7919) % 10_000;
+    name(module, mixed(index))
+}
+
+fn name(module: u32, number: u32) -> Vec<u8> {
     format!("_ZN2gf{module:02}Module9component{number:04}EPKcj").into_bytes()
+}
+
+/// The number in the name of an export that stands here in its table: each of ten thousand once, in another order.
+fn mixed(index: u32) -> u32 {
+    index / 10_000 * 10_000 + index.wrapping_mul(7919) % 10_000
+}
+
+/// Numbers of five digits, so that the names stand in their order.
+fn ascending(index: u32) -> u32 {
+    10_000 + index
 }
 
 fn relocations(next: &mut u32, count: u32) -> Vec<Relocation> {
@@ -138,13 +168,28 @@ fn empty(name: &str, code: u32) -> Image {
     Image { name: name.into(), handler: tag(CODE_SEGMENT, 4), sizes: [code, 0, 0, 0], ..Image::default() }
 }
 
-fn with_exports(mut image: Image, module: u32, count: u32) -> Image {
-    image.exports = (0..count).map(|index| (export(module, index), tag(CODE_SEGMENT, 4 * index))).collect();
+fn with_exports(image: Image, module: u32, count: u32) -> Image {
+    with_ordered_exports(image, module, count, mixed)
+}
+
+fn with_ordered_exports(mut image: Image, module: u32, count: u32, order: fn(u32) -> u32) -> Image {
+    image.exports = (0..count).map(|index| (name(module, order(index)), tag(CODE_SEGMENT, 4 * index))).collect();
     image
 }
 
 /// 2,000 named exports, 2,000 named imports of two relocations each, 6,000 internal relocations, 3 MiB of code.
 fn large_module() -> Work {
+    large("load of a large module")
+}
+
+/// The same in a window that has so many MiB in all.
+fn in_window(name: &'static str, length: usize) -> Work {
+    let mut work = large(name);
+    work.window.resize(length << 20, 0);
+    work
+}
+
+fn large(name: &'static str) -> Work {
     let mut stage = Stage::new();
     stage.add(with_exports(empty("static", 0x4000), 0, 2000));
     let mut image = with_exports(empty("large", 0x30_0000), 1, 2000);
@@ -154,7 +199,7 @@ fn large_module() -> Work {
     image.internal = internal.into_iter().map(|relocation| Internal { relocation, symbol: 0 }).collect();
     stage.add(image);
     let timed = vec![stage.steps[1]];
-    stage.work("load of a large module", 1, timed)
+    stage.work(name, 1, timed)
 }
 
 /// A module of a scene: exports, imports from its neighbour and from the static module, by name, index and tag.
@@ -188,6 +233,19 @@ fn scene_swap() -> Work {
     // level 0 keeps the tables, so that a module that was unloaded can be loaded again
     stage.steps.iter_mut().for_each(|step| step.fix_level = 0);
     stage.work("ten scene swaps among 24 modules", 25, timed)
+}
+
+/// An evening: the static module and 24 others are taken in, then one after another leaves and comes again.
+fn cold_session(name: &'static str, calls: usize) -> Work {
+    let mut stage = Stage::new();
+    for number in 0..25 {
+        stage.add(scene_module(number, 100));
+    }
+    // level 0 keeps the tables, so that a module that was unloaded can be loaded again
+    stage.steps.iter_mut().for_each(|step| step.fix_level = 0);
+    let swaps = stage.steps[1..].iter().cycle().flat_map(|&step| [Step::unload(step.base), step]);
+    let timed = stage.steps.iter().copied().chain(swaps).take(calls).collect();
+    stage.work(name, 0, timed)
 }
 
 /// 64 modules of 16 exports and 16 imports, the static one among them.
@@ -244,13 +302,13 @@ fn batch_walks() -> Work {
 }
 
 /// Only names: so many exports, and as many imports of one relocation each, from a static module of as many exports.
-fn many_exports(name: &'static str, count: u32) -> Work {
+fn many_exports(name_of_row: &'static str, count: u32, order: fn(u32) -> u32) -> Work {
     let mut stage = Stage::new();
-    stage.add(with_exports(empty("static", 4 * count), 0, count));
-    let mut image = with_exports(empty("exports", 4 * count), 1, count);
+    stage.add(with_ordered_exports(empty("static", 4 * count), 0, count, order));
+    let mut image = with_ordered_exports(empty("exports", 4 * count), 1, count, order);
     let mut next = 0;
-    image.imports = (0..count).map(|index| (export(0, index), relocations(&mut next, 1))).collect();
+    image.imports = (0..count).map(|index| (name(0, order(index)), relocations(&mut next, 1))).collect();
     stage.add(image);
     let timed = vec![stage.steps[1]];
-    stage.work(name, 1, timed)
+    stage.work(name_of_row, 1, timed)
 }

@@ -1,5 +1,5 @@
-//! The six families of sessions. Counts are capped so that runs stay fast: a header's count stays below some thousands,
-//! unless the session itself changes it; a call that then needs too many accesses is cut.
+//! The seven families of sessions. But for the last, counts are capped so that runs stay fast: a header's count stays below some
+//! thousands, unless the session itself changes it; a call that then needs too many accesses is cut.
 
 use fillqhano::Linker;
 use sessions::image::{COUNTS, HEADER};
@@ -20,11 +20,17 @@ pub enum Family {
     Reaching,
     /// Sessions of the other kinds by the host's wrapper, whose buffers grow.
     Growing,
+    /// Sessions of the other kinds with counts up to 2^32 - 1.
+    Uncapped,
 }
 
 impl Family {
-    pub const ALL: [Family; 6] =
+    pub const CAPPED: [Family; 6] =
         [Family::WellLaid, Family::Damaged, Family::Overlapping, Family::Filling, Family::Reaching, Family::Growing];
+    pub const ALL: [Family; 7] = {
+        let [first, second, third, fourth, fifth, sixth] = Family::CAPPED;
+        [first, second, third, fourth, fifth, sixth, Family::Uncapped]
+    };
 
     pub fn name(self) -> &'static str {
         match self {
@@ -34,6 +40,7 @@ impl Family {
             Family::Filling => "filling",
             Family::Reaching => "reaching",
             Family::Growing => "growing",
+            Family::Uncapped => "uncapped",
         }
     }
 
@@ -47,6 +54,7 @@ impl Family {
             Family::Filling => filling(&mut random),
             Family::Reaching => reaching(&mut random),
             Family::Growing => growing(&mut random),
+            Family::Uncapped => uncapped(&mut random),
         }
     }
 }
@@ -586,4 +594,51 @@ fn growing(random: &mut Random) -> Session {
     let small = random.pick(&[0, 0x40, 0x200, 0x800]) + random.below(0x400) as usize;
     session.room = Room::Growing { limit: if random.once_in(4) { small } else { Linker::LIMIT } };
     session
+}
+
+fn uncapped(random: &mut Random) -> Session {
+    let mut session = match random.below(5) {
+        0 | 1 => well_laid(random),
+        2 => damaged(random),
+        3 => overlapping(random),
+        _ => reaching(random),
+    };
+    for _ in 0..random.from_to(1, 2) {
+        uncap(random, &mut session);
+    }
+    if random.once_in(4) {
+        session.room = Room::Growing { limit: Linker::LIMIT };
+    }
+    session
+}
+
+/// Makes a count of an image, or one of a module entry of it, great. Its table often begins near an edge of the window, so that its
+/// entries leave the window, or come back to it, anywhere in an entry.
+fn uncap(random: &mut Random, session: &mut Session) {
+    let base = some_base(random, session);
+    let place = base.wrapping_sub(session.at);
+    let field = random.pick(&COUNTS);
+    let count = if random.once_in(4) {
+        let entry = entry_of(random, session, place, 0xF0, 20);
+        entry.wrapping_add(random.pick(&[8, 16]))
+    } else {
+        place.wrapping_add(field)
+    };
+    let many = great(random);
+    put_wrapped(session, count, many);
+    if random.once_in(2) {
+        let near = edge(random, session).wrapping_sub(random.below(0x400));
+        let far = random.word();
+        let table = random.pick(&[near, near, near, far]);
+        put_wrapped(session, count.wrapping_sub(4), table.wrapping_sub(base));
+    }
+}
+
+/// A number of 8 to 32 bits, or one of the greatest.
+fn great(random: &mut Random) -> u32 {
+    if random.once_in(16) {
+        return u32::MAX - random.below(16);
+    }
+    let bits = random.from_to(8, 32);
+    (random.word() | 1 << 31) >> (32 - bits)
 }

@@ -24,7 +24,7 @@ impl Requests {
     /// Those of a seed and a number.
     pub fn new(seed: u64, number: u64) -> Requests {
         let mut random = Random::new(seed, 200, number);
-        let mut session = random.pick(&Family::ALL).session(seed, number);
+        let mut session = random.pick(&Family::CAPPED).session(seed, number);
         let page = if random.once_in(4) { None } else { add_page(&mut session) };
         let (mut rounds, mut round) = (Vec::new(), Vec::new());
         for step in &session.steps {
