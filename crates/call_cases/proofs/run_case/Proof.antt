@@ -1,12 +1,16 @@
+-- The buffers' lengths are told, since counting their zeros one by one is too long.
+use Prim.Native.Nat.{ℕ}
+use mathlib.Core.Path.{sym}
+use lib.ListN.{length-replicate}
 use borrow.Author.Needs.{needs}
 use Rattle.call_cases.proofs.run_case.Statement.{statement}
 use Rattle.call_cases.proofs.run_case.Tie as tie
 
 slice-aggregate-lay : tie.Need-slice-aggregate-lay
-slice-aggregate-lay c = search needs
+slice-aggregate-lay c = sym (length-replicate {A = ℕ} 65536 0)
 
 slice-aggregate-lay-2 : tie.Need-slice-aggregate-lay-2
-slice-aggregate-lay-2 c = search needs
+slice-aggregate-lay-2 c = sym (length-replicate {A = ℕ} 65536 0)
 
 add-lay : tie.Need-add-lay
 add-lay c = search needs
@@ -24,10 +28,10 @@ returns : tie.Need-returns
 returns c = search needs
 
 slice-aggregate-lay-3 : tie.Need-slice-aggregate-lay-3
-slice-aggregate-lay-3 c = search needs
+slice-aggregate-lay-3 c = sym (length-replicate {A = ℕ} 8192 0)
 
 slice-aggregate-lay-4 : tie.Need-slice-aggregate-lay-4
-slice-aggregate-lay-4 c = search needs
+slice-aggregate-lay-4 c = sym (length-replicate {A = ℕ} 8192 0)
 
 lay-requires-2 : tie.Need-lay-requires-2
 lay-requires-2 c κs = search needs
@@ -42,10 +46,10 @@ returns-2 : tie.Need-returns-2
 returns-2 c = search needs
 
 slice-aggregate-lay-5 : tie.Need-slice-aggregate-lay-5
-slice-aggregate-lay-5 c = search needs
+slice-aggregate-lay-5 c = sym (length-replicate {A = ℕ} 8192 0)
 
 slice-aggregate-lay-6 : tie.Need-slice-aggregate-lay-6
-slice-aggregate-lay-6 c = search needs
+slice-aggregate-lay-6 c = sym (length-replicate {A = ℕ} 8192 0)
 
 lay-requires-3 : tie.Need-lay-requires-3
 lay-requires-3 c κs = search needs
@@ -60,10 +64,10 @@ returns-3 : tie.Need-returns-3
 returns-3 c = search needs
 
 slice-aggregate-lay-7 : tie.Need-slice-aggregate-lay-7
-slice-aggregate-lay-7 c = search needs
+slice-aggregate-lay-7 c = sym (length-replicate {A = ℕ} 32900 0)
 
 slice-aggregate-lay-8 : tie.Need-slice-aggregate-lay-8
-slice-aggregate-lay-8 c = search needs
+slice-aggregate-lay-8 c = sym (length-replicate {A = ℕ} 32900 0)
 
 lay-requires-4 : tie.Need-lay-requires-4
 lay-requires-4 c κs = search needs

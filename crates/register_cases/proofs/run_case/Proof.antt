@@ -1,5 +1,7 @@
--- The three buffers in turn, and the verdict on them.
-use mathlib.Core.Path.{_∙_}
+-- The three buffers in turn, and the verdict on them. Their lengths are told, since counting their zeros one by one is too long.
+use Prim.Native.Nat.{ℕ}
+use mathlib.Core.Path.{sym, _∙_}
+use lib.ListN.{length-replicate}
 use borrow.Author.Needs.{needs}
 use Rattle.register_cases.specs.Cases.{caseOver}
 use Rattle.register_cases.proofs.Laws.{past, there, stop, on}
@@ -25,7 +27,7 @@ word-requires-3 : tie.Need-word-requires-3
 word-requires-3 c κs = search needs
 
 slice-aggregate-put-pieces : tie.Need-slice-aggregate-put-pieces
-slice-aggregate-put-pieces c = search needs
+slice-aggregate-put-pieces c = sym (length-replicate {A = ℕ} 8192 0)
 
 add-put-pieces : tie.Need-add-put-pieces
 add-put-pieces c = search needs
@@ -53,7 +55,7 @@ returns-2 c =
     ∙ there _ _ (s .before .before .before .before .before .before .if1 .left)
 
 slice-aggregate-put-pieces-2 : tie.Need-slice-aggregate-put-pieces-2
-slice-aggregate-put-pieces-2 c = search needs
+slice-aggregate-put-pieces-2 c = sym (length-replicate {A = ℕ} 8192 0)
 
 add-word-4 : tie.Need-add-word-4
 add-word-4 c = search needs
@@ -80,7 +82,7 @@ returns-3 c =
     ∙ there _ _ (s .before .before .before .before .before .before .if1 .left)
 
 slice-aggregate-put-pieces-3 : tie.Need-slice-aggregate-put-pieces-3
-slice-aggregate-put-pieces-3 c = search needs
+slice-aggregate-put-pieces-3 c = sym (length-replicate {A = ℕ} 32900 0)
 
 add-word-5 : tie.Need-add-word-5
 add-word-5 c = search needs
