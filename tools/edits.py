@@ -80,7 +80,7 @@ class Part:
 
     def has(self, file):
         """Whether the file is one of its function's proof; the folder of a function that calls itself begins with +."""
-        return self.proof is not None and file.replace("/+", "/").startswith(f"{self.proof}/")
+        return os.path.dirname(file.replace("/+", "/")) == self.proof
 
 
 def parts(edits, root):
