@@ -257,6 +257,7 @@ pub put_bytes_on
     : (n k at : ℕ) (w : List ℕ) (x v : ℕ) → k < n → n < 2 ^ 32 → place at (x + k) < length w
     → byte_at at (put_bytes n at w x v) (x + k) ≡ byte_of k v
 unfolding put_bytes byte_of
+put_bytes_on zero k at w x v l m h = elim l [ ]
 put_bytes_on (suc n) zero at w x v l m h =
     let z : x + 0 ≡ x = omega arith in
     let i : place at x < length w = rw z at h in
@@ -339,6 +340,7 @@ raised at w x v k = if reaches at w x k then byte_of k v else byte_at at w (x + 
 pub put_upward-at
     : (n k at : ℕ) (w : List ℕ) (x v : ℕ) → k < n → n < 2 ^ 32 → byte_at at (put_upward n at w x v) (x + k) ≡ raised at w x v k
 unfolding put_upward reaches byte_of
+put_upward-at zero k at w x v l m = elim l [ ]
 put_upward-at (suc n) zero at w x v l m = go (inside at w x) refl
   where
     z : x + 0 ≡ x

@@ -2,6 +2,8 @@
 // The test of a window and the five accesses stand here, names in `name`; other crates index a window only at places that `row` gave.
 // Each access says whether any of its bytes lay outside: the lent trace keeps where the first such access started.
 // Only this crate looks into a trace, and it is total in the trace's length.
+#![tactic(auto)]
+
 pub mod name;
 mod name_rows;
 pub mod outside;
