@@ -9,7 +9,7 @@ use register::exports::same_name;
 use register::words::word;
 
 // The first output of a call that is not the stored one.
-#[derive(Drop)]
+#[derive(Clone, Copy)]
 pub enum Verdict {
     Same,
     Number,

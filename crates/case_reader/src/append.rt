@@ -3,7 +3,7 @@ ghost use Rattle.std.specs.Prelude.{◌≡◌, ◌+◌, leb};
 ghost use Rattle.case_reader.specs.Append.{appended};
 
 // Where the next text goes, or that this one does not fit.
-#[derive(Drop)]
+#[derive(Clone, Copy)]
 pub enum NextPlace {
     At(usize),
     Full,

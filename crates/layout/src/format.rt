@@ -3,7 +3,7 @@ ghost use Rattle.std.specs.Prelude.{◌≡◌};
 ghost use Rattle.layout.specs.Format.{segment_type, segment_type_number, relocation_type, tag_segment, tag_offset};
 
 // Which part of a module a segment holds.
-#[derive(Drop)]
+#[derive(Clone, Copy)]
 pub enum SegmentType {
     Code,
     RoData,
@@ -35,7 +35,7 @@ impl SegmentType {
     }
 }
 
-#[derive(Drop)]
+#[derive(Clone, Copy)]
 pub struct Segment {
     pub offset: u32,
     pub size: u32,
@@ -63,7 +63,7 @@ pub const STATIC_ANONYMOUS_SYMBOL_ENTRY_SIZE: u32 = 8;
 pub const RELOCATION_ENTRY_SIZE: u32 = 0xC;
 
 // A position inside a module: a segment index in the low four bits, and a byte offset into that segment in the rest.
-#[derive(Drop)]
+#[derive(Clone, Copy)]
 pub struct SegmentTag(pub u32);
 
 impl SegmentTag {
@@ -81,7 +81,7 @@ impl SegmentTag {
 }
 
 // What a relocation does to its target word.
-#[derive(Drop)]
+#[derive(Clone, Copy)]
 pub enum RelocationType {
     Nothing,
     AbsoluteAddress,

@@ -6,7 +6,7 @@ ghost use Rattle.layout.specs.Relocation.Relocation.{relocated_word, apply_reloc
 use crate::format::RelocationType;
 
 // The word that a relocation writes, if it writes one.
-#[derive(Drop)]
+#[derive(Clone, Copy)]
 pub enum Patch {
     Word(u32),
     Nothing,

@@ -10,13 +10,13 @@ use crate::header::{SEGMENT_NUM, SEGMENT_TABLE_OFFSET};
 use window::load32;
 use window::row::{Row, row_of};
 
-#[derive(Drop)]
+#[derive(Clone, Copy)]
 pub enum FoundSegment {
     Found(Segment),
     Missing,
 }
 
-#[derive(Drop)]
+#[derive(Clone, Copy)]
 pub enum Address {
     At(u32),
     Nowhere,

@@ -75,7 +75,7 @@ const POINTER_TABLES: [u32; 35] = [
 ];
 
 // One row of it; offsets past the number of pointers are 0.
-#[derive(Drop)]
+#[derive(Clone, Copy)]
 pub struct PointerTable {
     pub table: u32,
     pub count: u32,

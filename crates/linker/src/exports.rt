@@ -32,7 +32,7 @@ use register::append::draft::{Draft, Drafted};
 use window::outside::stride;
 
 // Whether the module has its record.
-#[derive(Drop)]
+#[derive(Clone, Copy)]
 pub(crate) enum IndexResult {
     Appended,
     NoRoom,

@@ -2,7 +2,7 @@
 use crate::rebase::LoadArguments;
 
 // A call with its arguments; a load's last two are auto-link and the fix level.
-#[derive(Drop)]
+#[derive(Clone, Copy)]
 pub enum Call {
     Initialize(u32, u32),
     Load(LoadArguments, u32, u32),

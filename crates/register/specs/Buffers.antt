@@ -1,15 +1,15 @@
 -- The encoding as bytes of lent buffers: what the three buffers are when they encode a register, and that such bytes encode it.
 use Rattle.std.specs.Prelude.{◌≡◌, ℕ, zero, suc, ◌+◌, ◌-◌, ◌*◌, ◌/◌, ◌%◌, ◌^◌, ◌<◌, ◌≤◌, Bool, true, false, ◌&&◌, List, [], ◌∷◌, ◌++◌, length, take, drop, set, replicate, ◌==◌, nat_eq, slice_index, slice_set, refl}
-use Rattle.std.proofs.Common.{sym, ap, ◌∙◌, subst, append_assoc, append-nil, arith, length-append, length-drop, length-set, take-append-drop, set-set, take_at, drop_at, get_or-drop, eqb-true, eq-eqb, ne_eqb}
+use Rattle.std.proofs.Common.{sym, ap, ◌∙◌, arith, length-append, length-drop, length-set, take-append-drop, set-set, drop_at, eqb-true, eq-eqb, ne_eqb}
 use Rattle.std.proofs.Math.Bool.{and-false}
 use Rattle.std.proofs.lemmas.List.{length-replicate, set-get_or}
 use Rattle.std.proofs.Math.Seq.{take-set-lt, drop-append_seam, take-append_seam}
 use Rattle.window.specs.Memory.{if◌then◌else◌}
 use Rattle.window.specs.Bytes.{byte_of, join, join-bytes}
 use Rattle.window.specs.Tests.{both, also}
-use Rattle.register.specs.Words.{same, all_zero, holds, bytes_of, flat, words_in, words-drop, length-words}
+use Rattle.register.specs.Words.{same, all_zero, holds, bytes_of, flat, words_in, length-words}
 use Rattle.register.specs.Lists.{same_true, same_refl}
-use Rattle.register.specs.Module.{Module, Register, proper}
+use Rattle.register.specs.Module.{Register}
 use Rattle.register.specs.Encode.{record_words, encode_words, record_names, slots}
 use Rattle.register.specs.Decode.{settled, encodes}
 use Rattle.register.specs.Slots.{all-zero, zeros}

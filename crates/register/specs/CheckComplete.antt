@@ -1,5 +1,5 @@
 -- An encoding passes the test and is read back: records and names, by induction over the abstract value.
-use Rattle.std.specs.Prelude.{◌≡◌, ℕ, ◌+◌, ◌-◌, ◌*◌, ◌/◌, Bool, true, false, ◌&&◌, List, [], ◌∷◌, ◌++◌, length, drop, ◌==◌, nat_le, slice_index, slice_index_or}
+use Rattle.std.specs.Prelude.{◌≡◌, ℕ, ◌+◌, ◌*◌, ◌/◌, Bool, true, false, ◌&&◌, List, [], ◌∷◌, ◌++◌, length, drop, ◌==◌, nat_le, slice_index, slice_index_or}
 use Rattle.std.proofs.Math.Path.{refl, ap}
 use Rattle.std.proofs.Common.{sym, ◌∙◌, get_or-append-add, eq-eqb, le-leb}
 use mathlib.Core.List.{append_assoc, append-nil}
@@ -13,8 +13,7 @@ use Rattle.register.specs.Lists.{part_middle}
 use Rattle.register.specs.Module.{Export, Module, named_ok, ascending, proper_module, proper_modules}
 use Rattle.register.specs.Encode.{export_words, export_names, module_names, module_words, flag, record_words, record_names}
 use Rattle.register.specs.Decode.{export_at, exports_from, exports_in, module_size, read_module, read_modules}
-use Rattle.register.specs.Check.{name_ok, exports_end, fixed_ok, export_part, module_end, after, modules_ok}
-use Rattle.register.specs.declared.record.End.{End}
+use Rattle.register.specs.Check.{name_ok, exports_end, fixed_ok, export_part, module_end, modules_ok}
 use Rattle.register.specs.declared.record.End.TheVariants.{At}
 
 pub length-export_words : (q : ℕ) (xs : List Export) → length (export_words q xs) ≡ 3 * length xs

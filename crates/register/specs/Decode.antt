@@ -1,5 +1,5 @@
 -- What is read from the three buffers, and whether they are an encoding of it.
-use Rattle.std.specs.Prelude.{◌≡◌, ℕ, zero, suc, ◌+◌, ◌-◌, ◌*◌, ◌/◌, ◌%◌, Bool, true, false, ◌&&◌, List, [], ◌∷◌, ◌++◌, length, take, drop, ◌==◌, ◌≢◌, slice_index, slice_set, refl}
+use Rattle.std.specs.Prelude.{◌≡◌, ℕ, zero, suc, ◌+◌, ◌-◌, ◌*◌, ◌/◌, Bool, true, false, ◌&&◌, List, [], ◌∷◌, length, take, drop, ◌==◌, ◌≢◌, slice_index, slice_set, refl}
 use Rattle.std.proofs.Math.Option.{Option, some, none}
 use Rattle.std.proofs.Common.{get_or-set_other}
 use Rattle.window.specs.Memory.{if◌then◌else◌}

@@ -1,10 +1,9 @@
 -- Parts of lists of bytes and words, and lists that begin with a known one.
-use Rattle.std.specs.Prelude.{◌≡◌, ℕ, zero, suc, ◌+◌, ◌-◌, ◌*◌, ◌/◌, ◌%◌, ◌<◌, ◌≤◌, Bool, true, false, ◌&&◌, List, [], ◌∷◌, ◌++◌, length, take, drop, ◌==◌, slice_index, refl}
-use Rattle.std.proofs.Common.{sym, ap, ◌∙◌, subst, append_assoc, append-nil, arith, add-one, length-append, length-drop, take-append-drop, drop-cons, take-add, drop-drop, length-take-le, eqb-true, eq-eqb}
+use Rattle.std.specs.Prelude.{◌≡◌, ℕ, suc, ◌+◌, ◌<◌, ◌≤◌, true, List, [], ◌∷◌, ◌++◌, length, take, drop, ◌==◌, slice_index, refl}
+use Rattle.std.proofs.Common.{ap, ◌∙◌, arith, add-one, length-drop, drop-cons, take-add, drop-drop, length-take-le, eqb-true, eq-eqb}
 use Rattle.std.proofs.Math.Seq.{take-length, drop-append_seam, take-append_seam}
-use Rattle.std.proofs.lemmas.List.{take-append-le, drop-append-le}
-use Rattle.window.specs.Tests.{both, also}
-use Rattle.register.specs.Words.{part, same, all_zero}
+use Rattle.window.specs.Tests.{both}
+use Rattle.register.specs.Words.{part, same}
 
 pub same_true : (a b : List ℕ) → same a b ≡ true → a ≡ b
 unfolding same

@@ -8,14 +8,14 @@ use crate::words;
 use window::name::NameOrder;
 
 // Where something stands in a list.
-#[derive(Drop)]
+#[derive(Clone, Copy)]
 pub enum Found {
     At(usize),
     Nothing,
 }
 
 // Where a name stands among ascending ones: at the one that has it, or before the first that comes after it.
-#[derive(Drop)]
+#[derive(Clone, Copy)]
 pub enum Position {
     At(usize),
     Before(usize),

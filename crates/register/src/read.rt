@@ -10,7 +10,7 @@ use crate::exports::Found;
 use crate::{exports, words};
 
 // The first words of a module's record, and the byte of the records buffer where it begins.
-#[derive(Drop)]
+#[derive(Clone, Copy)]
 pub struct Record {
     pub place: usize,
     pub base: u32,
@@ -24,7 +24,7 @@ pub struct Record {
 }
 
 // The address that a name, an index or a segment stands for.
-#[derive(Drop)]
+#[derive(Clone, Copy)]
 pub enum Symbol {
     At(u32),
     Nothing,

@@ -6,7 +6,7 @@ ghost use Rattle.register.specs.Decode.{module_size};
 use crate::words;
 
 // Where the names of a record end, or that something in it is wrong.
-#[derive(Drop)]
+#[derive(Clone, Copy)]
 pub enum End {
     At(usize),
     Bad,

@@ -4,7 +4,7 @@ ghost use Rattle.register.specs.Words.{words_in, part, all_zero};
 ghost use Rattle.register.specs.Decode.{settled, read_crs};
 
 // The static module's base, where it is known.
-#[derive(Drop)]
+#[derive(Clone, Copy)]
 pub enum Crs {
     Unknown,
     Known(u32),

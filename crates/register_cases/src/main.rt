@@ -11,7 +11,7 @@ use register::words::word;
 use register_test::is_register;
 
 // The verdict on a case, and the place of the next one.
-#[derive(Drop)]
+#[derive(Clone, Copy)]
 enum RegisterVerdict {
     Valid(usize),
     Refused(usize),

@@ -9,7 +9,7 @@ use fillqhano::call;
 use linker_spec::call::Call;
 
 // What a call answered.
-#[derive(Drop)]
+#[derive(Clone, Copy)]
 pub struct Answered {
     pub number: u32,
     pub value: u32,

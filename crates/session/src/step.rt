@@ -8,7 +8,7 @@ use linker_spec::rebase::LoadArguments;
 use register::words::{name_part, word};
 
 // A step: a call, or that its words are none.
-#[derive(Drop)]
+#[derive(Clone, Copy)]
 pub enum Step {
     Call(Call),
     Bad,
@@ -76,7 +76,7 @@ fn step_at(file: &[u8], k: u32) -> Step
 }
 
 // Reads a session: the lent file, and the number of the next step. Each function below only takes it apart or makes it.
-#[derive(Drop)]
+#[derive(Clone, Copy)]
 pub struct Reader<'a> {
     pub file: &'a [u8],
     pub next: u32,

@@ -10,7 +10,7 @@ use register::words::word;
 use session::session_text;
 
 // The place of the next case and the length of this one's text, or that it cannot be read.
-#[derive(Drop)]
+#[derive(Clone, Copy)]
 enum Case {
     Text(usize, usize),
     Unreadable,

@@ -84,7 +84,7 @@ pub fn touch_name(at: u32, w: &[u8], trace: &mut [u8], address: u32)
 }
 
 // How one name stands to another.
-#[derive(Drop)]
+#[derive(Clone, Copy)]
 pub enum NameOrder {
     Before,
     Same,

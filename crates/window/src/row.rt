@@ -5,7 +5,7 @@ ghost use Rattle.window.specs.Row.{row_of};
 use crate::place_of;
 
 // Where they stand, if they do.
-#[derive(Drop)]
+#[derive(Clone, Copy)]
 pub enum Row {
     At(usize),
     Elsewhere,

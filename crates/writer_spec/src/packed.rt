@@ -1,5 +1,5 @@
 // The position after what was looked at, where all of it was in order.
-#[derive(Drop)]
+#[derive(Clone, Copy)]
 pub enum Reached {
     At(usize),
     Nowhere,

@@ -1,5 +1,5 @@
 // A relocated word by its offset: from the image's start, or from that of the lent data or bss.
-#[derive(Drop)]
+#[derive(Clone, Copy)]
 pub enum WordPlace {
     InImage(usize),
     InData(u32),
@@ -8,7 +8,7 @@ pub enum WordPlace {
 }
 
 // The image's size, the greatest sizes of Data and Bss segments, and where the last Data segment of size above 0 starts.
-#[derive(Drop)]
+#[derive(Clone, Copy)]
 pub struct Room {
     pub size: u32,
     pub data_size: u32,

@@ -13,14 +13,14 @@ use register::read::{Symbol, export_indexed, segment_address};
 use window::outside::silent_stride;
 
 // The two tables of a module entry; the entries of both have the same size.
-#[derive(Drop)]
+#[derive(Clone, Copy)]
 pub(crate) enum ImportTable {
     Indexed,
     Anonymous,
 }
 
 // What a module entry says of them.
-#[derive(Drop)]
+#[derive(Clone, Copy)]
 pub(crate) struct ModuleTables {
     pub indexed_table: u32,
     pub indexed_count: u32,

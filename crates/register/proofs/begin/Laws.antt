@@ -1,15 +1,11 @@
 -- A record begun, by its first words and its name.
-use Rattle.std.proofs.Common.{◌≡◌, ℕ, ◌+◌, ◌-◌, ◌<◌, ◌≤◌, Bool, List, [], ◌∷◌, length, get_or, le-ltb, lt-ltb, le-leb}
+use Rattle.std.proofs.Common.{◌≡◌, ℕ, ◌+◌, ◌<◌, ◌≤◌, Bool, List, [], ◌∷◌, length, get_or, le-ltb, lt-ltb, le-leb}
 use lib.Seq.{sets}
 use borrow.Author.Tests.{lt-leb}
-use Rattle.register.specs.declared.append.draft.Draft.{Draft}
 use Rattle.register.specs.declared.append.draft.Drafted.{Drafted}
 use Rattle.register.specs.declared.append.draft.Drafted.TheVariants.{Open, Full}
 use Rattle.register.specs.Words.{flat, words_in}
 use Rattle.register.specs.Encode.{flag}
-use Rattle.register.specs.Module.{Export}
-use Rattle.register.specs.declared.exports.Found.{Found}
-use Rattle.register.specs.declared.exports.Found.TheVariants.{At, Nothing}
 use Rattle.register.specs.Append.Draft.{room_in, used_bytes, used_names, first_words, draft_at, begin_record}
 
 module _ (records names : List ℕ) (base size : ℕ) (auto : Bool) (name : List ℕ) where

@@ -1,5 +1,5 @@
 -- From the code's tests to the definitions of `Bytes`.
-use Rattle.std.proofs.Common.{◌≡◌, ℕ, ◌+◌, ◌-◌, ◌*◌, ◌<◌, ◌≤◌, Bool, true, false, ◌&&◌, eqb, leb, List, length, sym, ◌∙◌, le-ltb, lt-ltb, eqb-true, leb-true}
+use Rattle.std.proofs.Common.{◌≡◌, ℕ, ◌+◌, ◌*◌, ◌<◌, ◌≤◌, Bool, true, false, ◌&&◌, eqb, leb, List, length, sym, ◌∙◌, le-ltb, lt-ltb, eqb-true, leb-true}
 use Rattle.window.specs.Word.{word_in, set_word_in}
 use Rattle.window.specs.Tests.{both}
 use Rattle.register.specs.Change.Bytes.{takes_name, put_slot, push_missing}

@@ -8,7 +8,6 @@ use Rattle.std.proofs.Math.ListN.{length-append, length-set}
 use Rattle.std.proofs.lemmas.List.{length-replicate, replicate-append-replicate, set-append_left}
 use Rattle.std.proofs.Math.Seq.{sets, set-append_seam}
 use borrow.Author.Tests.{lt-ltb, le-leb}
-use Rattle.window.specs.Memory.{if◌then◌else◌}
 use Rattle.window.specs.Word.{word_in, set_word_in}
 use Rattle.register.specs.Words.{flat, bytes_of, words_in, word_row}
 use Rattle.register.specs.Module.{Module, Register, proper}

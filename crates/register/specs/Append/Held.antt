@@ -1,5 +1,5 @@
 -- Which module the buffers hold while it is written, and that each step gives them the module with one thing more.
-use Rattle.std.specs.Prelude.{◌≡◌, ℕ, ◌+◌, ◌-◌, ◌*◌, ◌^◌, ◌<◌, ◌≤◌, List, [], ◌∷◌, ◌++◌, length, slice_index, slice_set}
+use Rattle.std.specs.Prelude.{◌≡◌, ℕ, ◌+◌, ◌*◌, ◌^◌, ◌<◌, ◌≤◌, List, [], ◌∷◌, ◌++◌, length, slice_index, slice_set}
 use Rattle.std.proofs.Common.{ap, arith, get_or-set_same, get_or-set_other}
 use mathlib.Core.List.{append_assoc, append-nil}
 use Rattle.std.proofs.Math.Decide.{dec_lt, ℕ_discrete}

@@ -1,22 +1,21 @@
 -- A finished record stands: the buffers are a register again, with that module last.
-use Rattle.std.specs.Prelude.{◌≡◌, ℕ, zero, suc, ◌+◌, ◌-◌, ◌*◌, ◌/◌, ◌%◌, ◌^◌, ◌<◌, ◌≤◌, Bool, true, false, ◌&&◌, List, [], ◌∷◌, ◌++◌, length, take, drop, set, replicate, ◌==◌, slice_index, slice_set, refl}
+use Rattle.std.specs.Prelude.{◌≡◌, ℕ, zero, suc, ◌+◌, ◌-◌, ◌*◌, ◌^◌, ◌<◌, ◌≤◌, Bool, true, false, ◌&&◌, List, [], ◌∷◌, ◌++◌, length, take, drop, set, replicate, ◌==◌, slice_index, slice_set, refl}
 use Rattle.std.proofs.Common.{sym, ◌∙◌, arith, length-set}
 use Rattle.std.proofs.Math.Path.{ap, subst}
 use Rattle.std.proofs.Math.ListN.{length-append}
 use Rattle.window.specs.Memory.{if◌then◌else◌}
 use Rattle.window.specs.Tests.{both, also}
-use Rattle.window.specs.Bytes.{join}
 use Rattle.register.specs.Words.{same, all_zero, holds, words_in}
 use Rattle.register.specs.Lists.{same_true}
 use Rattle.register.specs.Module.{Module, Register, proper_module, proper_modules, proper}
 use Rattle.register.specs.Proper.{proper-parts, parts-proper}
-use Rattle.register.specs.Encode.{module_names, module_words, record_words, record_names, encode_words, slots}
+use Rattle.register.specs.Encode.{module_names, module_words, record_names, encode_words, slots}
 use Rattle.register.specs.Decode.{settled, encodes, register_of, is_register}
 use Rattle.register.specs.Change.{appended}
 use Rattle.register.specs.CheckIs.{read_back_lem, is_register_lem}
 use Rattle.register.specs.Buffers.{Below, padded, encode_records, encode_names, encode_missing, names_are, encode_encodes}
 use Rattle.register.specs.declared.append.draft.Draft.{Draft}
-use Rattle.register.specs.Append.Draft.{room_in, room-inside, room_word, finish_record}
+use Rattle.register.specs.Append.Draft.{room-inside, room_word, finish_record}
 use Rattle.register.specs.Append.Laid.{below_append}
 use Rattle.register.specs.Append.Held.{Held, below_set}
 use Rattle.register.specs.Append.Append.{words-appended, finished, finished_names}

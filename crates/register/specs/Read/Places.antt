@@ -62,8 +62,9 @@ pub stands_at
     : {records names : List ℕ} {place : ℕ} (before after : List Module) {m : Module}
     → RecordsStand records names place (before ++ (m ∷ after)) → RecordStands records names (place_after place before) m
 unfolding place_after
-stands_at [] after (next s r) = s
-stands_at (b ∷ before) after (next s r) = stands_at before after r
+stands_at {records = records} {names = names} {place = place} [] after {m = m} (next s r) = s
+stands_at {records = records} {names = names} {place = place} (b ∷ before) after {m = m} (next s r) =
+    stands_at {place = place + module_bytes b} before after r
 
 -- the place of the first module that passes a test: that module, those before it, and that its record begins there
 pub record FirstPassing (records names : List ℕ) (place : ℕ) (ms : List Module) (test : Module → Bool) (p : ℕ) : Type 0 where

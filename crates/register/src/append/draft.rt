@@ -5,7 +5,7 @@ ghost use Rattle.register.specs.Append.Draft.{room_in, push_word, opened, count_
 use crate::append::bytes;
 
 // Where a record's words and names begin and end in the two buffers.
-#[derive(Drop)]
+#[derive(Clone, Copy)]
 pub struct Draft {
     pub start: usize,
     pub end: usize,
@@ -14,7 +14,7 @@ pub struct Draft {
 }
 
 // The record with one step more, or that there is no room for the step; then nothing changed.
-#[derive(Drop)]
+#[derive(Clone, Copy)]
 pub enum Drafted {
     Open(Draft),
     Full,

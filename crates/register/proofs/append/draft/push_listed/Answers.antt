@@ -1,0 +1,31 @@
+use Rattle.std.proofs.Common.{arith}
+use Rattle.register.proofs.append.Laws.{open_places, listed_shut, listed_full, listed_open, open_start}
+use Rattle.register.proofs.append.draft.push_listed.Goals as goal
+
+pub returns-then-not-is_open : goal.returns-then-not-is_open
+returns-then-not-is_open c = listed_shut _ _ _ _ c.is_open.ensures c.if-not-is_open.true
+
+pub count_up-requires : goal.count_up-requires
+count_up-requires c =
+    let h = open_places _ _ c.is_open.ensures c.if-not-is_open.false in (
+      c.requires,
+      omega (
+        arith,
+        h.0,
+        h.1,
+        open_start _ _ _ 0 c.is_open.ensures c.if-not-is_open.false
+            c.push_word.ensures _ c.in-Open.is,
+        c.push_word.auto.records,
+      ),
+    )
+
+pub returns-in-Full : goal.returns-in-Full
+returns-in-Full c =
+    listed_full _ _ _ _ c.is_open.ensures c.if-not-is_open.false
+    c.push_word.ensures c.in-Full.is
+
+pub returns-in-Open : goal.returns-in-Open
+returns-in-Open c =
+    rw c.count_up.ensures
+    (listed_open _ _ _ _ c.is_open.ensures c.if-not-is_open.false c.push_word.ensures _
+    c.in-Open.is)
