@@ -121,7 +121,7 @@ def turn(text, new, comments):
 
 def turn_rt(text, new):
     """A source: its clauses and ghost items; in code no name is in camel case, and none has a dash."""
-    camel = {n: m for n, m in new.items() if "-" not in n}
+    camel = {n: m for n, m in new.items() if "-" not in n and snake(n) != n}
     word = re.compile(r"//[^\n]*|b?\"(?:[^\"\\]|\\.)*\"|'(?:[^'\\]|\\.)'|" + WORD)
 
     def one(found):

@@ -35,7 +35,7 @@ fn set(at: u32, w: &mut [u8], p: u32, i: u8, v: u32)
 }
 
 // Whether a module is to run where its bytes are.
-fn in_place_lem(source: u32, address: u32) -> bool
+fn in_place(source: u32, address: u32) -> bool
     ensures { result ≡ in_place source address }
 {
     if address == 0 {

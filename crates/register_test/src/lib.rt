@@ -63,7 +63,7 @@ fn slot_ok(slot: &[u8]) -> bool
         return false;
     }
     let end = 2 + size;
-    if !crate::records::no_zero_lem(&slot[2..end]) {
+    if !crate::records::no_zero(&slot[2..end]) {
         return false;
     }
     words::zero_from(slot, end)

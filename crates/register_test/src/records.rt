@@ -8,7 +8,7 @@ use register::record::End;
 use register::{record, words};
 
 // Whether the bytes have no zero.
-pub(crate) fn no_zero_lem(bytes: &[u8]) -> bool
+pub(crate) fn no_zero(bytes: &[u8]) -> bool
     ensures { result ≡ no_zero bytes.now }
 {
     let mut none = true;
@@ -37,7 +37,7 @@ fn name_ok(names: &[u8], q: usize, offset: u32, count: u32) -> bool
     if names.len() < end {
         return false;
     }
-    no_zero_lem(&names[from..end])
+    no_zero(&names[from..end])
 }
 
 // Where the exports' names end, if each stands right after the one before.

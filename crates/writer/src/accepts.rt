@@ -18,7 +18,7 @@ const MOST: usize = 0xFFFF_F000;
 fn words_good(bytes: &[u8], kinds: &[u8], room: Room) -> bool
     ensures { result ≡ words_good (file_of bytes.now) kinds.now room }
 {
-    if !words::words_inside_lem(bytes, kinds, room) {
+    if !words::words_inside(bytes, kinds, room) {
         return false;
     }
     if !apart::words_apart(bytes, kinds, room) {

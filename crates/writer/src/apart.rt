@@ -164,7 +164,7 @@ pub(crate) fn words_apart(bytes: &[u8], kinds: &[u8], room: Room) -> bool
     ensures { result ≡ words_apart (file_of bytes.now) kinds.now room }
 {
     let external = bytes::count(bytes, header::EXTERNAL_RELOCATION_TABLE_OFFSET);
-    let all = words::word_count_lem(bytes);
+    let all = words::word_count(bytes);
     let mut i: u32 = 0;
     let mut j: u32 = 0;
     let mut last: usize = 0;
@@ -236,7 +236,7 @@ fn past_image(room: Room, word: WordPlace) -> usize
 fn far_word_apart(bytes: &[u8], kinds: &[u8], room: Room, e: usize) -> bool
     ensures { result ≡ all_below (word_count (file_of bytes.now)) (λ k. far_past room e (number_of_word (file_of bytes.now) kinds.now room.last_data k)) }
 {
-    let all = words::word_count_lem(bytes);
+    let all = words::word_count(bytes);
     let mut k: usize = 0;
     while k < all {
         if !far_past(room, e, words::word_number(bytes, kinds, room.last_data, k)) {
@@ -251,7 +251,7 @@ fn far_word_apart(bytes: &[u8], kinds: &[u8], room: Room, e: usize) -> bool
 pub(crate) fn far_words_apart(bytes: &[u8], kinds: &[u8], room: Room) -> bool
     ensures { result ≡ far_words_apart (file_of bytes.now) kinds.now room }
 {
-    let all = words::word_count_lem(bytes);
+    let all = words::word_count(bytes);
     let mut i: usize = 0;
     while i < all {
         let e = past_image(room, words::word_number(bytes, kinds, room.last_data, i));

@@ -265,7 +265,7 @@ fn word_off(bytes: &[u8], room: Room, word: WordPlace) -> bool
 pub(crate) fn words_off(bytes: &[u8], kinds: &[u8], room: Room) -> bool
     ensures { result ≡ words_off (file_of bytes.now) kinds.now room }
 {
-    let all = words::word_count_lem(bytes);
+    let all = words::word_count(bytes);
     let mut i: usize = 0;
     while i < all {
         if !word_off(

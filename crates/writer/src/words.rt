@@ -168,7 +168,7 @@ fn internal_word(bytes: &[u8], kinds: &[u8], last: u32, i: u32) -> WordPlace
 }
 
 // How many entries the two tables of relocations have.
-pub(crate) fn word_count_lem(bytes: &[u8]) -> usize
+pub(crate) fn word_count(bytes: &[u8]) -> usize
     ensures { result ≡ word_count (file_of bytes.now) }
 {
     (bytes::count(bytes, header::EXTERNAL_RELOCATION_TABLE_OFFSET) as usize)
@@ -259,10 +259,10 @@ fn word_inside(room: Room, word: WordPlace) -> bool
 }
 
 // Whether each word does.
-pub(crate) fn words_inside_lem(bytes: &[u8], kinds: &[u8], room: Room) -> bool
+pub(crate) fn words_inside(bytes: &[u8], kinds: &[u8], room: Room) -> bool
     ensures { result ≡ words_inside (file_of bytes.now) kinds.now room }
 {
-    let all = word_count_lem(bytes);
+    let all = word_count(bytes);
     let mut i: usize = 0;
     while i < all {
         if !word_inside(room, word_number(bytes, kinds, room.last_data, i)) {

@@ -13,7 +13,6 @@ use Rattle.register.specs.Change.{without, removed}
 use Rattle.linker_spec.specs.Lists.{unregister}
 use Rattle.linker_spec.specs.Resets.{reset_importers}
 use Rattle.linker_spec.specs.Unrebase.{unrebase}
-use Rattle.linker_spec.specs.Calls as calls
 use Rattle.linker_spec.specs.Calls.{Answer, Done, unlisted, leave, unload}
 use Rattle.history.specs.LoadedModule.{Area}
 use Rattle.history.specs.Imports.{Import, Exports}

@@ -7,10 +7,8 @@ use Rattle.window.specs.Access.{Prog, ret, ◌>>=◌}
 use Rattle.window.specs.Mirror.{word}
 use Rattle.layout.specs.Header.{next_cro, previous_cro}
 use Rattle.register.specs.Module.{Module, Register}
-use Rattle.linker_spec.specs.declared.rebase.Rebased.{Rebased}
 use Rattle.linker_spec.specs.Exports.{read_module}
-use Rattle.linker_spec.specs.Calls as calls
-use Rattle.linker_spec.specs.Calls.{Answer, NotACro, BadSegment, NoRoom, rebase, fits}
+use Rattle.linker_spec.specs.Calls.{Answer, NotACro, BadSegment, NoRoom, fits}
 use Rattle.history.specs.LoadedModule.{Image, LoadedModule, cut, image_of, base_of, size_of, Area}
 use Rattle.history.specs.Steps.Wp.{Memory, SameOutside}
 use Rattle.history.specs.Steps.View.{View}

@@ -15,7 +15,7 @@ use Rattle.history.specs.LoadedModule.{Image, base_of, size_of, moved_offset, Ar
 use Rattle.history.specs.WellLaid.{table, table_number, WellLaid}
 use Rattle.history.specs.Steps.Wp.{Memory, ReadsValue, reads_then, reads_ret, reads_get32}
 use Rattle.history.specs.Steps.Parts.{part-inside, entry-in_table}
-use Rattle.history.specs.Steps.Reading.{plain-sum, four_at, entry-at}
+use Rattle.history.specs.Steps.Reading.{plain-sum, four_at, entry_at_lem}
 use Rattle.history.specs.Rebase.PartlyRebased.{word_is, PartlyRebased, header_reads}
 
 -- a table's field is one of the 17 that move, and no table has empty entries
@@ -115,5 +115,5 @@ module _ (m : Image) (laid : WellLaid m) (low : Low (Area m)) where
           reads_then S (field base segment_num) _ (count F segments) (reads_count 0 (lit< tt))
           (rw (lt-ltb i (count F segments) l)
           (reads_then S (field base segment_table_offset) _ (moved_offset base (start F segments)) (reads_start 0 (lit< tt))
-          (rw (entry-at m laid low 0 i (lit< tt) l (omega (arith, inside)))
+          (rw (entry_at_lem m laid low 0 i (lit< tt) l (omega (arith, inside)))
           (reads_then S (segment_entry (base + entry F segments i)) _ _ reads_entry (reads_ret S _)))))

@@ -27,7 +27,7 @@ use Rattle.history.specs.WellLaid.{table, internal, WordAt, Writes, WellLaid}
 use Rattle.history.specs.Steps.Wp.{Memory, Does, SameOutside, ReadsValue, does_mono, does_ret, does_read, does_loop, ends_privileged, reads_get8, reads_get32}
 use Rattle.history.specs.Steps.View.{View, view_agree}
 use Rattle.history.specs.Steps.Parts.{touched_other, read_offset, read_offset_no_word, image_area, entry-in_table}
-use Rattle.history.specs.Steps.Reading.{plain-sum, four_at, entry-at, reads_segment}
+use Rattle.history.specs.Steps.Reading.{plain-sum, four_at, entry_at_lem, reads_segment}
 use Rattle.history.specs.Steps.Batch.{Sort, sort, writes, writes_not}
 use Rattle.history.specs.Rebase.Cells.{Member}
 use Rattle.history.specs.Rebase.PartlyRebased.{word_is, PartlyRebased}
@@ -196,5 +196,5 @@ module _ (m : Image) (laid : WellLaid m) (low : Low (Area m)) where
         (λ _ _ N. SameOutside (InternalByte m) M N) 0 (count F internals) tt M
         (λ j b N g h n.
         let l : j < count F internals = omega arith in
-        rw (entry-at m laid low 10 j (lit< tt) l (omega (arith, inside n j l))) (turn n j l)) (λ q o. refl))
+        rw (entry_at_lem m laid low 10 j (lit< tt) l (omega (arith, inside n j l))) (turn n j l)) (λ q o. refl))
         (λ _ N n. (inner_view v n, n))))

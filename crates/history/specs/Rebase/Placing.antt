@@ -20,7 +20,7 @@ use Rattle.history.specs.Image.{tables, segments, start, count, entry}
 use Rattle.history.specs.LoadedModule.{Image, base_of, moved_offset, loaded_place, old_for, Area}
 use Rattle.history.specs.WellLaid.{WellLaid}
 use Rattle.history.specs.Steps.Wp.{Memory, Does, SameOutside, does_read, does_put32, ends_put32}
-use Rattle.history.specs.Steps.Reading.{plain-sum, four_at, entry-at}
+use Rattle.history.specs.Steps.Reading.{plain-sum, four_at, entry_at_lem}
 use Rattle.history.specs.Rebase.Cells.{put4-word, word-off}
 use Rattle.history.specs.Rebase.PartlyRebased.{PartlyRebased}
 use Rattle.history.specs.Rebase.Fields.{entry-inside, reads_start}
@@ -164,7 +164,7 @@ module _ (m : Image) (laid : WellLaid m) (low : Low (Area m)) where
       let z₄ : base + (entry F segments i + 4) ≡ base + entry F segments i + 4 = omega arith in
       let z₈ : base + (entry F segments i + 8) ≡ base + entry F segments i + 8 = omega arith in
       does_read S (field base segment_table_offset) _ (moved_offset base (start F segments)) (reads_start m laid low st 0 (lit< tt))
-      (rw (entry-at m laid low 0 i (lit< tt) l (omega (arith, b)), e₄, e₈)
+      (rw (entry_at_lem m laid low 0 i (lit< tt) l (omega (arith, b)), e₄, e₈)
       (does_put32 S (base + entry F segments i) s.offset _ f₀
       (does_put32 S (base + entry F segments i + 4) s.size _ (rw z₄ at f₄)
       (ends_put32 S (base + entry F segments i + 8) (segment_type_number s.kind) (rw z₈ at f₈)

@@ -22,7 +22,7 @@ use Rattle.history.specs.Steps.Wp.{Memory, Does, SameOutside, does_mono, does_re
 use Rattle.history.specs.Steps.View.{View, view_agree}
 use Rattle.history.specs.Steps.Parts.{ReadOffset, read_offset, read_offset_no_word, read_offset_no_mark}
 use Rattle.history.specs.Steps.ModuleBytes.{value_of, mark_at, one_place, words-apart, word_no_mark, marks-apart, mark_offset, is_mark, moving_area}
-use Rattle.history.specs.Steps.Reading.{entry-at, reads_count, reads_start, reads_address, reads_handler}
+use Rattle.history.specs.Steps.Reading.{entry_at_lem, reads_count, reads_start, reads_address, reads_handler}
 use Rattle.history.specs.Steps.Batch.{Sort, sort, writes, writes_not, nowhere_no, word_address, word_at, word_writes_not, value_is, entry-inside, mark-sum, reads_tag, reads_kind, reads_addend}
 use Rattle.history.specs.Rebase.Cells.{cells}
 
@@ -146,6 +146,6 @@ module _ (m : Image) (laid : WellLaid m) (low : Low (Area m)) where
         (λ i _. reset_entry base (handler m) (entry_at (moved_offset base (start F externals)) i relocation_entry_size)) (count F externals) tt
         outer_apart (λ i l. reset_local i)
         (λ j b N l t.
-        rw (entry-at m laid low 5 j (lit< tt) l (omega (arith, entry-inside m laid low v 0 0 j l)))
+        rw (entry_at_lem m laid low 5 j (lit< tt) l (omega (arith, entry-inside m laid low v 0 0 j l)))
         (turn j N l (outer_view j (omega arith) v t.kept))))
         (λ _ N t. (outer_view (count F externals) (omega arith) v t.kept, t.done, t.kept)))))

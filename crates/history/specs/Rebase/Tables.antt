@@ -16,7 +16,7 @@ use Rattle.history.specs.LoadedModule.{Image, base_of, size_of, moved_offset, Ar
 use Rattle.history.specs.WellLaid.{table, table_number, WellLaid}
 use Rattle.history.specs.Steps.Wp.{Memory, Does, does_mono, does_ret, does_read}
 use Rattle.history.specs.Steps.Parts.{row, number, apart, entry-in_table}
-use Rattle.history.specs.Steps.Reading.{plain-sum, four_at, moved_sum, entry-at}
+use Rattle.history.specs.Steps.Reading.{plain-sum, four_at, moved_sum, entry_at_lem}
 use Rattle.history.specs.Rebase.Cells.{TurnsMade, cells, Member, Spread, Columns, moves_columns, word-off}
 use Rattle.history.specs.Rebase.PartlyRebased.{word_is, PartlyRebased, Rows, row_same, Others, partly_rebased_more}
 use Rattle.history.specs.Rebase.Fields.{field_of, entry-inside, reads_start, reads_count}
@@ -96,7 +96,7 @@ module _ (m : Image) (laid : WellLaid m) (low : Low (Area m)) where
         cells ColumnByte (ColumnMoved M) M S {A = Unit {0}} _ (count F (table_number t)) tt (λ i j l h. cells_apart i j l)
         (λ i l N L g h x a. word_same L N (place i + x) (λ k b. g (place i + x + k) (x, a, (omega arith, omega arith))) ∙ h x a)
         (λ j b N l u.
-        rw (entry-at m laid low t j lt l (inside j l))
+        rw (entry_at_lem m laid low t j lt l (inside j l))
         (does_mono S (moves_columns S base (place j) xs N spread (λ x a. column_fits j x l a))
         (λ _ L g. (
           (λ x a.

@@ -25,7 +25,7 @@ use Rattle.history.specs.WellLaid.{header, table, table_number, InPart, WellLaid
 use Rattle.history.specs.Steps.Wp.{Memory, Does, SameOutside, does_mono, does_ret, does_then, does_read, does_get32, does_put32, does_loop, does_wider, ends_put32, ReadsValue}
 use Rattle.history.specs.Steps.View.{four, View, table-field, table-count}
 use Rattle.history.specs.Steps.Parts.{sort, field_bounds, apart, image_area, entry-in_table}
-use Rattle.history.specs.Steps.Reading.{plain-sum, four_at, entry-at}
+use Rattle.history.specs.Steps.Reading.{plain-sum, four_at, entry_at_lem}
 use Rattle.history.specs.Rebase.Cells.{Member}
 use Rattle.history.specs.Rebase.PartlyRebased.{header_reads}
 use Rattle.history.specs.Rebase.Fields.{entry-inside}
@@ -124,7 +124,7 @@ module _ (m : Image) (laid : WellLaid m) (low : Low (Area m)) where
   place : (n i : ℕ) → n < 12 → i < count G (table_number n) → 4 ≤ (table_number n).width
       → entry_at (moved_offset at (start G (table_number n))) i (table_number n).width ≡ at + entry G (table_number n) i
   unfolding tables
-  place n i l h w = entry-at m laid low n i l h (omega (arith, w, entry-inside m laid low n i l h))
+  place n i l h w = entry_at_lem m laid low n i l h (omega (arith, w, entry-inside m laid low n i l h))
 
   -- the columns xs of table t, whatever stands there
   abbrev mover : ℕ → List ℕ → Prog (Unit {0})

@@ -13,7 +13,7 @@ use Rattle.history.specs.WellLaid.{table, Pointer, of_import, WellLaid}
 use Rattle.history.specs.Steps.Wp.{Memory, ReadsValue, reads_get32}
 use Rattle.history.specs.Steps.View.{View, import_name}
 use Rattle.history.specs.Steps.Parts.{part-inside, entry-in_table}
-use Rattle.history.specs.Steps.Reading.{four_at, entry-at}
+use Rattle.history.specs.Steps.Reading.{four_at, entry_at_lem}
 use Rattle.history.specs.Steps.OneImport.{import_inside}
 use Rattle.history.specs.Steps.Records.{ImportsFrom}
 use Rattle.history.specs.Steps.Runs.{Begins, EntryBegins}
@@ -56,13 +56,13 @@ module _ (m : Image) (laid : WellLaid m) (low : Low (Area m)) {T : Memory} (view
   -- the address of a named import's entry
   pub named-at : (i : ℕ) → i < count F named_imports → entry_at (moved_offset base (start F named_imports)) i 8 ≡ base + import_entry F (named i)
   unfolding import_entry tables
-  named-at i l = let e = import_inside m laid low (named i) l in entry-at m laid low 6 i (lit< tt) l (omega (arith, e))
+  named-at i l = let e = import_inside m laid low (named i) l in entry_at_lem m laid low 6 i (lit< tt) l (omega (arith, e))
 
   pub entry-start : (j : ℕ) → j < count F module_entries → entry_at (moved_offset base (start F module_entries)) j 20 ≡ base + entry F module_entries j
   unfolding tables
   entry-start j l =
       let e = part-inside m laid (table 4) _ (entry-in_table F 4 j 0 (lit< tt) l (lit< tt)) in
-      entry-at m laid low 4 j (lit< tt) l (omega (arith, e))
+      entry_at_lem m laid low 4 j (lit< tt) l (omega (arith, e))
 
   -- no import is in two runs
   pub runs_other : (i j e : ℕ) → i < count F module_entries → j < count F module_entries → i ≢ j → EntryBegins F i e → EntryBegins F j e → ⊥

@@ -8,7 +8,6 @@ use Rattle.std.proofs.Math.Dec.{eqb}
 use Rattle.window.specs.Memory.{if◌then◌else◌, ◌⊕◌}
 use Rattle.window.specs.Access.{ret, get8, get32, put8}
 use Rattle.window.specs.Within.{Low}
-use Rattle.window.specs.Mirror.{word}
 use Rattle.layout.specs.Header.{relocation_entry_size}
 use Rattle.layout.specs.Format.{relocation_type}
 use Rattle.layout.specs.Relocation.Relocation.{relocated_word, patch, apply_relocation}

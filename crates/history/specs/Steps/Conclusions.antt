@@ -12,7 +12,6 @@ use Rattle.layout.specs.declared.format.RelocationType.{RelocationType}
 use Rattle.layout.specs.declared.format.RelocationType.TheVariants.{AbsoluteAddress, RelativeAddress, ThumbBranch, ArmBranch, ModifyArmBranch, AlignedRelativeAddress, Unknown}
 use Rattle.layout.specs.declared.relocation.Patch.{Patch}
 use Rattle.layout.specs.declared.relocation.Patch.TheVariants.{Word}
-use Rattle.layout.specs.declared.segments.Address.{Address}
 use Rattle.layout.specs.declared.segments.Address.TheVariants.{At}
 use Rattle.history.specs.Image.{externals, count, tag, kind, addend}
 use Rattle.history.specs.LoadedModule.{Image, address, handler, Area}

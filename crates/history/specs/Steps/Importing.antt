@@ -10,7 +10,6 @@ use Rattle.window.specs.Name.{name_at}
 use Rattle.window.specs.Within.{Low}
 use Rattle.window.specs.Mirror.{word}
 use Rattle.layout.specs.Segments.{field, entry_at}
-use Rattle.register.specs.Words.{same}
 use Rattle.register.specs.Module.{Module}
 use Rattle.register.specs.declared.read.Symbol.{Symbol}
 use Rattle.register.specs.declared.read.Symbol.TheVariants.{Nothing}

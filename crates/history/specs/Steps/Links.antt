@@ -11,7 +11,7 @@ use Rattle.std.proofs.Math.Dec.{eqb}
 use borrow.Author.Tests.{eq-eqb, ne_eqb}
 use Rattle.window.specs.Memory.{if◌then◌else◌}
 use Rattle.window.specs.Within.{Low}
-use Rattle.linker_spec.specs.Relocation.{mark, apply_relocation_batch, batch_is_resolved}
+use Rattle.linker_spec.specs.Relocation.{apply_relocation_batch, batch_is_resolved}
 use Rattle.history.specs.Image.{externals, count, entry, end_mark}
 use Rattle.history.specs.LoadedModule.{Image, base_of, handler, Area}
 use Rattle.history.specs.Imports.{Import, Batch, BatchOf}

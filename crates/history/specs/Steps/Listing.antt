@@ -1,5 +1,5 @@
 -- The list that the title walks: each module's next is the one after it, its previous the one before it, the first one's the last.
-use Prim.Native.Nat.{ℕ, zero, suc, pred, ◌-◌, ◌^◌, ◌≤◌, ◌<◌}
+use Prim.Native.Nat.{ℕ, zero, suc, pred, ◌^◌, ◌≤◌, ◌<◌}
 use Rattle.std.specs.Prelude.{◌≡◌, refl, ◌≢◌, true, ltb}
 use Rattle.std.proofs.Common.{sym, ◌∙◌, ne_eqb, lt-ltb, le-ltb}
 use Rattle.std.proofs.Math.Path.{ap}

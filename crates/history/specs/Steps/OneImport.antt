@@ -15,7 +15,7 @@ use Rattle.linker_spec.specs.Imports.{is_unresolved, resolve}
 use Rattle.linker_spec.specs.Resets.{reset, reset_at}
 use Rattle.history.specs.Image.{tables, externals, count, entry}
 use Rattle.history.specs.LoadedModule.{Image, base_of, size_of, moved_offset, handler, Area}
-use Rattle.history.specs.Imports.{Import, named, indexed, anonymous, import_entry, IsImport, batch, Batch, BatchOf}
+use Rattle.history.specs.Imports.{Import, named, indexed, anonymous, import_entry, IsImport, batch, BatchOf}
 use Rattle.history.specs.WellLaid.{table, WellLaid}
 use Rattle.history.specs.Steps.Wp.{Memory, Does, ReadsValue, does_ret, does_then, does_read, reads_then, reads_ret, reads_get32}
 use Rattle.history.specs.Steps.View.{View, import_batch_field}

@@ -16,7 +16,6 @@ use Rattle.window.specs.Mirror.{word, run_m}
 use Rattle.layout.specs.Header.{segment_num, segment_table_offset, segment_entry_size, on_unresolved_segment_tag}
 use Rattle.layout.specs.Format.{tag_segment}
 use Rattle.layout.specs.Segments.{field, entry_at, segment_entry, segment, tag_to_address}
-use Rattle.layout.specs.declared.segments.FoundSegment.{FoundSegment}
 use Rattle.layout.specs.declared.segments.FoundSegment.TheVariants.{Found, Missing}
 use Rattle.linker_spec.specs.Relocation.{unresolved_symbol}
 use Rattle.history.specs.Image.{tables, segments, start, count, entry, name_of, file_segment}

@@ -32,7 +32,7 @@ use Rattle.history.specs.WellLaid.{table, of_module, of_export, WellLaid}
 use Rattle.history.specs.Steps.Wp.{Memory, Does, ReadsValue, does_mono, does_loop, reads_then, reads_ret, reads_get32}
 use Rattle.history.specs.Steps.View.{View, name-field, export_name_field, export_tag, indexed_tag}
 use Rattle.history.specs.Steps.Parts.{part-inside, entry-in_table}
-use Rattle.history.specs.Steps.Reading.{plain-sum, four_at, entry-at, reads_field, reads_count, reads_start, reads_segment, reads_address, reads_name}
+use Rattle.history.specs.Steps.Reading.{plain-sum, four_at, entry_at_lem, reads_field, reads_count, reads_start, reads_segment, reads_address, reads_name}
 use Rattle.history.specs.Steps.Records.{as_symbol, Recorded}
 use Rattle.history.specs.Steps.Gathered.{put-named, gathered, entry-gathered, entry_taken}
 
@@ -172,7 +172,7 @@ module _ (m : Image) where
         reads_then S (field base 0xd0) _ (moved_offset base (start F named_exports)) (reads_start m laid low view 1 (lit< tt))
         (reads_then S (field base 0xd4) _ (count F named_exports) (reads_count m laid low view 1 (lit< tt))
         (reads_loop (λ i xs. exports.named_export base (entry_at (moved_offset base (start F named_exports)) i 8) xs) named_among (count F named_exports)
-        (λ i l. rw (entry-at m laid low 1 i (lit< tt) l (let b = named-inside i l in omega (arith, b))) (reads_named i l))))
+        (λ i l. rw (entry_at_lem m laid low 1 i (lit< tt) l (let b = named-inside i l in omega (arith, b))) (reads_named i l))))
 
     reads_indexed
         : (i : ℕ) → i < count F indexed_exports
@@ -192,7 +192,7 @@ module _ (m : Image) where
         (reads_then S (field base 0xdc) _ (count F indexed_exports) (reads_count m laid low view 2 (lit< tt))
         (reads_loop (λ i xs. exports.indexed_export base (entry_at (moved_offset base (start F indexed_exports)) i 4) xs) (gathered indexed_address)
         (count F indexed_exports)
-        (λ i l. rw (entry-at m laid low 2 i (lit< tt) l (let b = indexed_inside i l in omega (arith, b))) (reads_indexed i l))))
+        (λ i l. rw (entry_at_lem m laid low 2 i (lit< tt) l (let b = indexed_inside i l in omega (arith, b))) (reads_indexed i l))))
 
     reads_segments : ReadsValue S (exports.read_segments base) (take 16 (gathered segment_offset (count F segments))) M
     unfolding exports.read_segments tables gathered segment_offset

@@ -15,7 +15,6 @@ use Rattle.register.specs.Words.{same}
 use Rattle.register.specs.Lists.{same_true, same_refl}
 use Rattle.register.specs.Module.{Module}
 use Rattle.register.specs.Read.Read as read
-use Rattle.linker_spec.specs.Imports as imports
 use Rattle.linker_spec.specs.Resets.{exists, reset_at, reset_named, reset_module, reset_imports}
 use Rattle.linker_spec.specs.Relocation.{unresolved_symbol}
 use Rattle.history.specs.Image.{tables, named_imports, module_entries, start, count, entry, name_of, module_name}

@@ -6,7 +6,7 @@ use Rattle.std.proofs.Common.{◌∙◌}
 use Rattle.std.proofs.Math.Bool.{true, false}
 use native.Mathlib.Omega.{arith}
 use Rattle.window.specs.Memory.{if◌then◌else◌}
-use Rattle.window.specs.Access.{Prog, ret, read8, read32, write8, write32, write_privileged, ◌>>=◌, ◌>>◌, get8, get32, put8, put32, put32_privileged, run}
+use Rattle.window.specs.Access.{Prog, ret, read8, read32, write8, write32, write_privileged, ◌>>=◌, get8, get32, put8, put32, put32_privileged}
 use Rattle.window.specs.Loop.{loop}
 use Rattle.window.specs.Within.{Four, in_range}
 use Rattle.window.specs.Mirror.{word, put1, put4, run_m, put1-off, put4-off}
@@ -160,9 +160,9 @@ module _ (S : ℕ → Type 0) where
       → Does S (m >>= f) Q M
   does_read m f v {Q} {M} h k = does_then m f h (λ a N e. rw (e.0, e.1) k)
 
-  pub Reads-then
+  pub reads_then
       : {A B : Type 0} (m : Prog A) (f : A → Prog B) (v : A) {u : B} {M : Memory} → ReadsValue m v M → ReadsValue (f v) u M → ReadsValue (m >>= f) u M
-  Reads-then m f v h k = does_read m f v h k
+  reads_then m f v h k = does_read m f v h k
 
   pub reads_ret : {A : Type 0} (v : A) {M : Memory} → ReadsValue (ret v) v M
   reads_ret v = does_ret (refl, refl)

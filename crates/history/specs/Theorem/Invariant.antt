@@ -1,5 +1,5 @@
 -- What a session keeps: the arrivals that stand are at rest, each with the bytes at rest that its call and its bytes alone determine.
-use Rattle.std.specs.Prelude.{ℕ, pred, ◌+◌, ◌<◌, ◌≡◌, List, [], ◌∷◌, ◌++◌, length, get_or}
+use Rattle.std.specs.Prelude.{ℕ, pred, ◌<◌, ◌≡◌, List, [], ◌∷◌, ◌++◌, length, get_or}
 use Rattle.std.proofs.Common.{sym, ap, ◌∙◌, arith}
 use Rattle.std.proofs.Math.Path.{fun_ext}
 use Rattle.std.proofs.Math.Decide.{dec_lt, ℕ_discrete}

@@ -36,9 +36,9 @@ pub entry_none : (l : List ℕ) (i : ℕ) → length l / 4 ≤ i → Nothing ≡
 unfolding entry_of
 entry_none l i h = rw (length-words l, le-ltb i (length l / 4) h)
 
-pub entry-at : (l : List ℕ) (i : ℕ) {a : ℕ} → i < length l / 4 → a ≡ get_or (words_in l) i 0 → At a ≡ entry_of (words_in l) i
+pub entry_at_lem : (l : List ℕ) (i : ℕ) {a : ℕ} → i < length l / 4 → a ≡ get_or (words_in l) i 0 → At a ≡ entry_of (words_in l) i
 unfolding entry_of
-entry-at l i h e = rw (length-words l, lt-ltb i (length l / 4) h, e)
+entry_at_lem l i h e = rw (length-words l, lt-ltb i (length l / 4) h, e)
 
 -- the exports of a record, by name
 

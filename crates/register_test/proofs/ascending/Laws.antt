@@ -1,8 +1,8 @@
 -- The loop that compares the names of neighbours among a record's named exports: n in all, those from number k on still to see.
 use Prim.Native.Nat.{ℕ, ◌+◌, ◌-◌, ◌≤◌, ◌<◌}
-use mathlib.Core.Path.{◌≡◌, ap, ◌∙◌}
+use mathlib.Core.Path.{◌≡◌, sym, ap, ◌∙◌}
 use mathlib.Core.List.{List, ◌∷◌}
-use mathlib.Core.Bool.{Bool, true, false}
+use mathlib.Core.Bool.{Bool, true, false, ◌&&◌}
 use native.Mathlib.Omega.{arith}
 use native.Mathlib.Decide.{dec_le}
 use Rattle.window.specs.Name.{order_of}
@@ -27,7 +27,10 @@ module _ (n : ℕ) (ws names : List ℕ) (k : ℕ) where
         : t ≡ is_before (order_of x y) → t ≡ true
         → ascending (exports_from (n - (k + 1)) ws names (k + 1)) ≡ ascending (exports_from (n - k) ws names k)
     unfolding ascending
-    ascending_goes s z = rw (two h, exports_turn n ws names (k + 1) h, ← e, ← f, ← s, z)
+    ascending_goes s z =
+        let rest = export_at ws names (k + 1) ∷ exports_from (n - (k + 1 + 1)) ws names (k + 1 + 1) in
+        let goes : is_before (order_of (export_at ws names k).name (export_at ws names (k + 1)).name) ≡ true = rw (← e, ← f, ← s) z in
+        rw (two h, exports_turn n ws names (k + 1) h) (sym (ap (λ b. b && ascending rest) goes))
 
   pub ascending_end : n ≤ k + 1 → true ≡ ascending (exports_from (n - k) ws names k)
   unfolding ascending

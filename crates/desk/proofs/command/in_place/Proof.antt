@@ -1,6 +1,6 @@
 use Rattle.desk.proofs.command.Laws.{in_place_0, in_place_source}
-use Rattle.desk.proofs.command.in_place_lem.Statement.{statement}
-use Rattle.desk.proofs.command.in_place_lem.Tie as tie
+use Rattle.desk.proofs.command.in_place.Statement.{statement}
+use Rattle.desk.proofs.command.in_place.Tie as tie
 
 returns : tie.Need-returns
 returns c = let a = c.before.args in in_place_0 a.source a.address c.if1.true

@@ -1,8 +1,8 @@
 use borrow.Author.Rules.{rules}
 use Rattle.history.specs.Image.{count}
 use Rattle.writer_spec.specs.Words.{word_count}
-use Rattle.writer.proofs.words.word_count_lem.Statement.{statement}
-use Rattle.writer.proofs.words.word_count_lem.Tie as tie
+use Rattle.writer.proofs.words.word_count.Statement.{statement}
+use Rattle.writer.proofs.words.word_count.Tie as tie
 
 count-requires : tie.Need-count-requires
 count-requires c κs = search rules

@@ -8,8 +8,8 @@ use Rattle.writer_spec.specs.All.{all_none}
 use Rattle.writer_spec.specs.Description.{file_of}
 use Rattle.writer_spec.specs.Words.{word_inside, words_inside}
 use Rattle.writer.proofs.Laws.{words_below, word_fails, word-passes, words_pass}
-use Rattle.writer.proofs.words.words_inside_lem.Statement.{statement}
-use Rattle.writer.proofs.words.words_inside_lem.Tie as tie
+use Rattle.writer.proofs.words.words_inside.Statement.{statement}
+use Rattle.writer.proofs.words.words_inside.Tie as tie
 
 abbrev invariant-loop : tie.invariant-loop
 invariant-loop bytes kinds room all i₀ i = (i ≤ all) × (words_below (file_of bytes) kinds room.last_data (word_inside room) i ≡ true)

@@ -1,0 +1,17 @@
+use Rattle.std.proofs.Common.{◌≡◌, ◌+◌, ◌-◌, ◌≤◌, length, refl, ◌∙◌, arith, rules}
+use Rattle.layout.specs.Header.{export_indexed_symbol_table_offset}
+use Rattle.layout.specs.Segments.{field-word}
+use Rattle.register.specs.declared.append.draft.Drafted.TheVariants.{Open}
+use Rattle.linker.specs.Exports.Modules.{DraftStep, AnyModule}
+use Rattle.linker.proofs.exports.Laws.{no_turn, turn_open, turn_full, WithIndexedTo, indexed_to_lem, indexed_too_many, indexed_done}
+use Rattle.linker.proofs.exports.add_all_indexed.Given as goal
+
+abbrev pub invariant-loop-i : goal.invariant-loop-i
+invariant-loop-i l =
+    (length l.records ≡ length l.initial.records)
+    × (length l.names ≡ length l.initial.names)
+    × (l.i ≤ l.count)
+    × DraftStep AnyModule (λ m. WithIndexedTo l.at l.w l.base m 0) (λ m. WithIndexedTo l.at l.w l.base m l.i) l.initial.last l.initial.records l.initial.names (Open l.last) l.records l.names
+
+abbrev pub decreases-loop-i : goal.decreases-loop-i
+decreases-loop-i l = l.count - l.i

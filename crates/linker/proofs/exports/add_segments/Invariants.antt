@@ -1,0 +1,15 @@
+use Rattle.std.proofs.Common.{◌≡◌, ◌+◌, ◌-◌, ◌≤◌, length, refl, ◌∙◌, arith, rules}
+use Rattle.register.specs.declared.append.draft.Drafted.TheVariants.{Open}
+use Rattle.linker.specs.Exports.Modules.{DraftStep, Bare}
+use Rattle.linker.proofs.exports.Laws.{no_turn, turn_open, turn_full, WithSegmentsTo, segments_to_lem, segments-count, segments-done}
+use Rattle.linker.proofs.exports.add_segments.Given as goal
+
+abbrev pub invariant-loop-i : goal.invariant-loop-i
+invariant-loop-i l =
+    (length l.records ≡ length l.initial.records)
+    × (length l.names ≡ length l.initial.names)
+    × (l.i ≤ l.count)
+    × DraftStep Bare (λ m. WithSegmentsTo l.at l.w l.base m 0) (λ m. WithSegmentsTo l.at l.w l.base m l.i) l.initial.last l.initial.records l.initial.names (Open l.last) l.records l.names
+
+abbrev pub decreases-loop-i : goal.decreases-loop-i
+decreases-loop-i l = l.count - l.i

@@ -1,0 +1,15 @@
+use Rattle.std.proofs.Common.{◌≡◌, ◌-◌, ◌≤◌, length, sym, refl, ap, ◌∙◌, arith, rules}
+use Rattle.window.specs.Trace.{run_t}
+use Rattle.window.specs.Loop.{loop}
+use Rattle.window.specs.TraceRuns.{turn_made, turns-over, left}
+use Rattle.linker.proofs.rebase.Laws.{look_at, looks_start, look_made, looks_silent}
+use Rattle.linker.proofs.rebase.segments.look_at_segments.Given as goal
+
+abbrev pub invariant-loop-i : goal.invariant-loop-i
+invariant-loop-i l =
+    (l.i ≤ l.count)
+    × (run_t l.at (loop (look_at l.base) l.i (l.count - l.i) tt) (l.w, l.trace) ≡ run_t l.at (loop (look_at l.base) 0 (l.count - 0) tt) (l.w, l.initial.trace))
+    × (length l.trace ≡ length l.initial.trace)
+
+abbrev pub decreases-loop-i : goal.decreases-loop-i
+decreases-loop-i l = l.count - l.i

@@ -1,0 +1,38 @@
+-- A counted loop that passes over what lies outside: `pointers-past`, `steps-over`.
+use Rattle.std.proofs.Common.{◌≡◌, ◌-◌, ◌≤◌, length, refl, ◌∙◌, ⊎_elim, arith, rules}
+use Rattle.window.specs.Trace.{run_t}
+use Rattle.window.specs.Loop.{loop}
+use Rattle.window.specs.TraceRuns.{steps-over}
+use Rattle.window.specs.Outside.{silent_goes}
+use Rattle.layout.specs.Segments.{entry_at}
+use Rattle.linker_spec.specs.Rebase.{move_pointers, pointers_of}
+use Rattle.linker.proofs.rebase.Pointers.{size_taken, size_none, pointers-past, from_start}
+use Rattle.linker.proofs.rebase.tables.move_entries.Goals as goal
+
+pub loop-index-init : goal.loop-index-init
+loop-index-init c =
+    let a = c.args in
+    (omega arith, refl, from_start a.at _ a.count _, refl)
+
+pub overflow_add-index : goal.overflow_add-index
+overflow_add-index c = omega (arith, silent_goes _ _ _ _ _ _ c.silent_stride-index.ensures (omega (arith, c.loop-index-test.true)), c.loop-index-test.true)
+
+pub loop-index-smaller : goal.loop-index-smaller
+loop-index-smaller c = omega (arith, silent_goes _ _ _ _ _ _ c.silent_stride-index.ensures (omega (arith, c.loop-index-test.true)), c.loop-index-test.true)
+
+pub loop-index-preserved : goal.loop-index-preserved
+loop-index-preserved c =
+    let a = c.args in (
+      omega (arith, silent_goes _ _ _ _ _ _ c.silent_stride-index.ensures (omega (arith, c.loop-index-test.true)), c.loop-index-test.true),
+      c.move_pointers.auto.w ∙ c.loop-index.invariant.1,
+      pointers-past a.at a.forward a.base a.t a.table c.loop-index.index a.count (c.loop-index.w, c.loop-index.trace)
+          c.loop-index.invariant.2 c.loop-index-test.true c.entry_address-entry.ensures c.move_pointers.ensures c.pointers_within.ensures
+          (⊎_elim (λ e. size_taken a.t.entry_size e.0.taken e.1) (λ e. size_none a.t.entry_size e.0.left e.1) c.if-pointers_within.branch) c.silent_stride-index.ensures,
+      c.move_pointers.auto.trace ∙ c.loop-index.invariant.3,
+    )
+
+pub returns : goal.returns
+returns c =
+    let a = c.args in
+    steps-over a.at (λ e. move_pointers a.forward a.base e (pointers_of a.t)) (λ i. entry_at a.table i a.t.entry_size)
+    c.loop-index.index a.count (c.loop-index.w, c.loop-index.trace) c.loop-index.invariant.2 c.loop-index-test.false

@@ -1,0 +1,21 @@
+use Rattle.std.proofs.Common.{◌≡◌, ◌-◌, ◌≤◌, length, refl, ap, ◌∙◌, arith, rules}
+use Rattle.window.specs.Trace.{run_t}
+use Rattle.window.specs.Loop.{loop}
+use Rattle.layout.specs.Header.{relocation_entry_size}
+use Rattle.layout.specs.Segments.{entry_at}
+use Rattle.linker_spec.specs.Relocation.{reset_entry}
+use Rattle.window.specs.TraceRuns.{left, steps-over}
+use Rattle.window.specs.Outside.{silent_goes, strides_made}
+use Rattle.linker.proofs.relocation.Laws.{external_starts, external_idle}
+use Rattle.linker.proofs.relocation.reset_external_relocations.Given as goal
+
+abbrev pub invariant-loop-index : goal.invariant-loop-index
+invariant-loop-index l =
+    (l.index ≤ l.count)
+    × (length l.w ≡ length l.initial.w)
+    × (run_t l.at (loop (λ i _. reset_entry l.base l.handler (entry_at l.table i relocation_entry_size)) l.index (l.count - l.index) tt) (l.w, l.trace)
+    ≡ run_t l.at (loop (λ i _. reset_entry l.base l.handler (entry_at l.table i relocation_entry_size)) 0 (l.count - 0) tt) (l.initial.w, l.initial.trace))
+    × (length l.trace ≡ length l.initial.trace)
+
+abbrev pub decreases-loop-index : goal.decreases-loop-index
+decreases-loop-index l = l.count - l.index

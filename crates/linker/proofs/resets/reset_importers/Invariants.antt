@@ -1,0 +1,19 @@
+use Rattle.std.proofs.Common.{◌≡◌, ◌-◌, length, refl, ◌∙◌, arith, rules}
+use Rattle.window.specs.Trace.{run_t}
+use Rattle.register.specs.Read.Read.{modules_of, module_at}
+use Rattle.register.specs.Read.Walk.{unwrapped}
+use Rattle.linker_spec.specs.Resets.{reset_importers}
+use Rattle.linker.specs.Resets.Modules.{other_than}
+use Rattle.linker.specs.Sources.Walks.{RecordWalk, record_walk_starts, record_walk-fits}
+use Rattle.linker.proofs.resets.Walks.{resetting, reset-next, reset-all}
+use Rattle.linker.proofs.resets.reset_importers.Given as goal
+
+abbrev pub invariant-loop-k : goal.invariant-loop-k
+invariant-loop-k l =
+    (length l.w ≡ length l.initial.w)
+    × RecordWalk (resetting l.at (module_at l.records l.names l.place) l.place) l.records l.names l.next l.k (l.w, l.trace)
+    (run_t l.at (reset_importers (module_at l.records l.names l.place) (other_than l.place 32 (modules_of l.records l.names))) (l.initial.w, l.initial.trace))
+    × (length l.trace ≡ length l.initial.trace)
+
+abbrev pub decreases-loop-k : goal.decreases-loop-k
+decreases-loop-k l = l.count - l.k

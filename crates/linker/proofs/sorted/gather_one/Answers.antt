@@ -1,0 +1,19 @@
+use Rattle.std.proofs.Common.{arith, rules}
+use Rattle.linker.proofs.sorted.Laws.{one-passed, one_added}
+use Rattle.linker.proofs.sorted.gather_one.Goals as goal
+
+pub returns-in-Nowhere : goal.returns-in-Nowhere
+returns-in-Nowhere c =
+    let a = c.args in (
+      omega arith,
+      λ h. one-passed a.at a.w.now a.base a.i a.table _ _ _ _ c.entry_address-entry.ensures c.wrapping_add_u32.ensures.value c.word.ensures
+          c.tag_to_address.ensures h _ c.in-Nowhere.is,
+    )
+
+pub returns-in-At : goal.returns-in-At
+returns-in-At c =
+    let a = c.args in (
+      omega arith,
+      λ h. one_added a.at a.w.now a.base a.i a.table _ _ _ _ c.entry_address-entry.ensures c.wrapping_add_u32.ensures.value c.word.ensures
+          c.tag_to_address.ensures h _ _ a.items.now c.in-At.is c.word-place.ensures c.word-place.type_inv (omega arith) c.requires c.lay.ensures,
+    )

@@ -1,0 +1,23 @@
+use Rattle.std.proofs.Common.{rules}
+use Rattle.window.specs.Trace.{run_t}
+use Rattle.window.specs.Name.{name_at, name-fits, name_taken}
+use Rattle.register.specs.Read.Read.{export_of, module_at}
+use Rattle.linker.proofs.sources.Laws.{name_made}
+use Rattle.linker.proofs.sources.names.export_of.Goals as goal
+
+pub slice_bounds-buffer-end : goal.slice_bounds-buffer-end
+slice_bounds-buffer-end c =
+    let a = c.args in
+    name-fits (run_t a.at (name_at a.address) (a.w.now, a.trace.now)).0 _ c.read_name-n.ensures.0
+
+pub slice_bounds-export_named-end : goal.slice_bounds-export_named-end
+slice_bounds-export_named-end c =
+    let a = c.args in
+    name_taken (run_t a.at (name_at a.address) (a.w.now, a.trace.now)).0 _ c.read_name-n.ensures.0
+
+pub returns : goal.returns
+returns c =
+    let a = c.args in (
+      name_made (export_of (module_at a.records.now a.names.now a.place)) a.at a.address (a.w.now, a.trace.now) _ c.export_named.ensures c.read_name-n.ensures.0,
+      c.read_name-n.ensures.1,
+    )

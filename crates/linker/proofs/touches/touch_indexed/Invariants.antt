@@ -1,0 +1,16 @@
+-- The invariant: what is left to touch leaves what the whole table leaves.
+use Rattle.std.proofs.Common.{◌-◌, ◌≤◌, [], arith, rules}
+use Rattle.window.specs.Silent.{trace_kept}
+use Rattle.layout.specs.Header.{export_indexed_symbol_table_offset, export_indexed_symbol_num}
+use Rattle.linker_spec.specs.Exports.{indexed_export, indexed_exports}
+use Rattle.linker.proofs.touches.Laws.{turns, LeftToTouch, none_touched, turn_touched, turns_touched, touch_kept, indexed_entry, indexed_reads, table_touched}
+use Rattle.linker.proofs.touches.touch_indexed.Given as goal
+
+abbrev pub invariant-loop-i : goal.invariant-loop-i
+invariant-loop-i l =
+    (l.i ≤ l.count)
+    × LeftToTouch l.at (indexed_export l.base) (indexed_entry l.table) l.i l.count (l.w, l.trace)
+    (turns l.at (indexed_export l.base) (indexed_entry l.table) 0 l.count [] (l.w, l.initial.trace))
+
+abbrev pub decreases-loop-i : goal.decreases-loop-i
+decreases-loop-i l = l.count - l.i

@@ -1,0 +1,13 @@
+-- The invariant: what is left to touch leaves what all segments leave.
+use Rattle.std.proofs.Common.{◌-◌, ◌≤◌, [], refl, arith, rules}
+use Rattle.window.specs.Silent.{trace_kept}
+use Rattle.linker.proofs.touches.Laws.{turns, LeftToTouch, none_touched, turn_touched, turns_touched, touch_kept, segment_turn, segment_touched, turn_reads, segments_touched}
+use Rattle.linker.proofs.touches.touch_segments.Given as goal
+
+abbrev pub invariant-loop-index : goal.invariant-loop-index
+invariant-loop-index l =
+    (l.index ≤ l.count)
+    × LeftToTouch l.at (segment_turn l.base) (λ j. j) l.index l.count (l.w, l.trace) (turns l.at (segment_turn l.base) (λ j. j) 0 l.count [] (l.w, l.initial.trace))
+
+abbrev pub decreases-loop-index : goal.decreases-loop-index
+decreases-loop-index l = l.count - l.index

@@ -1,0 +1,35 @@
+use Rattle.std.proofs.Common.{◌-◌, ◌/◌, ◌≤◌, length, arith, rules}
+use Rattle.linker.specs.Exports.Waiting.{Inside}
+use Rattle.linker.proofs.waiting.Laws.{Searched, search_starts, search_none, search_below, search_above, search_found}
+use Rattle.linker.proofs.waiting.position_of.Goals as goal
+
+pub loop-low-init : goal.loop-low-init
+loop-low-init c = (omega arith, omega arith, search_starts _ _ _ _)
+
+pub loop-low-preserved-in-Before : goal.loop-low-preserved-in-Before
+loop-low-preserved-in-Before c = (
+  omega arith,
+  omega arith,
+  search_below _ _ _ _ c.loop-low.invariant.2 _ (omega arith) (omega arith) c.loop-low.invariant.1 c.word-place.ensures
+      c.compare_name_at.ensures c.in-Before.is,
+)
+
+pub returns-in-Same : goal.returns-in-Same
+unfolding Inside
+returns-in-Same c = (
+  omega arith,
+  search_found _ _ _ _ c.loop-low.invariant.2 _ (omega arith) (omega arith) c.loop-low.invariant.1 c.word-place.ensures
+      c.compare_name_at.ensures c.in-Same.is,
+)
+
+pub loop-low-preserved : goal.loop-low-preserved
+loop-low-preserved c = (
+  omega arith,
+  omega arith,
+  search_above _ _ _ _ c.loop-low.invariant.2 _ (omega arith) (omega arith) c.loop-low.invariant.1 c.word-place.ensures
+      c.compare_name_at.ensures c.in-After.is,
+)
+
+pub returns : goal.returns
+unfolding Inside
+returns c = (omega arith, search_none _ _ _ _ c.loop-low.invariant.2 (omega arith))

@@ -1,0 +1,20 @@
+use Prim.Native.Nat.{◌-◌, ◌%◌, ◌≤◌}
+use mathlib.Core.Path.{◌≡◌, ◌∙◌}
+use native.Mathlib.Omega.{arith}
+use lib.ListN.{length, drop}
+use borrow.Author.Rules.{rules}
+use Rattle.register.specs.Words.{words_in}
+use Rattle.register.specs.Check.{modules_ok}
+use Rattle.register_test.proofs.records.Loops.{place-fits, modules_more, modules_done, modules_bad, modules_on}
+use Rattle.register.proofs.Laws.{rest_of}
+use Rattle.register_test.proofs.records.modules_ok.Given as goal
+
+abbrev pub invariant-loop-k : goal.invariant-loop-k
+invariant-loop-k l =
+    (l.place % 4 ≡ 0)
+    × (l.place ≤ length l.records)
+    × (l.k ≤ l.count)
+    × (modules_ok (l.count - l.k) (words_in (drop l.place l.records)) l.names l.q ≡ modules_ok l.count (words_in l.records) l.names 0)
+
+abbrev pub decreases-loop-k : goal.decreases-loop-k
+decreases-loop-k l = l.count - l.k

@@ -1,0 +1,9 @@
+-- The constant is the text of the definition.
+use mathlib.Core.Path.{refl}
+use borrow.Author.Rules.{rules}
+use Rattle.text.specs.Text.{digit_of, bytes}
+use Rattle.text.proofs.digit.Goals as goal
+
+pub returns : goal.returns
+unfolding digit_of bytes
+returns c = refl

@@ -1,0 +1,13 @@
+-- A word has at most eight hex digits.
+use mathlib.Core.Path.{ap, ◌∙◌}
+use native.Mathlib.Omega.{arith}
+use borrow.Author.Rules.{rules}
+use Rattle.text.specs.Text.{hex_of, put}
+use Rattle.text.specs.Laws.{digits_enough}
+use Rattle.text.proofs.put_hex.Goals as goal
+
+pub returns : goal.returns
+unfolding hex_of
+returns c =
+    let a = c.args in
+    c.put_number.ensures ∙ ap (λ s. put s (a.at, a.out.now)) (digits_enough 16 7 2 a.v (omega arith) (omega arith))

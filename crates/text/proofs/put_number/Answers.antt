@@ -1,0 +1,53 @@
+use Prim.Native.Nat.{◌+◌, ◌-◌, ◌^◌, ◌≤◌, ◌<◌}
+use mathlib.Core.Path.{◌≡◌, refl, ap, ◌∙◌}
+use mathlib.Core.List.{◌++◌, append-nil}
+use native.Mathlib.Omega.{arith}
+use native.Mathlib.Nat.{mod-lt}
+use native.Mathlib.Numerals.{add-one}
+use lib.ListN.{length, drop, length-set}
+use borrow.Author.Rules.{rules}
+use Rattle.text.specs.Text.{digits_in, put}
+use Rattle.text.specs.Laws.{shorter}
+use Rattle.text.proofs.Laws.{more_left, digit_more, digit_last}
+use Rattle.text.proofs.put_number.Goals as goal
+
+pub loop-rest-init : goal.loop-rest-init
+loop-rest-init c = (omega arith, c.requires.2, refl, append-nil _)
+
+pub digit-requires : goal.digit-requires
+digit-requires c = let p = c.requires in omega (arith, mod-lt c.loop-rest.rest p.0)
+
+pub overflow_sub-i : goal.overflow_sub-i
+overflow_sub-i c =
+    let l = c.loop-rest in
+    more_left _ _ _ l.invariant.1 c.loop-rest-test.true
+
+pub loop-rest-smaller : goal.loop-rest-smaller
+loop-rest-smaller c =
+    let l = c.loop-rest in
+    omega (arith, more_left _ _ _ l.invariant.1 c.loop-rest-test.true)
+
+pub loop-rest-preserved : goal.loop-rest-preserved
+loop-rest-preserved c =
+    let l = c.loop-rest in
+    let g = c.loop-rest-test.true in
+    let p = c.requires in
+    let e : l.i - 1 + 1 ≡ l.i = omega (arith, more_left _ _ _ l.invariant.1 g) in (
+      omega arith,
+      rw e (shorter _ l.i l.rest p.0 (rw add-one at l.invariant.1)),
+      simp length-set l.invariant.2,
+      rw e (digit_more _ l.i l.rest l.digits (omega arith) g c.digit.ensures ∙ l.invariant.3),
+    )
+
+pub digit-requires-2 : goal.digit-requires-2
+digit-requires-2 c = omega (arith, c.requires.1)
+
+pub slice_bounds-put_text-end : goal.slice_bounds-put_text-end
+slice_bounds-put_text-end c = simp length-set (omega arith)
+
+pub returns : goal.returns
+returns c =
+    let l = c.loop-rest in
+    let a = c.args in
+    let e = digit_last _ l.i l.rest l.digits (omega arith) 10 l.invariant.2 c.loop-rest-test.false c.digit-2.ensures in
+    c.put_text.ensures ∙ ap (λ s. put s (a.at, a.out.now)) (e ∙ l.invariant.3)
