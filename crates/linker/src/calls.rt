@@ -70,7 +70,7 @@ fn link(
     auto_link: bool,
     fix_level: u32,
 ) -> u32
-    requires missing_value { is_register records.old names.now missing.old ≡ true }
+    requires registered { is_register records.old names.now missing.old ≡ true }
     requires last_record { LastRecord records.old names.now place }
     ensures { (old : Register) (m : Module) → register_of records.old names.now missing.old ≡ appended old m
         → place ≡ place_after 32 old.modules

@@ -4,7 +4,7 @@ use Rattle.window.specs.Access.{Prog}
 use Rattle.window.specs.Trace.{run_t}
 use Rattle.register.specs.Module.{Register}
 use Rattle.linker_spec.specs.Calls.{Answer}
-use Rattle.linker_spec.specs.Outcome.{Buffers, Outcome, outcome_of, outcome}
+use Rattle.linker_spec.specs.Outcome.{Buffers, Outcome, outcome_of}
 use Rattle.linker_spec.specs.Touches.{counted}
 use Rattle.linker_spec.specs.Refusals.{lent_register}
 

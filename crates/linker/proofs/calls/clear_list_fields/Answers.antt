@@ -1,5 +1,4 @@
 use Rattle.linker.specs.Calls.Laws.{clear_list_fields_is}
-use Rattle.std.proofs.Common.{rules}
 use Rattle.linker.proofs.calls.clear_list_fields.Goals as goal
 
 pub returns : goal.returns

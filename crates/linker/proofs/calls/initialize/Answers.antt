@@ -1,7 +1,6 @@
 -- By whether the module has its record: `initialize-refused`, `initialize-done`.
 use Rattle.linker_spec.specs.Outcome.{buffers}
 use Rattle.linker.proofs.calls.Calls.{initialize-refused, initialize-done}
-use Rattle.std.proofs.Common.{rules}
 use Rattle.linker.proofs.calls.initialize.Goals as goal
 
 pub returns-then-refused-ne0 : goal.returns-then-refused-ne0

@@ -1,5 +1,4 @@
 -- Five steps, one after another: `links`.
-use Rattle.std.proofs.Common.{◌∙◌, rules}
 use Rattle.linker.specs.Calls.Linked.{still_encoded, still_sorted, links}
 use Rattle.linker.proofs.calls.link.Goals as goal
 
@@ -11,12 +10,12 @@ apply_module_imports-requires c =
 
 pub apply_exports_to_loaded-requires : goal.apply_exports_to_loaded-requires
 apply_exports_to_loaded-requires c =
-    let a = c.args in (
-      still_encoded a.at a.records.now a.names.now a.missing.now a.given a.auto_link a.fix_level (a.w.now, a.trace.now) c.list.ensures _ _
-          c.apply_import_named_symbols.ensures,
-      still_sorted a.at a.records.now a.names.now a.missing.now a.given a.auto_link a.fix_level (a.w.now, a.trace.now) c.list.ensures _ _
-          c.apply_import_named_symbols.ensures c.requires.1,
-    )
+    let a = c.args in record {
+      encoded = still_encoded a.at a.records.now a.names.now a.missing.now a.given a.auto_link a.fix_level (a.w.now, a.trace.now) c.list.ensures _ _
+          c.apply_import_named_symbols.ensures;
+      sorted = still_sorted a.at a.records.now a.names.now a.missing.now a.given a.auto_link a.fix_level (a.w.now, a.trace.now) c.list.ensures _ _
+          c.apply_import_named_symbols.ensures c.requires.last_record;
+    }
 
 pub returns : goal.returns
 returns c =

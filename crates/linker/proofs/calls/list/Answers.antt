@@ -1,5 +1,5 @@
 -- By whether the register knows the static module: `listed_none`, `listed_known`.
-use Rattle.std.proofs.Common.{sym, ◌∙◌, rules}
+use Rattle.std.proofs.Common.{sym, ◌∙◌}
 use Rattle.linker.specs.Calls.Linked.{listed_none, listed_known}
 use Rattle.linker.proofs.calls.list.Goals as goal
 

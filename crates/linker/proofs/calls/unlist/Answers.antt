@@ -1,5 +1,5 @@
 -- By whether the register knows the static module: `unlisted_none`, `unlisted_known`.
-use Rattle.std.proofs.Common.{sym, ◌∙◌, rules}
+use Rattle.std.proofs.Common.{sym, ◌∙◌}
 use Rattle.linker.specs.Calls.Left.{unlisted_none, unlisted_known}
 use Rattle.linker.proofs.calls.unlist.Goals as goal
 

@@ -1,7 +1,6 @@
 -- By whether a module has the base: `unload_none`, `unload-done`.
 use Rattle.linker_spec.specs.Outcome.{buffers}
 use Rattle.linker.proofs.calls.Calls.{unload_none, unload_stands, unload_sorted, unload-done}
-use Rattle.std.proofs.Common.{rules}
 use Rattle.linker.proofs.calls.unload.Goals as goal
 
 pub first_with_base-requires : goal.first_with_base-requires
@@ -16,10 +15,10 @@ returns-in_default c =
 pub reset_importers-requires : goal.reset_importers-requires
 reset_importers-requires c =
     let a = c.args in
-    let b = buffers a.w.now a.records.now a.names.now a.missing.now in (
-      (_, c.requires),
-      unload_sorted a.at a.base b a.trace.now c.requires c.first_with_base.ensures _ c.in-At.is,
-    )
+    let b = buffers a.w.now a.records.now a.names.now a.missing.now in record {
+      encoded = (_, c.requires);
+      sorted = unload_sorted a.at a.base b a.trace.now c.requires c.first_with_base.ensures _ c.in-At.is;
+    }
 
 pub remove_record-requires : goal.remove_record-requires
 remove_record-requires c =

@@ -1,6 +1,5 @@
 -- By how the rebase ended, and by whether the record has room: `add_record_1`, `add_record_2`, `add_record_5`, `add_record_0`.
 use Rattle.linker.proofs.entry.Laws.{add_record_1, add_record_2, add_record_5, add_record_0}
-use Rattle.std.proofs.Common.{rules}
 use Rattle.linker.proofs.entry.add_record.Goals as goal
 
 pub returns-in-NotACro : goal.returns-in-NotACro

@@ -1,9 +1,7 @@
-use Rattle.std.proofs.Common.{◌≡◌, ◌+◌, ◌-◌, ◌≤◌, length, refl, ◌∙◌, arith, rules}
-use Rattle.layout.specs.Header.{export_indexed_symbol_table_offset}
-use Rattle.layout.specs.Segments.{field-word}
+use Rattle.std.proofs.Common.{◌≡◌, ◌-◌, ◌≤◌, length}
 use Rattle.register.specs.declared.append.draft.Drafted.TheVariants.{Open}
 use Rattle.linker.specs.Exports.Modules.{DraftStep, AnyModule}
-use Rattle.linker.proofs.exports.Laws.{no_turn, turn_open, turn_full, WithIndexedTo, indexed_to_lem, indexed_too_many, indexed_done}
+use Rattle.linker.proofs.exports.Laws.{WithIndexedTo}
 use Rattle.linker.proofs.exports.add_all_indexed.Given as goal
 
 abbrev pub invariant-loop-i : goal.invariant-loop-i

@@ -1,6 +1,5 @@
-use Rattle.std.proofs.Common.{◌-◌, length, arith, rules}
+use Rattle.std.proofs.Common.{◌-◌, length, arith}
 use borrow.Rule.Slice.PartMut.{same_len_mid}
-use borrow.Author.Tests.{not-true, not-false}
 use Rattle.register.specs.Append.Draft.{room-inside, room_word}
 use Rattle.linker.proofs.exports.Laws.{shut_named, full_named, written-named, open_draft}
 use Rattle.linker.proofs.waiting.Laws.{open_ends}

@@ -1,4 +1,3 @@
-use Rattle.std.proofs.Common.{rules}
 use Rattle.linker.specs.Exports.Modules.{no_segments_in, no_named_in, lists_in}
 use Rattle.linker.proofs.exports.add_lists.Goals as goal
 

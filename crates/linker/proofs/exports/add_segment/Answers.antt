@@ -1,4 +1,3 @@
-use Rattle.std.proofs.Common.{rules}
 use Rattle.linker.proofs.exports.Laws.{added_segment}
 use Rattle.linker.proofs.exports.add_segment.Goals as goal
 

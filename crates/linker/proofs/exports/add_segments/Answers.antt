@@ -1,6 +1,5 @@
-use Rattle.std.proofs.Common.{◌≡◌, ◌+◌, ◌-◌, ◌≤◌, length, refl, ◌∙◌, arith, rules}
-use Rattle.register.specs.declared.append.draft.Drafted.TheVariants.{Open}
-use Rattle.linker.specs.Exports.Modules.{DraftStep, Bare}
+use Rattle.std.proofs.Common.{◌≡◌, ◌+◌, refl, ◌∙◌, arith}
+use Rattle.linker.specs.Exports.Modules.{Bare}
 use Rattle.linker.proofs.exports.Laws.{no_turn, turn_open, turn_full, WithSegmentsTo, segments_to_lem, segments-count, segments-done}
 use Rattle.linker.proofs.exports.add_segments.Goals as goal
 

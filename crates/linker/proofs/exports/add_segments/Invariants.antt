@@ -1,7 +1,7 @@
-use Rattle.std.proofs.Common.{◌≡◌, ◌+◌, ◌-◌, ◌≤◌, length, refl, ◌∙◌, arith, rules}
+use Rattle.std.proofs.Common.{◌≡◌, ◌-◌, ◌≤◌, length}
 use Rattle.register.specs.declared.append.draft.Drafted.TheVariants.{Open}
 use Rattle.linker.specs.Exports.Modules.{DraftStep, Bare}
-use Rattle.linker.proofs.exports.Laws.{no_turn, turn_open, turn_full, WithSegmentsTo, segments_to_lem, segments-count, segments-done}
+use Rattle.linker.proofs.exports.Laws.{WithSegmentsTo}
 use Rattle.linker.proofs.exports.add_segments.Given as goal
 
 abbrev pub invariant-loop-i : goal.invariant-loop-i

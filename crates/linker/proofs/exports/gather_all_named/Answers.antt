@@ -1,5 +1,4 @@
-use Rattle.std.proofs.Common.{◌-◌, ◌*◌, length, ◌∙◌, arith, rules}
-use borrow.Author.Tests.{not-true, not-false}
+use Rattle.std.proofs.Common.{◌*◌, length, ◌∙◌, arith}
 use Rattle.layout.specs.Header.{export_named_symbol_table_offset}
 use Rattle.layout.specs.Segments.{field-word}
 use Rattle.register.specs.Append.Draft.{room-inside, room_word}
@@ -44,7 +43,7 @@ slice_bounds-names_length-end c =
     let rs = a.records.now in
     let ns = a.names.now in
     let count = c.field-count.result in
-    let fit = has_room first.end (12 * count) (length rs) c.room.ensures c.«fits2».ensures c.if-not-fits.false in
+    let fit = has_room first.end (12 * count) (length rs) c.room.ensures c.fits.ensures c.if-not-fits.false in
     let n = c.gather-n.result in
     let items = c.gather-n.new.items in
     let same = c.gather-n.auto.items in
@@ -59,7 +58,7 @@ names_length-bytes-requires c =
     let rs = a.records.now in
     let ns = a.names.now in
     let count = c.field-count.result in
-    let fit = has_room first.end (12 * count) (length rs) c.room.ensures c.«fits2».ensures c.if-not-fits.false in
+    let fit = has_room first.end (12 * count) (length rs) c.room.ensures c.fits.ensures c.if-not-fits.false in
     let n = c.gather-n.result in
     let items = c.gather-n.new.items in
     let same = c.gather-n.auto.items in
@@ -74,7 +73,7 @@ returns-then-not-fits-2 c =
     let rs = a.records.now in
     let ns = a.names.now in
     let count = c.field-count.result in
-    let fit = has_room first.end (12 * count) (length rs) c.room.ensures c.fits-2.ensures c.if-not-fits.false in
+    let fit = has_room first.end (12 * count) (length rs) c.room.ensures c.fits.ensures c.if-not-fits.false in
     let n = c.gather-n.result in
     let items = c.gather-n.new.items in
     let same = c.gather-n.auto.items in
@@ -91,7 +90,7 @@ overflow_add-result c =
     let rs = a.records.now in
     let ns = a.names.now in
     let count = c.field-count.result in
-    let fit = has_room first.end (12 * count) (length rs) c.room.ensures c.fits-2.ensures c.if-not-fits.false in
+    let fit = has_room first.end (12 * count) (length rs) c.room.ensures c.fits.ensures c.if-not-fits.false in
     omega (arith, fit, c.gather-n.ensures.0, room_word (length rs))
 
 pub overflow_add-result-2 : goal.overflow_add-result-2
@@ -101,7 +100,7 @@ overflow_add-result-2 c =
     let rs = a.records.now in
     let ns = a.names.now in
     let count = c.field-count.result in
-    let fit = has_room first.end (12 * count) (length rs) c.room.ensures c.fits-2.ensures c.if-not-fits.false in
+    let fit = has_room first.end (12 * count) (length rs) c.room.ensures c.fits.ensures c.if-not-fits.false in
     let bytes = c.names_length-bytes.result in
     let fits = has_room first.last bytes (length ns) c.room-2.ensures c.fits-2.ensures c.if-not-fits-2.false in
     omega (arith, fits, room_word (length ns))
@@ -113,7 +112,7 @@ returns c =
     let rs = a.records.now in
     let ns = a.names.now in
     let count = c.field-count.result in
-    let fit = has_room first.end (12 * count) (length rs) c.room.ensures c.fits-2.ensures c.if-not-fits.false in
+    let fit = has_room first.end (12 * count) (length rs) c.room.ensures c.fits.ensures c.if-not-fits.false in
     let n = c.gather-n.result in
     let items = c.gather-n.new.items in
     let same = c.gather-n.auto.items in

@@ -1,4 +1,4 @@
-use Rattle.std.proofs.Common.{subst, rules}
+use Rattle.std.proofs.Common.{subst}
 use Rattle.linker.specs.Exports.Gathered.{Gathered, GatherStep}
 use Rattle.linker.proofs.exports.Laws.{passed-named, added_named}
 use Rattle.linker.proofs.waiting.Laws.{ends_open}

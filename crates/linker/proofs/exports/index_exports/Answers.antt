@@ -1,4 +1,4 @@
-use Rattle.std.proofs.Common.{arith, rules}
+use Rattle.std.proofs.Common.{arith}
 use Rattle.linker.specs.Exports.Exported.{for_all, not-begun, not_filled, finished_all}
 use Rattle.linker.proofs.exports.index_exports.Goals as goal
 

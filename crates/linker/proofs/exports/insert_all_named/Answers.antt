@@ -1,9 +1,8 @@
-use Rattle.std.proofs.Common.{◌≡◌, ◌-◌, ◌^◌, ◌<◌, ◌≤◌, length, refl, ◌∙◌, arith, rules}
+use Rattle.std.proofs.Common.{◌≡◌, refl, ◌∙◌, arith}
 use Rattle.window.specs.Outside.{stride_goes}
 use Rattle.layout.specs.Header.{export_named_symbol_table_offset}
 use Rattle.layout.specs.Segments.{field-word}
-use Rattle.register.specs.Append.Draft.{room_in}
-use Rattle.linker.proofs.exports.Laws.{GatheredTo, gathered-first, gathered-turn, gathered-past, gathered-given_up, gathered-last}
+use Rattle.linker.proofs.exports.Laws.{gathered-first, gathered-turn, gathered-past, gathered-given_up, gathered-last}
 use Rattle.linker.proofs.waiting.Laws.{ends_open, ends_full, open_ends}
 use Rattle.linker.proofs.exports.insert_all_named.Goals as goal
 

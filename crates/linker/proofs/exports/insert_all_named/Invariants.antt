@@ -1,10 +1,6 @@
-use Rattle.std.proofs.Common.{◌≡◌, ◌-◌, ◌^◌, ◌<◌, ◌≤◌, length, refl, ◌∙◌, arith, rules}
-use Rattle.window.specs.Outside.{stride_goes}
-use Rattle.layout.specs.Header.{export_named_symbol_table_offset}
-use Rattle.layout.specs.Segments.{field-word}
+use Rattle.std.proofs.Common.{◌≡◌, ◌-◌, ◌^◌, ◌<◌, ◌≤◌, length}
 use Rattle.register.specs.Append.Draft.{room_in}
-use Rattle.linker.proofs.exports.Laws.{GatheredTo, gathered-first, gathered-turn, gathered-past, gathered-given_up, gathered-last}
-use Rattle.linker.proofs.waiting.Laws.{ends_open, ends_full, open_ends}
+use Rattle.linker.proofs.exports.Laws.{GatheredTo}
 use Rattle.linker.proofs.exports.insert_all_named.Given as goal
 
 abbrev pub invariant-loop-i : goal.invariant-loop-i

@@ -1,4 +1,4 @@
-use Rattle.std.proofs.Common.{refl, arith, rules}
+use Rattle.std.proofs.Common.{refl}
 use Rattle.linker_spec.specs.Fix.{align_up}
 use Rattle.linker.proofs.fix.align_up.Goals as goal
 

@@ -1,9 +1,6 @@
 -- A counted loop; the fields stay below the header's size.
-use Rattle.std.proofs.Common.{◌≡◌, ◌+◌, ◌-◌, ◌*◌, ◌/◌, ◌≤◌, length, refl, ◌∙◌, arith, rules}
-use Rattle.window.specs.Trace.{run_t}
-use Rattle.window.specs.Loop.{loop}
+use Rattle.std.proofs.Common.{◌+◌, ◌*◌, ◌/◌, refl, ◌∙◌, arith}
 use Rattle.layout.specs.Segments.{set_field}
-use Rattle.linker_spec.specs.Fix.{end_tables}
 use Rattle.window.specs.TraceRuns.{step_made, steps-over}
 use Rattle.linker.proofs.fix.Laws.{dropped_start}
 use Rattle.linker.proofs.fix.end_tables.Goals as goal

@@ -1,10 +1,8 @@
-use Rattle.std.proofs.Common.{◌≡◌, ◌+◌, ◌-◌, ◌*◌, ◌/◌, ◌≤◌, length, refl, ◌∙◌, arith, rules}
+use Rattle.std.proofs.Common.{◌≡◌, ◌+◌, ◌-◌, ◌*◌, ◌≤◌, length}
 use Rattle.window.specs.Trace.{run_t}
 use Rattle.window.specs.Loop.{loop}
 use Rattle.layout.specs.Segments.{set_field}
 use Rattle.linker_spec.specs.Fix.{end_tables}
-use Rattle.window.specs.TraceRuns.{step_made, steps-over}
-use Rattle.linker.proofs.fix.Laws.{dropped_start}
 use Rattle.linker.proofs.fix.end_tables.Given as goal
 
 abbrev pub invariant-loop-i : goal.invariant-loop-i

@@ -1,5 +1,4 @@
 -- By the level.
-use Rattle.std.proofs.Common.{rules}
 use Rattle.linker.proofs.fix.Laws.{fixed_1, fixed_2, fixed_3, fixed_no}
 use Rattle.linker.proofs.fix.fix.Goals as goal
 

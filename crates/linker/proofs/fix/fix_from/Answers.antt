@@ -1,5 +1,4 @@
 -- The pairs, the dropped tables and the size, in their order: `fixed_from`.
-use Rattle.std.proofs.Common.{rules}
 use Rattle.linker.proofs.fix.Laws.{fixed_from}
 use Rattle.linker.proofs.fix.fix_from.Goals as goal
 

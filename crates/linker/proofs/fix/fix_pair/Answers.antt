@@ -1,5 +1,4 @@
 -- Dropped, empty or counted: the three answers of `fix_pair`.
-use Rattle.std.proofs.Common.{rules}
 use Rattle.linker.proofs.fix.Laws.{pair_dropped, pair-empty, pair-counted}
 use Rattle.linker.proofs.fix.fix_pair.Goals as goal
 

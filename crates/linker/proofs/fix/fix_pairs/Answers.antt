@@ -1,7 +1,5 @@
 -- A counted loop that hands the end on: `turn_made`, `turns-over`.
-use Rattle.std.proofs.Common.{◌≡◌, ◌-◌, ◌≤◌, length, refl, ◌∙◌, arith, rules}
-use Rattle.window.specs.Trace.{run_t}
-use Rattle.window.specs.Loop.{loop}
+use Rattle.std.proofs.Common.{refl, ◌∙◌, arith}
 use Rattle.linker_spec.specs.Fix.{fix_pair}
 use Rattle.window.specs.TraceRuns.{turn_made, turns-over}
 use Rattle.linker.proofs.fix.fix_pairs.Goals as goal

@@ -1,8 +1,7 @@
-use Rattle.std.proofs.Common.{◌≡◌, ◌-◌, ◌≤◌, length, refl, ◌∙◌, arith, rules}
+use Rattle.std.proofs.Common.{◌≡◌, ◌-◌, ◌≤◌, length}
 use Rattle.window.specs.Trace.{run_t}
 use Rattle.window.specs.Loop.{loop}
 use Rattle.linker_spec.specs.Fix.{fix_pair}
-use Rattle.window.specs.TraceRuns.{turn_made, turns-over}
 use Rattle.linker.proofs.fix.fix_pairs.Given as goal
 
 abbrev pub invariant-loop-i : goal.invariant-loop-i

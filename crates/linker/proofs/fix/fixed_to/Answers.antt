@@ -1,4 +1,3 @@
-use Rattle.std.proofs.Common.{rules}
 use Rattle.linker.proofs.fix.Laws.{fixed_in_steps}
 use Rattle.linker.proofs.fix.fixed_to.Goals as goal
 

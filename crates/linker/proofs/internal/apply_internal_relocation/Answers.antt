@@ -1,7 +1,4 @@
 -- By cases: no target segment, an offset at or past its size, no symbol segment, both there.
-use Rattle.std.proofs.Common.{rules}
-use Rattle.window.specs.Silent.{trace_kept}
-use Rattle.linker_spec.specs.Relocation.{apply_internal_relocation}
 use Rattle.linker.proofs.internal.Laws.{into_missing, into-past, from_missing, from_found}
 use Rattle.linker.proofs.internal.apply_internal_relocation.Goals as goal
 

@@ -1,11 +1,8 @@
 -- A counted loop over the table: `internal_starts`, `strides_made`, `steps-over`.
-use Rattle.std.proofs.Common.{◌≡◌, ◌-◌, ◌≤◌, length, refl, ap, ◌∙◌, arith, rules}
-use Rattle.window.specs.Silent.{trace_kept}
-use Rattle.window.specs.Trace.{run_t}
-use Rattle.window.specs.Loop.{loop}
+use Rattle.std.proofs.Common.{refl, ap, ◌∙◌, arith}
 use Rattle.layout.specs.Header.{relocation_entry_size}
 use Rattle.layout.specs.Segments.{entry_at}
-use Rattle.linker_spec.specs.Relocation.{apply_internal_relocation, apply_internal_relocations}
+use Rattle.linker_spec.specs.Relocation.{apply_internal_relocation}
 use Rattle.window.specs.TraceRuns.{left, steps-over}
 use Rattle.window.specs.Outside.{silent_goes, strides_made}
 use Rattle.linker.proofs.internal.Laws.{internal_starts, internal_idle}

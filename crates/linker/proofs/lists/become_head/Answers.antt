@@ -1,4 +1,3 @@
-use Rattle.std.proofs.Common.{rules}
 use Rattle.linker.proofs.lists.Laws.{head_made}
 use Rattle.linker.proofs.lists.become_head.Goals as goal
 

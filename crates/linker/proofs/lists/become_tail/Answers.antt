@@ -1,4 +1,3 @@
-use Rattle.std.proofs.Common.{rules}
 use Rattle.linker.proofs.lists.Laws.{tail_made}
 use Rattle.linker.proofs.lists.become_tail.Goals as goal
 

@@ -1,5 +1,4 @@
 -- The head of one list, of the other, or of none.
-use Rattle.std.proofs.Common.{rules}
 use Rattle.linker.proofs.lists.Laws.{leaves-first, leaves_second, Leaves-none}
 use Rattle.linker.proofs.lists.leaves.Goals as goal
 

@@ -1,4 +1,3 @@
-use Rattle.std.proofs.Common.{rules}
 use Rattle.linker.proofs.lists.Laws.{middle_left}
 use Rattle.linker.proofs.lists.middle_leaves.Goals as goal
 

@@ -1,5 +1,4 @@
 -- No head, a head with another tail, a head whose tail leaves.
-use Rattle.std.proofs.Common.{rules}
 use Rattle.linker.proofs.lists.Laws.{tail_no_head, tail_other, tail_new}
 use Rattle.linker.proofs.lists.new_tail.Goals as goal
 

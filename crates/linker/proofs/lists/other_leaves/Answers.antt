@@ -1,4 +1,3 @@
-use Rattle.std.proofs.Common.{rules}
 use Rattle.linker.proofs.lists.Laws.{other_tail, other_middle}
 use Rattle.linker.proofs.lists.other_leaves.Goals as goal
 

@@ -1,4 +1,3 @@
-use Rattle.std.proofs.Common.{rules}
 use Rattle.linker.proofs.lists.Laws.{tail_left}
 use Rattle.linker.proofs.lists.tail_leaves.Goals as goal
 

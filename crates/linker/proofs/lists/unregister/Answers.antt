@@ -1,5 +1,4 @@
 -- In no list, or out of one.
-use Rattle.std.proofs.Common.{rules}
 use Rattle.linker.proofs.lists.Laws.{in_no_list, unregistered}
 use Rattle.linker.proofs.lists.unregister.Goals as goal
 

@@ -1,5 +1,4 @@
 -- No magic, a segment refused, or all of it: the laws of `rebase_with` at the segments of a load.
-use Rattle.std.proofs.Common.{rules}
 use Rattle.linker_spec.specs.Rebase.{move_segments}
 use Rattle.linker_spec.specs.Calls.{rebase}
 use Rattle.linker.proofs.rebase.Laws.{rebase-not, rebase_bad, rebase_good}

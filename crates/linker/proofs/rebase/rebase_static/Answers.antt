@@ -1,5 +1,5 @@
 -- No magic, or all of it: the laws of `rebase_with` at segments that are only looked at.
-use Rattle.std.proofs.Common.{refl, rules}
+use Rattle.std.proofs.Common.{refl}
 use Rattle.window.specs.Access.{ret, ◌>>◌}
 use Rattle.linker_spec.specs.declared.rebase.Moved.TheVariants.{OldPlace}
 use Rattle.linker_spec.specs.Rebase.{look_at_segments}

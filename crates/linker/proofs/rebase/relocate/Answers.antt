@@ -1,5 +1,4 @@
 -- The tables, then the relocations: `relocated`.
-use Rattle.std.proofs.Common.{rules}
 use Rattle.linker.proofs.rebase.Laws.{relocated}
 use Rattle.linker.proofs.rebase.relocate.Goals as goal
 

@@ -1,4 +1,4 @@
-use Rattle.std.proofs.Common.{ap, ◌∙◌, rules}
+use Rattle.std.proofs.Common.{ap, ◌∙◌}
 use Rattle.window.specs.Name.{name-fits, name_is, name_taken}
 use Rattle.register.specs.Append.Draft.{begin_record}
 use Rattle.linker.proofs.record.Laws.{own_name_lem}

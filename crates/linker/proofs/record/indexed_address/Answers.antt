@@ -1,4 +1,4 @@
-use Rattle.std.proofs.Common.{sym, ap, ◌∙◌, rules}
+use Rattle.std.proofs.Common.{sym, ap, ◌∙◌}
 use Rattle.linker_spec.specs.Relocation.{address_or0}
 use Rattle.linker.proofs.record.Laws.{indexed_at}
 use Rattle.linker.proofs.record.indexed_address.Goals as goal

@@ -1,4 +1,3 @@
-use Rattle.std.proofs.Common.{rules}
 use Rattle.linker.proofs.record.Laws.{keep_or_give_up_full, keep_or_give_up_open}
 use Rattle.linker.proofs.record.keep_or_give_up.Goals as goal
 

@@ -1,4 +1,4 @@
-use Rattle.std.proofs.Common.{sym, ap, ◌∙◌, rules}
+use Rattle.std.proofs.Common.{sym, ap, ◌∙◌}
 use Rattle.linker_spec.specs.Exports.{offset_or0}
 use Rattle.linker.proofs.record.segment_offset.Goals as goal
 

@@ -1,5 +1,4 @@
 -- The entry's words by `entry_applied`, what is done with them by the tag's address: `relocate_nowhere`, `relocate-at`.
-use Rattle.std.proofs.Common.{◌∙◌, rules}
 use Rattle.linker.proofs.relocation.Laws.{relocate_nowhere, relocate-at, entry_applied}
 use Rattle.linker.proofs.relocation.apply_entry.Goals as goal
 

@@ -1,11 +1,10 @@
 -- The walk from here on gives what the whole walk gives (`walk-past`); it ends at a mark or at the last entry, then the mark is set.
-use Rattle.std.proofs.Common.{◌≡◌, ◌-◌, ◌^◌, ◌<◌, length, refl, ◌∙◌, ⊎_elim, arith, rules}
-use Rattle.window.specs.Trace.{run_t}
+use Rattle.std.proofs.Common.{refl, ◌∙◌, arith}
 use Rattle.window.specs.Outside.{silent_goes}
-use Rattle.linker_spec.specs.Relocation.{walk, batch_limit}
 use Rattle.linker.proofs.relocation.Laws.{walk_end, batch_made, mark_byte}
 use Rattle.linker.proofs.relocation.Walk.{walk-past, walk_filled}
 use Rattle.linker.proofs.relocation.apply_relocation_batch.Goals as goal
+use Rattle.linker.proofs.relocation.apply_relocation_batch.Goals.{then-end-ne0, else-end-ne0+then-walked-eq4097}
 
 pub loop-walked-init : goal.loop-walked-init
 loop-walked-init c = (omega arith, omega (arith, c.ranges.batch), refl, refl, refl)
@@ -41,11 +40,13 @@ pub returns : goal.returns
 returns c =
     let a = c.args in
     batch_made a.at a.base a.batch a.symbol a.resolved (a.w.now, a.trace.now)
-    (⊎_elim
-    (λ e. walk_end a.at a.base a.symbol c.loop-walked.entry (c.loop-walked.w, c.loop-walked.trace) 0x1001 c.loop-walked.walked c.loop-walked.invariant.0
-    c.walk_entry-end.ensures e.1 e.0.taken)
-    (λ e. walk_filled a.at a.base a.symbol c.loop-walked.entry (c.loop-walked.w, c.loop-walked.trace) 0x1001 c.loop-walked.walked c.loop-walked.invariant.1
-    c.loop-walked.invariant.0 c.walk_entry-end.ensures e.0.left e.2.ensures e.4 e.3.taken)
-    c.if-end-ne0.branch
+    (elim c.if-end-ne0.branch [
+      | then-end-ne0 w ↦
+          walk_end a.at a.base a.symbol c.loop-walked.entry (c.loop-walked.w, c.loop-walked.trace) 0x1001 c.loop-walked.walked c.loop-walked.invariant.0
+          c.walk_entry-end.ensures w.walked-is w.if-end-ne0.true
+      | else-end-ne0+then-walked-eq4097 w ↦
+          walk_filled a.at a.base a.symbol c.loop-walked.entry (c.loop-walked.w, c.loop-walked.trace) 0x1001 c.loop-walked.walked c.loop-walked.invariant.1
+          c.loop-walked.invariant.0 c.walk_entry-end.ensures w.if-end-ne0.false w.silent_stride-passed.ensures w.walked-is w.if-walked-eq4097.true
+    ]
     ∙ c.loop-walked.invariant.3)
     c.wrapping_add_u32.ensures.value (mark_byte a.resolved) c.write8.ensures

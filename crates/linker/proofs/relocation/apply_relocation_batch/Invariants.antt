@@ -1,9 +1,6 @@
-use Rattle.std.proofs.Common.{◌≡◌, ◌-◌, ◌^◌, ◌<◌, length, refl, ◌∙◌, ⊎_elim, arith, rules}
+use Rattle.std.proofs.Common.{◌≡◌, ◌-◌, ◌^◌, ◌<◌, length}
 use Rattle.window.specs.Trace.{run_t}
-use Rattle.window.specs.Outside.{silent_goes}
 use Rattle.linker_spec.specs.Relocation.{walk, batch_limit}
-use Rattle.linker.proofs.relocation.Laws.{walk_end, batch_made, mark_byte}
-use Rattle.linker.proofs.relocation.Walk.{walk-past, walk_filled}
 use Rattle.linker.proofs.relocation.apply_relocation_batch.Given as goal
 
 abbrev pub invariant-loop-walked : goal.invariant-loop-walked

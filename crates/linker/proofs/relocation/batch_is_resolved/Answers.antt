@@ -1,5 +1,4 @@
 -- The mark is a byte: `mark_read`.
-use Rattle.std.proofs.Common.{rules}
 use Rattle.linker.proofs.relocation.Laws.{mark_read}
 use Rattle.linker.proofs.relocation.batch_is_resolved.Goals as goal
 

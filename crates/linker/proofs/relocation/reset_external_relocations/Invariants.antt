@@ -1,12 +1,9 @@
-use Rattle.std.proofs.Common.{◌≡◌, ◌-◌, ◌≤◌, length, refl, ap, ◌∙◌, arith, rules}
+use Rattle.std.proofs.Common.{◌≡◌, ◌-◌, ◌≤◌, length}
 use Rattle.window.specs.Trace.{run_t}
 use Rattle.window.specs.Loop.{loop}
 use Rattle.layout.specs.Header.{relocation_entry_size}
 use Rattle.layout.specs.Segments.{entry_at}
 use Rattle.linker_spec.specs.Relocation.{reset_entry}
-use Rattle.window.specs.TraceRuns.{left, steps-over}
-use Rattle.window.specs.Outside.{silent_goes, strides_made}
-use Rattle.linker.proofs.relocation.Laws.{external_starts, external_idle}
 use Rattle.linker.proofs.relocation.reset_external_relocations.Given as goal
 
 abbrev pub invariant-loop-index : goal.invariant-loop-index

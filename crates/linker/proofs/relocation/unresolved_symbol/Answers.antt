@@ -1,5 +1,5 @@
 -- By what the handler's tag gives: `handler_is`.
-use Rattle.std.proofs.Common.{sym, ap, rules}
+use Rattle.std.proofs.Common.{sym, ap}
 use Rattle.linker_spec.specs.Relocation.{address_or0}
 use Rattle.linker.proofs.relocation.Laws.{handler_is}
 use Rattle.linker.proofs.relocation.unresolved_symbol.Goals as goal

@@ -1,5 +1,5 @@
 -- Entry and segment inside: `inside_nowhere`, `inside-at`; else it is `walk_anywhere`.
-use Rattle.std.proofs.Common.{length, sym, refl, ◌∙◌, arith, rules}
+use Rattle.std.proofs.Common.{length, sym, refl, ◌∙◌, arith}
 use Rattle.window.specs.Row.{row_stands}
 use Rattle.layout.proofs.SegmentRow.{segment-inside}
 use Rattle.linker.proofs.relocation.Walk.{inside_nowhere, inside-at}

@@ -1,5 +1,4 @@
 -- By whether there is a batch, and whether it is resolved.
-use Rattle.std.proofs.Common.{rules}
 use Rattle.linker.proofs.resets.Laws.{reset_none, reset_made, reset-left}
 use Rattle.linker.proofs.resets.reset.Goals as goal
 

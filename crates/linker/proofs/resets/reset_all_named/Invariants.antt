@@ -1,13 +1,10 @@
-use Rattle.std.proofs.Common.{◌≡◌, ◌-◌, ◌≤◌, length, refl, ap, ◌∙◌, arith, rules}
+use Rattle.std.proofs.Common.{◌≡◌, ◌-◌, ◌≤◌, length}
 use Rattle.window.specs.Trace.{run_t}
 use Rattle.window.specs.Loop.{loop}
 use Rattle.layout.specs.Segments.{entry_at}
 use Rattle.layout.specs.Header.{import_named_symbol_entry_size}
 use Rattle.register.specs.Read.Read.{module_at}
 use Rattle.linker_spec.specs.Resets.{reset_named}
-use Rattle.window.specs.TraceRuns.{left, steps-over}
-use Rattle.window.specs.Outside.{silent_goes, strides_made}
-use Rattle.linker.proofs.resets.Laws.{named_start, named-idle}
 use Rattle.linker.proofs.resets.reset_all_named.Given as goal
 
 abbrev pub invariant-loop-index : goal.invariant-loop-index

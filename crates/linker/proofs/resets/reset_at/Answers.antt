@@ -1,4 +1,3 @@
-use Rattle.std.proofs.Common.{rules}
 use Rattle.linker.proofs.resets.Laws.{reset-entry}
 use Rattle.linker.proofs.resets.reset_at.Goals as goal
 

@@ -1,5 +1,4 @@
 -- By whose record it is, and whether it is auto-linked.
-use Rattle.std.proofs.Common.{rules}
 use Rattle.register.specs.Read.Read.{module_at}
 use Rattle.linker.proofs.resets.Walks.{itself, linked, unlinked}
 use Rattle.linker.proofs.resets.reset_importer.Goals as goal

@@ -1,11 +1,8 @@
 -- A walk over the records: `record_walk_starts`, `reset-next`, `reset-all`.
-use Rattle.std.proofs.Common.{◌≡◌, ◌-◌, length, refl, ◌∙◌, arith, rules}
-use Rattle.window.specs.Trace.{run_t}
-use Rattle.register.specs.Read.Read.{modules_of, module_at}
+use Rattle.std.proofs.Common.{refl, ◌∙◌, arith}
+use Rattle.register.specs.Read.Read.{module_at}
 use Rattle.register.specs.Read.Walk.{unwrapped}
-use Rattle.linker_spec.specs.Resets.{reset_importers}
-use Rattle.linker.specs.Resets.Modules.{other_than}
-use Rattle.linker.specs.Sources.Walks.{RecordWalk, record_walk_starts, record_walk-fits}
+use Rattle.linker.specs.Sources.Walks.{record_walk_starts, record_walk-fits}
 use Rattle.linker.proofs.resets.Walks.{resetting, reset-next, reset-all}
 use Rattle.linker.proofs.resets.reset_importers.Goals as goal
 
@@ -13,7 +10,7 @@ pub loop-k-init : goal.loop-k-init
 loop-k-init c =
     let a = c.args in
     let m = module_at a.records.now a.names.now a.place in
-    (refl, record_walk_starts (resetting a.at m a.place) a.records.now a.names.now (a.w.now, a.trace.now) c.requires.0, refl)
+    (refl, record_walk_starts (resetting a.at m a.place) a.records.now a.names.now (a.w.now, a.trace.now) c.requires.encoded, refl)
 
 pub loop-k-preserved : goal.loop-k-preserved
 loop-k-preserved c =

@@ -1,11 +1,10 @@
-use Rattle.std.proofs.Common.{◌≡◌, ◌-◌, length, refl, ◌∙◌, arith, rules}
+use Rattle.std.proofs.Common.{◌≡◌, ◌-◌, length}
 use Rattle.window.specs.Trace.{run_t}
 use Rattle.register.specs.Read.Read.{modules_of, module_at}
-use Rattle.register.specs.Read.Walk.{unwrapped}
 use Rattle.linker_spec.specs.Resets.{reset_importers}
 use Rattle.linker.specs.Resets.Modules.{other_than}
-use Rattle.linker.specs.Sources.Walks.{RecordWalk, record_walk_starts, record_walk-fits}
-use Rattle.linker.proofs.resets.Walks.{resetting, reset-next, reset-all}
+use Rattle.linker.specs.Sources.Walks.{RecordWalk}
+use Rattle.linker.proofs.resets.Walks.{resetting}
 use Rattle.linker.proofs.resets.reset_importers.Given as goal
 
 abbrev pub invariant-loop-k : goal.invariant-loop-k

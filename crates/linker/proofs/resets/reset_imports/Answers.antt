@@ -1,5 +1,4 @@
 -- The handler, then the named imports, then the module entries.
-use Rattle.std.proofs.Common.{rules}
 use Rattle.register.specs.Read.Read.{module_at}
 use Rattle.linker.proofs.resets.Laws.{both_reset}
 use Rattle.linker.proofs.resets.reset_imports.Goals as goal

@@ -1,6 +1,4 @@
 -- By whether the entry names the module.
-use Rattle.std.proofs.Common.{rules}
-use Rattle.window.specs.Silent.{trace_kept}
 use Rattle.register.specs.Read.Read.{module_at}
 use Rattle.linker.specs.Sources.Walks.{own_name_lem}
 use Rattle.linker.proofs.resets.Laws.{module_kept, module_reset}

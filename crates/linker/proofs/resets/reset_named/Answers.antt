@@ -1,5 +1,4 @@
 -- By whether the module exported the name.
-use Rattle.std.proofs.Common.{rules}
 use Rattle.register.specs.Read.Read.{module_at}
 use Rattle.linker.proofs.resets.Laws.{named_kept, named-reset}
 use Rattle.linker.proofs.resets.reset_named.Goals as goal

@@ -1,13 +1,10 @@
 -- A counted loop over the table: `resets_start`, `strides_made`, `steps-over`.
-use Rattle.std.proofs.Common.{◌≡◌, ◌-◌, ◌≤◌, length, refl, ◌∙◌, arith, rules}
-use Rattle.window.specs.Trace.{run_t}
-use Rattle.window.specs.Loop.{loop}
+use Rattle.std.proofs.Common.{refl, ◌∙◌, arith}
 use Rattle.layout.specs.Segments.{entry_at}
 use Rattle.layout.specs.Header.{import_indexed_symbol_entry_size}
 use Rattle.linker_spec.specs.Resets.{reset_at}
 use Rattle.window.specs.TraceRuns.{steps-over}
 use Rattle.window.specs.Outside.{silent_goes, strides_made}
-use Rattle.linker.specs.Resets.Tables.{reset_table}
 use Rattle.linker.proofs.resets.Laws.{resets_start, at-idle}
 use Rattle.linker.proofs.resets.reset_table.Goals as goal
 

@@ -1,4 +1,4 @@
-use Rattle.std.proofs.Common.{arith, rules}
+use Rattle.std.proofs.Common.{arith}
 use Rattle.linker.proofs.sorted.Laws.{one-passed, one_added}
 use Rattle.linker.proofs.sorted.gather_one.Goals as goal
 

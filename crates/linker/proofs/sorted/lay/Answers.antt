@@ -1,5 +1,4 @@
 use Rattle.register.specs.Append.Sets.{two-words}
-use Rattle.std.proofs.Common.{rules}
 use Rattle.linker.proofs.sorted.lay.Goals as goal
 
 pub returns : goal.returns

@@ -1,4 +1,4 @@
-use Rattle.std.proofs.Common.{arith, rules}
+use Rattle.std.proofs.Common.{arith}
 use Rattle.linker.specs.Exports.Sorted.{no_left, no_right, in_order, two_ascend, merging_starts}
 use Rattle.linker.proofs.sorted.merge.Goals as goal
 

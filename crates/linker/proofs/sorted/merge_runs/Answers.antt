@@ -1,6 +1,5 @@
-use Rattle.std.proofs.Common.{◌≡◌, ◌+◌, ◌-◌, ◌≤◌, true, List, length, refl, ◌∙◌, arith, rules}
-use Rattle.register.specs.Module.{Export, ascending}
-use Rattle.linker.specs.Exports.Sorted.{Merging, merging_same, merging_left, merging_right, merged_left, merged_right, merged_there}
+use Rattle.std.proofs.Common.{refl, ◌∙◌, arith}
+use Rattle.linker.specs.Exports.Sorted.{merging_same, merging_left, merging_right, merged_left, merged_right, merged_there}
 use Rattle.linker.proofs.sorted.merge_runs.Goals as goal
 
 pub loop-i-init : goal.loop-i-init

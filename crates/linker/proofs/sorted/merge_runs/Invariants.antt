@@ -1,7 +1,7 @@
 -- The invariant: what is done is no longer than what was taken of both runs, so no pair is laid over one that is still to be read.
-use Rattle.std.proofs.Common.{◌≡◌, ◌+◌, ◌-◌, ◌≤◌, true, List, length, refl, ◌∙◌, arith, rules}
+use Rattle.std.proofs.Common.{◌≡◌, ◌+◌, ◌-◌, ◌≤◌, true, List, length}
 use Rattle.register.specs.Module.{Export, ascending}
-use Rattle.linker.specs.Exports.Sorted.{Merging, merging_same, merging_left, merging_right, merged_left, merged_right, merged_there}
+use Rattle.linker.specs.Exports.Sorted.{Merging}
 use Rattle.linker.proofs.sorted.merge_runs.Given as goal
 
 abbrev pub invariant-loop-i : goal.invariant-loop-i

@@ -1,5 +1,5 @@
-use Rattle.std.proofs.Common.{◌-◌, ◌*◌, ◌≤◌, arith, rules}
-use Rattle.linker.proofs.sorted.Laws.{SummedTo, name-within, sum_starts, sum-turn, sum_ends}
+use Rattle.std.proofs.Common.{arith}
+use Rattle.linker.proofs.sorted.Laws.{name-within, sum_starts, sum-turn, sum_ends}
 use Rattle.linker.proofs.sorted.names_length.Goals as goal
 
 pub loop-k-init : goal.loop-k-init

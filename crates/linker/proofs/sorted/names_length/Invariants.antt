@@ -1,5 +1,5 @@
-use Rattle.std.proofs.Common.{◌-◌, ◌*◌, ◌≤◌, arith, rules}
-use Rattle.linker.proofs.sorted.Laws.{SummedTo, name-within, sum_starts, sum-turn, sum_ends}
+use Rattle.std.proofs.Common.{◌-◌, ◌*◌, ◌≤◌}
+use Rattle.linker.proofs.sorted.Laws.{SummedTo}
 use Rattle.linker.proofs.sorted.names_length.Given as goal
 
 abbrev pub invariant-loop-k : goal.invariant-loop-k

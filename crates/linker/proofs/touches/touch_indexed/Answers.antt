@@ -1,8 +1,7 @@
-use Rattle.std.proofs.Common.{◌-◌, ◌≤◌, [], arith, rules}
-use Rattle.window.specs.Silent.{trace_kept}
+use Rattle.std.proofs.Common.{[], arith}
 use Rattle.layout.specs.Header.{export_indexed_symbol_table_offset, export_indexed_symbol_num}
 use Rattle.linker_spec.specs.Exports.{indexed_export, indexed_exports}
-use Rattle.linker.proofs.touches.Laws.{turns, LeftToTouch, none_touched, turn_touched, turns_touched, touch_kept, indexed_entry, indexed_reads, table_touched}
+use Rattle.linker.proofs.touches.Laws.{none_touched, turn_touched, turns_touched, touch_kept, indexed_entry, indexed_reads, table_touched}
 use Rattle.linker.proofs.touches.touch_indexed.Goals as goal
 
 pub loop-i-init : goal.loop-i-init

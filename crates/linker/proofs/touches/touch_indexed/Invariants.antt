@@ -1,9 +1,7 @@
 -- The invariant: what is left to touch leaves what the whole table leaves.
-use Rattle.std.proofs.Common.{◌-◌, ◌≤◌, [], arith, rules}
-use Rattle.window.specs.Silent.{trace_kept}
-use Rattle.layout.specs.Header.{export_indexed_symbol_table_offset, export_indexed_symbol_num}
-use Rattle.linker_spec.specs.Exports.{indexed_export, indexed_exports}
-use Rattle.linker.proofs.touches.Laws.{turns, LeftToTouch, none_touched, turn_touched, turns_touched, touch_kept, indexed_entry, indexed_reads, table_touched}
+use Rattle.std.proofs.Common.{◌-◌, ◌≤◌, []}
+use Rattle.linker_spec.specs.Exports.{indexed_export}
+use Rattle.linker.proofs.touches.Laws.{turns, LeftToTouch, indexed_entry}
 use Rattle.linker.proofs.touches.touch_indexed.Given as goal
 
 abbrev pub invariant-loop-i : goal.invariant-loop-i

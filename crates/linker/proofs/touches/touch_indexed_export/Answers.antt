@@ -1,5 +1,4 @@
 -- The accesses in their order: `indexed_touched`.
-use Rattle.std.proofs.Common.{rules}
 use Rattle.linker.proofs.touches.Laws.{indexed_touched}
 use Rattle.linker.proofs.touches.touch_indexed_export.Goals as goal
 

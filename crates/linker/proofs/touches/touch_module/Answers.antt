@@ -1,5 +1,4 @@
 -- The parts in their order: `module_touched`.
-use Rattle.std.proofs.Common.{rules}
 use Rattle.linker.proofs.touches.Laws.{module_touched}
 use Rattle.linker.proofs.touches.touch_module.Goals as goal
 

@@ -1,9 +1,7 @@
 -- The invariant: what is left to touch leaves what the whole table leaves.
-use Rattle.std.proofs.Common.{◌-◌, ◌≤◌, [], arith, rules}
-use Rattle.window.specs.Silent.{trace_kept}
-use Rattle.layout.specs.Header.{export_named_symbol_table_offset, export_named_symbol_num}
-use Rattle.linker_spec.specs.Exports.{named_export, named_exports}
-use Rattle.linker.proofs.touches.Laws.{turns, LeftToTouch, none_touched, turn_touched, turns_touched, touch_kept, named_entry, named_reads, table_touched}
+use Rattle.std.proofs.Common.{◌-◌, ◌≤◌, []}
+use Rattle.linker_spec.specs.Exports.{named_export}
+use Rattle.linker.proofs.touches.Laws.{turns, LeftToTouch, named_entry}
 use Rattle.linker.proofs.touches.touch_named.Given as goal
 
 abbrev pub invariant-loop-i : goal.invariant-loop-i

@@ -1,5 +1,4 @@
 -- The accesses in their order: `named_touched`.
-use Rattle.std.proofs.Common.{rules}
 use Rattle.linker.proofs.touches.Laws.{named_touched}
 use Rattle.linker.proofs.touches.touch_named_export.Goals as goal
 

@@ -1,6 +1,5 @@
-use Rattle.std.proofs.Common.{◌-◌, ◌≤◌, [], refl, arith, rules}
-use Rattle.window.specs.Silent.{trace_kept}
-use Rattle.linker.proofs.touches.Laws.{turns, LeftToTouch, none_touched, turn_touched, turns_touched, touch_kept, segment_turn, segment_touched, turn_reads, segments_touched}
+use Rattle.std.proofs.Common.{[], refl, arith}
+use Rattle.linker.proofs.touches.Laws.{none_touched, turn_touched, turns_touched, touch_kept, segment_turn, segment_touched, turn_reads, segments_touched}
 use Rattle.linker.proofs.touches.touch_segments.Goals as goal
 
 pub loop-index-init : goal.loop-index-init

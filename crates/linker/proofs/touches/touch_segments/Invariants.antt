@@ -1,7 +1,6 @@
 -- The invariant: what is left to touch leaves what all segments leave.
-use Rattle.std.proofs.Common.{◌-◌, ◌≤◌, [], refl, arith, rules}
-use Rattle.window.specs.Silent.{trace_kept}
-use Rattle.linker.proofs.touches.Laws.{turns, LeftToTouch, none_touched, turn_touched, turns_touched, touch_kept, segment_turn, segment_touched, turn_reads, segments_touched}
+use Rattle.std.proofs.Common.{◌-◌, ◌≤◌, []}
+use Rattle.linker.proofs.touches.Laws.{turns, LeftToTouch, segment_turn}
 use Rattle.linker.proofs.touches.touch_segments.Given as goal
 
 abbrev pub invariant-loop-index : goal.invariant-loop-index

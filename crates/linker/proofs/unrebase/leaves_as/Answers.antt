@@ -1,5 +1,4 @@
 -- Each arm has the definition at its kind.
-use Rattle.std.proofs.Common.{rules}
 use Rattle.linker.proofs.unrebase.Laws.{leaves_code, leaves_rodata, leaves_data, leaves_bss}
 use Rattle.linker.proofs.unrebase.leaves_as.Goals as goal
 

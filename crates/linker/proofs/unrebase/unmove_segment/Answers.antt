@@ -1,5 +1,4 @@
 -- No such segment, or its offset back.
-use Rattle.std.proofs.Common.{rules}
 use Rattle.linker.proofs.unrebase.Laws.{unmove_passed, unmoved}
 use Rattle.linker.proofs.unrebase.unmove_segment.Goals as goal
 

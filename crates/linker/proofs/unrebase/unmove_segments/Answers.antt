@@ -1,7 +1,5 @@
 -- A counted loop: `unmove_starts`, `step_made`, `unmoved-past`, `steps-over`.
-use Rattle.std.proofs.Common.{◌≡◌, ◌-◌, ◌≤◌, length, refl, ap, ◌∙◌, arith, rules}
-use Rattle.window.specs.Trace.{run_t}
-use Rattle.window.specs.Loop.{loop}
+use Rattle.std.proofs.Common.{refl, ap, ◌∙◌, arith}
 use Rattle.window.specs.Outside.{silent_goes}
 use Rattle.linker_spec.specs.Unrebase.{unmove_segment}
 use Rattle.window.specs.TraceRuns.{step_made, steps-over, left}

@@ -1,11 +1,7 @@
-use Rattle.std.proofs.Common.{◌≡◌, ◌-◌, ◌≤◌, length, refl, ap, ◌∙◌, arith, rules}
+use Rattle.std.proofs.Common.{◌≡◌, ◌-◌, ◌≤◌, length}
 use Rattle.window.specs.Trace.{run_t}
 use Rattle.window.specs.Loop.{loop}
-use Rattle.window.specs.Outside.{silent_goes}
 use Rattle.linker_spec.specs.Unrebase.{unmove_segment}
-use Rattle.window.specs.TraceRuns.{step_made, steps-over, left}
-use Rattle.linker.proofs.unrebase.Laws.{unmove_starts}
-use Rattle.linker.proofs.rebase.Outside.{unmoved-past}
 use Rattle.linker.proofs.unrebase.unmove_segments.Given as goal
 
 abbrev pub invariant-loop-index : goal.invariant-loop-index

@@ -1,5 +1,4 @@
 -- The four steps in their order: `unrebased`.
-use Rattle.std.proofs.Common.{rules}
 use Rattle.linker.proofs.unrebase.Laws.{unrebased}
 use Rattle.linker.proofs.unrebase.unrebase.Goals as goal
 

@@ -1,6 +1,6 @@
-use Rattle.std.proofs.Common.{◌-◌, ◌/◌, ◌≤◌, length, arith, rules}
+use Rattle.std.proofs.Common.{arith}
 use Rattle.linker.specs.Exports.Waiting.{Inside}
-use Rattle.linker.proofs.waiting.Laws.{Searched, search_starts, search_none, search_below, search_above, search_found}
+use Rattle.linker.proofs.waiting.Laws.{search_starts, search_none, search_below, search_above, search_found}
 use Rattle.linker.proofs.waiting.position_of.Goals as goal
 
 pub loop-low-init : goal.loop-low-init

@@ -1,6 +1,5 @@
-use Rattle.std.proofs.Common.{◌-◌, ◌/◌, ◌≤◌, length, arith, rules}
-use Rattle.linker.specs.Exports.Waiting.{Inside}
-use Rattle.linker.proofs.waiting.Laws.{Searched, search_starts, search_none, search_below, search_above, search_found}
+use Rattle.std.proofs.Common.{◌-◌, ◌/◌, ◌≤◌, length}
+use Rattle.linker.proofs.waiting.Laws.{Searched}
 use Rattle.linker.proofs.waiting.position_of.Given as goal
 
 abbrev pub invariant-loop-low : goal.invariant-loop-low

@@ -1,5 +1,4 @@
-use Rattle.std.proofs.Common.{◌+◌, ◌-◌, ◌*◌, ◌/◌, length, refl, arith, rules}
-use borrow.Author.Tests.{not-true, not-false}
+use Rattle.std.proofs.Common.{◌+◌, ◌-◌, ◌*◌, ◌/◌, length, refl, arith}
 use Rattle.window.specs.Name.{name-fits, name_is, name_taken}
 use Rattle.register.specs.Append.Draft.{room-inside, room_word}
 use Rattle.linker.proofs.waiting.Laws.{at_place, before_place, fits-room, ends_open, ends_full, again_step, full_step, new-step}

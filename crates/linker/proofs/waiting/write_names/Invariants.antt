@@ -1,8 +1,7 @@
-use Rattle.std.proofs.Common.{◌≡◌, ℕ, ◌+◌, ◌*◌, ◌/◌, ◌^◌, ◌<◌, ◌≤◌, List, length, take, refl, ◌∙◌, arith, rules}
-use Rattle.window.specs.Name.{name-fits, name_taken}
+use Rattle.std.proofs.Common.{◌≡◌, ℕ, ◌+◌, ◌*◌, ◌/◌, ◌^◌, ◌<◌, ◌≤◌, List, length, take}
 use Rattle.register.specs.Encode.{export_names}
 use Rattle.linker.specs.Exports.Waiting.{Waiting, Waits, exports_for}
-use Rattle.linker.specs.Exports.Naming.{NamesLeft, name-short, names-left-all, names-left-turn, names-left_none}
+use Rattle.linker.specs.Exports.Naming.{NamesLeft}
 use Rattle.linker.proofs.waiting.write_names.Given as goal
 
 abbrev pub invariant-loop-k : goal.invariant-loop-k

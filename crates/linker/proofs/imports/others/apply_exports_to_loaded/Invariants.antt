@@ -1,11 +1,10 @@
-use Rattle.std.proofs.Common.{◌≡◌, ◌-◌, ◌≤◌, length, refl, ◌∙◌, arith, rules}
+use Rattle.std.proofs.Common.{◌≡◌, ◌-◌, ◌≤◌, length}
 use Rattle.window.specs.Trace.{run_t}
 use Rattle.register.specs.Read.Read.{modules_of, module_at}
-use Rattle.register.specs.Read.Walk.{unwrapped}
 use Rattle.linker_spec.specs.Imports.{apply_exports_to_loaded}
 use Rattle.linker.specs.Imports.Modules.{but_last}
-use Rattle.linker.proofs.imports.Walks.{serving, served-turn, served-all}
-use Rattle.linker.specs.Sources.Walks.{RecordWalk, record_walk_starts, record_walk-fits}
+use Rattle.linker.proofs.imports.Walks.{serving}
+use Rattle.linker.specs.Sources.Walks.{RecordWalk}
 use Rattle.linker.proofs.imports.others.apply_exports_to_loaded.Given as goal
 
 abbrev pub invariant-loop-k : goal.invariant-loop-k

@@ -1,5 +1,4 @@
 -- Its named imports, then its module entries.
-use Rattle.std.proofs.Common.{rules}
 use Rattle.register.specs.Read.Read.{module_at}
 use Rattle.linker.proofs.imports.Laws.{both_served}
 use Rattle.linker.proofs.imports.others.serve.Goals as goal

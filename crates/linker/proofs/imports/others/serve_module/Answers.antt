@@ -1,5 +1,4 @@
 -- By whether the entry names the module.
-use Rattle.std.proofs.Common.{rules}
 use Rattle.register.specs.Read.Read.{module_at}
 use Rattle.linker.proofs.imports.Laws.{entry-served, entry-passed}
 use Rattle.linker.specs.Sources.Walks.{own_name_lem}

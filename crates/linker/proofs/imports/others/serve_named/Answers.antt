@@ -1,5 +1,4 @@
 -- By whether the batch waits.
-use Rattle.std.proofs.Common.{rules}
 use Rattle.register.specs.Read.Read.{module_at}
 use Rattle.linker.proofs.imports.Laws.{serve-waits, serve-passed}
 use Rattle.linker.proofs.imports.others.serve_named.Goals as goal

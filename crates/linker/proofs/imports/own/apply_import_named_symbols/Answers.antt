@@ -1,13 +1,11 @@
 -- A counted loop over the table, the missing names handed on: `table_starts`, `reached_starts`, `reached_next`, `reached_past`, `reached_over`.
-use Rattle.std.proofs.Common.{◌≡◌, ◌-◌, ◌≤◌, length, refl, ◌∙◌, arith, rules}
-use Rattle.window.specs.Trace.{run_t}
-use Rattle.window.specs.Loop.{loop}
+use Rattle.std.proofs.Common.{refl, ◌∙◌, arith}
 use Rattle.window.specs.Outside.{silent_goes}
 use Rattle.layout.specs.Header.{import_named_symbol_table_offset, import_named_symbol_num}
 use Rattle.register.specs.Decode.{register_of}
 use Rattle.linker_spec.specs.Imports.{apply_import_named_symbols}
 use Rattle.linker.proofs.imports.Laws.{table_starts}
-use Rattle.linker.proofs.imports.Missing.{turn, Reached, reached_starts, reached_next, reached_past, reached_over}
+use Rattle.linker.proofs.imports.Missing.{turn, reached_starts, reached_next, reached_past, reached_over}
 use Rattle.linker.proofs.imports.own.apply_import_named_symbols.Goals as goal
 
 pub loop-index-init : goal.loop-index-init
@@ -33,15 +31,15 @@ loop-index-preserved c =
     let a = c.args in
     let r = register_of a.records.now a.names.now a.missing.now in (
       omega (arith, silent_goes _ _ _ _ _ _ c.silent_stride-index.ensures (omega arith)),
-      c.«import_named_lem».auto.1.0 ∙ c.loop-index.invariant.1,
-      c.«import_named_lem».auto.1.1.1.0 ∙ c.loop-index.invariant.2,
-      c.«import_named_lem».auto.1.1.1.1.1.0 ∙ c.loop-index.invariant.3,
+      c.import_named.auto.w ∙ c.loop-index.invariant.1,
+      c.import_named.auto.records ∙ c.loop-index.invariant.2,
+      c.import_named.auto.missing ∙ c.loop-index.invariant.3,
       reached_past a.at a.base c.field-table.result r a.records.now _ a.names.now _ c.loop-index.index c.field-count.result _ _ _
           (reached_next a.at a.base c.field-table.result r a.records.now c.loop-index.records a.names.now c.loop-index.missing
           c.loop-index.index c.field-count.result (c.loop-index.w, c.loop-index.trace) _ c.loop-index.invariant.4 _ _ c.loop-index-test.true c.entry_address-entry.ensures
-          c.«import_named_lem».ensures)
+          c.import_named.ensures)
           c.loop-index-test.true c.entry_address-entry.ensures c.silent_stride-index.ensures,
-      c.«import_named_lem».auto.1.1.0 ∙ c.loop-index.invariant.5,
+      c.import_named.auto.trace ∙ c.loop-index.invariant.5,
     )
 
 pub returns : goal.returns

@@ -1,12 +1,8 @@
-use Rattle.std.proofs.Common.{◌≡◌, ◌-◌, ◌≤◌, length, refl, ◌∙◌, arith, rules}
+use Rattle.std.proofs.Common.{◌≡◌, ◌-◌, ◌≤◌, length}
 use Rattle.window.specs.Trace.{run_t}
 use Rattle.window.specs.Loop.{loop}
-use Rattle.window.specs.Outside.{silent_goes}
-use Rattle.layout.specs.Header.{import_named_symbol_table_offset, import_named_symbol_num}
 use Rattle.register.specs.Decode.{register_of}
-use Rattle.linker_spec.specs.Imports.{apply_import_named_symbols}
-use Rattle.linker.proofs.imports.Laws.{table_starts}
-use Rattle.linker.proofs.imports.Missing.{turn, Reached, reached_starts, reached_next, reached_past, reached_over}
+use Rattle.linker.proofs.imports.Missing.{turn, Reached}
 use Rattle.linker.proofs.imports.own.apply_import_named_symbols.Given as goal
 
 abbrev pub invariant-loop-index : goal.invariant-loop-index

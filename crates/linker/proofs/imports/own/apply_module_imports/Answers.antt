@@ -1,7 +1,5 @@
 -- A counted loop over the table: `table_starts`, `strides_made`, `steps-over`.
-use Rattle.std.proofs.Common.{◌≡◌, ◌-◌, ◌≤◌, length, refl, ap, ◌∙◌, arith, rules}
-use Rattle.window.specs.Trace.{run_t}
-use Rattle.window.specs.Loop.{loop}
+use Rattle.std.proofs.Common.{refl, ap, ◌∙◌, arith}
 use Rattle.layout.specs.Header.{import_module_table_offset, import_module_num, import_module_entry_size}
 use Rattle.layout.specs.Segments.{entry_at}
 use Rattle.register.specs.Read.Read.{modules_of}

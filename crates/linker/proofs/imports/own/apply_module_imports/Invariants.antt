@@ -1,13 +1,10 @@
-use Rattle.std.proofs.Common.{◌≡◌, ◌-◌, ◌≤◌, length, refl, ap, ◌∙◌, arith, rules}
+use Rattle.std.proofs.Common.{◌≡◌, ◌-◌, ◌≤◌, length}
 use Rattle.window.specs.Trace.{run_t}
 use Rattle.window.specs.Loop.{loop}
-use Rattle.layout.specs.Header.{import_module_table_offset, import_module_num, import_module_entry_size}
+use Rattle.layout.specs.Header.{import_module_entry_size}
 use Rattle.layout.specs.Segments.{entry_at}
 use Rattle.register.specs.Read.Read.{modules_of}
-use Rattle.linker_spec.specs.Imports.{import_module, apply_module_imports}
-use Rattle.window.specs.TraceRuns.{left, steps-over}
-use Rattle.window.specs.Outside.{silent_goes, strides_made}
-use Rattle.linker.proofs.imports.Laws.{table_starts, import_module-idle}
+use Rattle.linker_spec.specs.Imports.{import_module}
 use Rattle.linker.proofs.imports.own.apply_module_imports.Given as goal
 
 abbrev pub invariant-loop-index : goal.invariant-loop-index

@@ -1,5 +1,4 @@
 -- By whether a module has the name.
-use Rattle.std.proofs.Common.{rules}
 use Rattle.linker.proofs.imports.Laws.{module_missing, module_found}
 use Rattle.linker.proofs.imports.own.import_module.Goals as goal
 

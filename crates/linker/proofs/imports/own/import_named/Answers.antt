@@ -1,5 +1,5 @@
 -- By whether the batch waits, and whether an auto-linked module has the name.
-use Rattle.std.proofs.Common.{◌∙◌, arith, rules}
+use Rattle.std.proofs.Common.{arith}
 use Rattle.window.specs.Trace.{run_t}
 use Rattle.window.specs.Name.{name_at, name-fits, name_taken}
 use Rattle.linker.proofs.imports.Missing.{own-passed, own-found, own_missing}

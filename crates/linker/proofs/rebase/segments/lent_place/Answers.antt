@@ -1,5 +1,4 @@
 -- By the lent size: `lent-refused` and `lent-put`.
-use Rattle.std.proofs.Common.{rules}
 use Rattle.linker.proofs.rebase.Laws.{lent-refused, lent-put}
 use Rattle.linker.proofs.rebase.segments.lent_place.Goals as goal
 

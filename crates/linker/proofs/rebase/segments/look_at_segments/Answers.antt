@@ -1,7 +1,5 @@
 -- Looked up one by one until all are or a touch is kept: `looks_start`, `looks_silent`, `turn_made`, `turns-over`.
-use Rattle.std.proofs.Common.{◌≡◌, ◌-◌, ◌≤◌, length, sym, refl, ap, ◌∙◌, arith, rules}
-use Rattle.window.specs.Trace.{run_t}
-use Rattle.window.specs.Loop.{loop}
+use Rattle.std.proofs.Common.{sym, refl, ap, ◌∙◌, arith}
 use Rattle.window.specs.TraceRuns.{turn_made, turns-over, left}
 use Rattle.linker.proofs.rebase.Laws.{look_at, looks_start, look_made, looks_silent}
 use Rattle.linker.proofs.rebase.segments.look_at_segments.Goals as goal

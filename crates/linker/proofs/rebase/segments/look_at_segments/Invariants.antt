@@ -1,8 +1,7 @@
-use Rattle.std.proofs.Common.{◌≡◌, ◌-◌, ◌≤◌, length, sym, refl, ap, ◌∙◌, arith, rules}
+use Rattle.std.proofs.Common.{◌≡◌, ◌-◌, ◌≤◌, length}
 use Rattle.window.specs.Trace.{run_t}
 use Rattle.window.specs.Loop.{loop}
-use Rattle.window.specs.TraceRuns.{turn_made, turns-over, left}
-use Rattle.linker.proofs.rebase.Laws.{look_at, looks_start, look_made, looks_silent}
+use Rattle.linker.proofs.rebase.Laws.{look_at}
 use Rattle.linker.proofs.rebase.segments.look_at_segments.Given as goal
 
 abbrev pub invariant-loop-i : goal.invariant-loop-i

@@ -1,5 +1,4 @@
 -- No such segment, or its place: `segment-passed` and `segment-moved`.
-use Rattle.std.proofs.Common.{rules}
 use Rattle.linker.proofs.rebase.Laws.{segment-passed, segment-moved}
 use Rattle.linker.proofs.rebase.segments.move_segment.Goals as goal
 

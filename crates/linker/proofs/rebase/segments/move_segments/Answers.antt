@@ -1,7 +1,5 @@
 -- A counted loop up to the first refusal: `segments-start`, `segments_on`, `moved-past`, `segments-refused`, `turns-over`.
-use Rattle.std.proofs.Common.{◌≡◌, ◌-◌, ◌≤◌, length, refl, ◌∙◌, arith, rules}
-use Rattle.window.specs.Trace.{run_t}
-use Rattle.window.specs.Loop.{loop}
+use Rattle.std.proofs.Common.{refl, ◌∙◌, arith}
 use Rattle.window.specs.Outside.{silent_goes}
 use Rattle.linker_spec.specs.declared.rebase.Moved.TheVariants.{OldPlace}
 use Rattle.linker_spec.specs.Rebase.{move_segment}

@@ -1,12 +1,8 @@
-use Rattle.std.proofs.Common.{◌≡◌, ◌-◌, ◌≤◌, length, refl, ◌∙◌, arith, rules}
+use Rattle.std.proofs.Common.{◌≡◌, ◌-◌, ◌≤◌, length}
 use Rattle.window.specs.Trace.{run_t}
 use Rattle.window.specs.Loop.{loop}
-use Rattle.window.specs.Outside.{silent_goes}
 use Rattle.linker_spec.specs.declared.rebase.Moved.TheVariants.{OldPlace}
 use Rattle.linker_spec.specs.Rebase.{move_segment}
-use Rattle.window.specs.TraceRuns.{turns-over}
-use Rattle.linker.proofs.rebase.Laws.{segments-start, segments-refused, segments_on}
-use Rattle.linker.proofs.rebase.Outside.{moved-past}
 use Rattle.linker.proofs.rebase.segments.move_segments.Given as goal
 
 abbrev pub invariant-loop-index : goal.invariant-loop-index

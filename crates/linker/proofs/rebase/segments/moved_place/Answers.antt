@@ -1,5 +1,4 @@
 -- No offset, one past the image's end, one inside.
-use Rattle.std.proofs.Common.{rules}
 use Rattle.linker.proofs.rebase.Laws.{moved_none, moved-refused, moved-put}
 use Rattle.linker.proofs.rebase.segments.moved_place.Goals as goal
 

@@ -1,5 +1,4 @@
 -- By the kind, and for Data and Bss by the size.
-use Rattle.std.proofs.Common.{rules}
 use Rattle.linker.proofs.rebase.Laws.{place_code, place_rodata, place_no_data, place_no_bss, place_data, place_bss}
 use Rattle.linker.proofs.rebase.segments.place.Goals as goal
 

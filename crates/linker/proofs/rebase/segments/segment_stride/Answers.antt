@@ -1,5 +1,5 @@
 -- The stride from the segment's entry on.
-use Rattle.std.proofs.Common.{length, ap, ◌∙◌, rules}
+use Rattle.std.proofs.Common.{length, ap, ◌∙◌}
 use Rattle.window.specs.Outside.{silent_stride}
 use Rattle.layout.specs.Header.{segment_table_offset, segment_entry_size}
 use Rattle.layout.specs.Segments.{entry_at, field-word}

@@ -1,5 +1,4 @@
 -- Refused or placed: `back-refused` and `back-put`.
-use Rattle.std.proofs.Common.{rules}
 use Rattle.linker.proofs.rebase.Laws.{back-refused, back-put}
 use Rattle.linker.proofs.rebase.segments.write_back.Goals as goal
 

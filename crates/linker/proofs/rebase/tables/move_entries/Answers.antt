@@ -1,13 +1,12 @@
 -- A counted loop that passes over what lies outside: `pointers-past`, `steps-over`.
-use Rattle.std.proofs.Common.{◌≡◌, ◌-◌, ◌≤◌, length, refl, ◌∙◌, ⊎_elim, arith, rules}
-use Rattle.window.specs.Trace.{run_t}
-use Rattle.window.specs.Loop.{loop}
+use Rattle.std.proofs.Common.{refl, ◌∙◌, arith}
 use Rattle.window.specs.TraceRuns.{steps-over}
 use Rattle.window.specs.Outside.{silent_goes}
 use Rattle.layout.specs.Segments.{entry_at}
 use Rattle.linker_spec.specs.Rebase.{move_pointers, pointers_of}
 use Rattle.linker.proofs.rebase.Pointers.{size_taken, size_none, pointers-past, from_start}
 use Rattle.linker.proofs.rebase.tables.move_entries.Goals as goal
+use Rattle.linker.proofs.rebase.tables.move_entries.Goals.{then-pointers_within, else-pointers_within}
 
 pub loop-index-init : goal.loop-index-init
 loop-index-init c =
@@ -27,7 +26,10 @@ loop-index-preserved c =
       c.move_pointers.auto.w ∙ c.loop-index.invariant.1,
       pointers-past a.at a.forward a.base a.t a.table c.loop-index.index a.count (c.loop-index.w, c.loop-index.trace)
           c.loop-index.invariant.2 c.loop-index-test.true c.entry_address-entry.ensures c.move_pointers.ensures c.pointers_within.ensures
-          (⊎_elim (λ e. size_taken a.t.entry_size e.0.taken e.1) (λ e. size_none a.t.entry_size e.0.left e.1) c.if-pointers_within.branch) c.silent_stride-index.ensures,
+          (elim c.if-pointers_within.branch [
+            | then-pointers_within w ↦ size_taken a.t.entry_size w.if-pointers_within.true w.size-is
+            | else-pointers_within w ↦ size_none a.t.entry_size w.if-pointers_within.false w.size-is
+          ]) c.silent_stride-index.ensures,
       c.move_pointers.auto.trace ∙ c.loop-index.invariant.3,
     )
 

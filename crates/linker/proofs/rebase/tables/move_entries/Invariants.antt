@@ -1,11 +1,8 @@
-use Rattle.std.proofs.Common.{◌≡◌, ◌-◌, ◌≤◌, length, refl, ◌∙◌, ⊎_elim, arith, rules}
+use Rattle.std.proofs.Common.{◌≡◌, ◌-◌, ◌≤◌, length}
 use Rattle.window.specs.Trace.{run_t}
 use Rattle.window.specs.Loop.{loop}
-use Rattle.window.specs.TraceRuns.{steps-over}
-use Rattle.window.specs.Outside.{silent_goes}
 use Rattle.layout.specs.Segments.{entry_at}
 use Rattle.linker_spec.specs.Rebase.{move_pointers, pointers_of}
-use Rattle.linker.proofs.rebase.Pointers.{size_taken, size_none, pointers-past, from_start}
 use Rattle.linker.proofs.rebase.tables.move_entries.Given as goal
 
 abbrev pub invariant-loop-index : goal.invariant-loop-index

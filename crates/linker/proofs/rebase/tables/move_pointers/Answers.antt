@@ -1,5 +1,4 @@
 -- By the number of pointers.
-use Rattle.std.proofs.Common.{rules}
 use Rattle.linker.proofs.rebase.Laws.{pointers_0, pointers_1, pointers_2, pointers_3}
 use Rattle.linker.proofs.rebase.tables.move_pointers.Goals as goal
 

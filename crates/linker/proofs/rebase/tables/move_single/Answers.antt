@@ -1,12 +1,9 @@
 -- Entry by entry: `single_turn`, with the word where `single_stands` says.
-use Rattle.std.proofs.Common.{◌≡◌, ℕ, ◌+◌, ◌-◌, ◌*◌, ◌≤◌, List, [], ◌∷◌, length, refl, ◌∙◌, mul-le-mul_right, add-mul, arith}
-use Rattle.window.specs.Memory.{place}
-use Rattle.window.specs.Trace.{run_t}
-use Rattle.window.specs.Loop.{loop}
+use Rattle.std.proofs.Common.{◌≡◌, ◌+◌, ◌*◌, ◌≤◌, [], ◌∷◌, length, refl, ◌∙◌, mul-le-mul_right, add-mul, arith}
 use Rattle.window.specs.TraceRuns.{steps-over}
 use Rattle.layout.specs.Segments.{entry_at}
 use Rattle.linker_spec.specs.Rebase.{move_pointers}
-use Rattle.linker.proofs.rebase.Pointers.{from_start, single_inside, single_stands, move_pointer, single_turn}
+use Rattle.linker.proofs.rebase.Pointers.{from_start, single_inside, single_stands, single_turn}
 use Rattle.linker.proofs.rebase.tables.move_single.Goals as goal
 
 pub overflow_add-place : goal.overflow_add-place

@@ -1,11 +1,8 @@
-use Rattle.std.proofs.Common.{◌≡◌, ℕ, ◌+◌, ◌-◌, ◌*◌, ◌≤◌, List, [], ◌∷◌, length, refl, ◌∙◌, mul-le-mul_right, add-mul, arith}
+use Rattle.std.proofs.Common.{◌≡◌, ℕ, ◌+◌, ◌-◌, ◌*◌, ◌≤◌, List, length}
 use Rattle.window.specs.Memory.{place}
 use Rattle.window.specs.Trace.{run_t}
 use Rattle.window.specs.Loop.{loop}
-use Rattle.window.specs.TraceRuns.{steps-over}
-use Rattle.layout.specs.Segments.{entry_at}
-use Rattle.linker_spec.specs.Rebase.{move_pointers}
-use Rattle.linker.proofs.rebase.Pointers.{from_start, single_inside, single_stands, move_pointer, single_turn}
+use Rattle.linker.proofs.rebase.Pointers.{move_pointer}
 use Rattle.linker.proofs.rebase.tables.move_single.Given as goal
 
 abbrev pub invariant-loop-index : goal.invariant-loop-index

@@ -1,8 +1,5 @@
 -- The rows of the flat table in turn: `tables-turn`, `tables-over`.
-use Rattle.std.proofs.Common.{◌≡◌, ◌-◌, ◌≤◌, length, drop, refl, ◌∙◌, arith, rules}
-use Rattle.window.specs.Trace.{run_t}
-use Rattle.layout.specs.Tables.{pointer_tables}
-use Rattle.linker_spec.specs.Rebase.{move_tables}
+use Rattle.std.proofs.Common.{refl, ◌∙◌, arith}
 use Rattle.linker.proofs.rebase.Laws.{tables-turn, tables-over}
 use Rattle.linker.proofs.rebase.tables.move_tables.Goals as goal
 

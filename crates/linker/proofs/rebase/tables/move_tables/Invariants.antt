@@ -1,8 +1,7 @@
-use Rattle.std.proofs.Common.{◌≡◌, ◌-◌, ◌≤◌, length, drop, refl, ◌∙◌, arith, rules}
+use Rattle.std.proofs.Common.{◌≡◌, ◌-◌, ◌≤◌, length, drop}
 use Rattle.window.specs.Trace.{run_t}
 use Rattle.layout.specs.Tables.{pointer_tables}
 use Rattle.linker_spec.specs.Rebase.{move_tables}
-use Rattle.linker.proofs.rebase.Laws.{tables-turn, tables-over}
 use Rattle.linker.proofs.rebase.tables.move_tables.Given as goal
 
 abbrev pub invariant-loop-i : goal.invariant-loop-i

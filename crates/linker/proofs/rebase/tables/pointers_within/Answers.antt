@@ -1,5 +1,5 @@
 -- Test by test: `past_first`, `past_second`, `by_third`.
-use Rattle.std.proofs.Common.{refl, rules}
+use Rattle.std.proofs.Common.{refl}
 use Rattle.linker.proofs.rebase.Pointers.{past_first, past_second, by_third}
 use Rattle.linker.proofs.rebase.tables.pointers_within.Goals as goal
 

@@ -1,8 +1,6 @@
 -- The name's offset, then a counted loop: `header_starts`, `step_made`, `steps-over`.
-use Rattle.std.proofs.Common.{◌≡◌, ◌+◌, ◌-◌, ◌*◌, ◌≤◌, length, refl, ap, ◌∙◌, arith, rules}
+use Rattle.std.proofs.Common.{◌+◌, ◌*◌, refl, ap, ◌∙◌, arith}
 use Rattle.window.specs.Memory.{◌⊕◌}
-use Rattle.window.specs.Trace.{run_t}
-use Rattle.window.specs.Loop.{loop}
 use Rattle.layout.specs.Header.{first_rebased}
 use Rattle.linker_spec.specs.Rebase.{move_word}
 use Rattle.window.specs.TraceRuns.{step_made, steps-over, left}

@@ -1,11 +1,9 @@
-use Rattle.std.proofs.Common.{◌≡◌, ◌+◌, ◌-◌, ◌*◌, ◌≤◌, length, refl, ap, ◌∙◌, arith, rules}
+use Rattle.std.proofs.Common.{◌≡◌, ◌+◌, ◌-◌, ◌*◌, ◌≤◌, length}
 use Rattle.window.specs.Memory.{◌⊕◌}
 use Rattle.window.specs.Trace.{run_t}
 use Rattle.window.specs.Loop.{loop}
 use Rattle.layout.specs.Header.{first_rebased}
 use Rattle.linker_spec.specs.Rebase.{move_word}
-use Rattle.window.specs.TraceRuns.{step_made, steps-over, left}
-use Rattle.linker.proofs.rebase.Laws.{header_starts}
 use Rattle.linker.proofs.rebase.words.move_header.Given as goal
 
 abbrev pub invariant-loop-i : goal.invariant-loop-i

@@ -1,5 +1,4 @@
 -- By the word: `word_kept` and `word_moved`.
-use Rattle.std.proofs.Common.{rules}
 use Rattle.linker.proofs.rebase.Laws.{word_kept, word_moved}
 use Rattle.linker.proofs.rebase.words.move_word.Goals as goal
 

@@ -1,5 +1,5 @@
 -- By the word, as in `move_word`; the accesses are `word-there` and `put-there`.
-use Rattle.std.proofs.Common.{ap, ◌∙◌, rules}
+use Rattle.std.proofs.Common.{ap, ◌∙◌}
 use Rattle.window.proofs.row.Laws.{word-there, put-there}
 use Rattle.linker.proofs.rebase.Laws.{word_kept, word_moved}
 use Rattle.linker.proofs.rebase.words.move_word_in.Goals as goal

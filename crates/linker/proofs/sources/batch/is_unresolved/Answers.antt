@@ -1,4 +1,3 @@
-use Rattle.std.proofs.Common.{rules}
 use Rattle.linker.proofs.sources.Laws.{no_batch, batch-waits}
 use Rattle.linker.proofs.sources.batch.is_unresolved.Goals as goal
 

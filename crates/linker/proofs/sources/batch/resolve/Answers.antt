@@ -1,4 +1,3 @@
-use Rattle.std.proofs.Common.{rules}
 use Rattle.linker.specs.Sources.Laws.{unresolved_stays, resolved_by}
 use Rattle.linker.proofs.sources.batch.resolve.Goals as goal
 

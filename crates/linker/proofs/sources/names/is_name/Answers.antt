@@ -1,4 +1,3 @@
-use Rattle.std.proofs.Common.{rules}
 use Rattle.window.specs.Trace.{run_t}
 use Rattle.window.specs.Name.{name_at, name-fits, name_taken}
 use Rattle.register.specs.Words.{same}

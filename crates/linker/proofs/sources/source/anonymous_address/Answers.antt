@@ -1,5 +1,4 @@
 -- By whether the record has the tag's segment.
-use Rattle.std.proofs.Common.{rules}
 use Rattle.register.specs.Read.Read.{module_at}
 use Rattle.linker.proofs.sources.Laws.{anonymous_none, anonymous_some}
 use Rattle.linker.proofs.sources.source.anonymous_address.Goals as goal

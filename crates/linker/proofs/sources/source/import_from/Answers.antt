@@ -1,5 +1,4 @@
 -- By whether the batch waits.
-use Rattle.std.proofs.Common.{rules}
 use Rattle.register.specs.Read.Read.{module_at}
 use Rattle.linker.specs.Sources.Source.{symbol_of}
 use Rattle.linker.proofs.sources.Laws.{from-waits, from-passed}

@@ -1,14 +1,12 @@
 -- A counted loop over the table: `table_starts`, `strides_made`, `steps-over`.
-use Rattle.std.proofs.Common.{◌≡◌, ℕ, ◌-◌, ◌≤◌, List, length, refl, ◌∙◌, arith, rules}
-use Rattle.window.specs.Trace.{run_t}
-use Rattle.window.specs.Loop.{loop}
+use Rattle.std.proofs.Common.{refl, ◌∙◌, arith}
 use Rattle.layout.specs.Header.{import_indexed_symbol_entry_size}
 use Rattle.layout.specs.Segments.{entry_at}
 use Rattle.register.specs.Read.Read.{module_at}
 use Rattle.linker_spec.specs.Imports.{import_from}
 use Rattle.window.specs.TraceRuns.{steps-over}
 use Rattle.window.specs.Outside.{silent_goes, strides_made}
-use Rattle.linker.specs.Sources.Source.{symbol_of, import_table}
+use Rattle.linker.specs.Sources.Source.{symbol_of}
 use Rattle.linker.proofs.sources.Laws.{table_starts, from-idle}
 use Rattle.linker.proofs.sources.source.import_table.Goals as goal
 

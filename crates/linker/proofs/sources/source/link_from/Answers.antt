@@ -1,5 +1,4 @@
 -- One table after the other.
-use Rattle.std.proofs.Common.{rules}
 use Rattle.register.specs.Read.Read.{module_at}
 use Rattle.linker.proofs.sources.Laws.{tables_made}
 use Rattle.linker.proofs.sources.source.link_from.Goals as goal

@@ -1,5 +1,4 @@
 -- One arm a table.
-use Rattle.std.proofs.Common.{rules}
 use Rattle.register.specs.Read.Read.{module_at}
 use Rattle.linker.proofs.sources.Laws.{symbol_indexed, symbol_anonymous}
 use Rattle.linker.proofs.sources.source.symbol_of.Goals as goal

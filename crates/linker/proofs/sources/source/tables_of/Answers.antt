@@ -1,5 +1,4 @@
 -- The four words in turn.
-use Rattle.std.proofs.Common.{rules}
 use Rattle.linker.proofs.sources.Laws.{tables_read}
 use Rattle.linker.proofs.sources.source.tables_of.Goals as goal
 
