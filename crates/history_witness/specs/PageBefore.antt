@@ -145,15 +145,16 @@ pub given-page_before
     : (c : Call) (b : Buffers) {records names v : ℕ} {r : Register} {w : List ℕ} → Tried c b records names v r w
     → given c bt (lent_page_before b) ≡ record { number = 0; value = v; left = stored records names r (page_before w) }
 unfolding call_outcome outcome_of register_after calls.number calls.value
-given-page_before c b {records} {names} h =
+given-page_before c b {records} {names} {v} {r} {w} h =
+    let e = run-page_before (program c records names (lent_register b)) b.window h.whole h.leads in
     given-program c bt (lent_page_before b)
     ∙ rw (
       good_bt b.window h.whole,
       h.valid,
       h.records_are,
       h.names_are,
-      run-page_before (program c records names (lent_register b)) b.window h.whole h.leads,
+      e,
       register_after,
       h.records_are,
       h.names_are,
-    ) refl
+    ) (ap (λ t. record { number = 0; value = v; left = stored records names r t.1 }) e)

@@ -7,7 +7,6 @@ use Rattle.std.proofs.Math.ListN.{get_or-eq_default}
 use Rattle.window.specs.Memory.{place, byte_at}
 use Rattle.window.specs.Within.{In}
 use Rattle.register.specs.Words.{flat}
-use Rattle.linker_spec.specs.declared.call.Call.{Call}
 use Rattle.linker_spec.specs.declared.call.Call.TheVariants.{Initialize, Load, Unload}
 use Rattle.history.specs.LoadedModule.{LoadCall, initialized, loaded, LoadedModule, Image, cut, image_of, base_of, size_of, Area, LentArea}
 use Rattle.history.specs.Sessions.{CallRecord, call_record, comes, loaded_modules, others, stay, standing}

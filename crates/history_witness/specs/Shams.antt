@@ -11,7 +11,7 @@ use Rattle.linker_spec.specs.declared.call.Call.TheVariants.{Initialize, Load, U
 use Rattle.linker_spec.specs.Outcome.{Buffers, Outcome, call_outcome}
 use Rattle.linker_spec.specs.Calls.{Answer, NotLoaded, Done, FirstWithBase, unknown, stands, first_with_base, unlisted, number}
 use Rattle.linker_spec.specs.Unrebase.{unrebase}
-use Rattle.window.specs.Access.{Prog, ret, ◌>>=◌, ◌>>◌}
+use Rattle.window.specs.Access.{Prog, ret, ◌>>◌}
 use Rattle.register.specs.Module.{Register}
 use Rattle.register.specs.Change.{removed}
 use Rattle.window.specs.Memory.{◌⊕◌}
@@ -36,7 +36,7 @@ use Rattle.history_witness.specs.Items.{items}
 use Rattle.history_witness.specs.FirstEntry.{first_entry_only, first_entry_steps}
 use Rattle.history_witness.specs.PageBefore.{at, stored}
 use Rattle.history_witness.specs.Computed.{c_module, m_module, n_module, register, small, large, short, b₀, b₁, b₂, b₃, done, shown, o₁, o₂, o₃, o₄, o₅, o₆, o₇, refused}
-use Rattle.history_witness.specs.Sessions.{t₁, t₂, t₃, t₄, t₅, t₆, t₇, t₈, A, exact_a, c, m, n, C, M, N, c_is, m_is, n_is}
+use Rattle.history_witness.specs.Sessions.{t₁, t₂, t₃, t₄, t₅, t₆, t₇, t₈, exact_a, c, m, n, C, M, N, c_is, m_is, n_is}
 use Rattle.history_witness.specs.Premises.{trace_a, suits_three, windows_a, long, three, quiet-a, crs-first-a}
 
 abbrev two : List Image
