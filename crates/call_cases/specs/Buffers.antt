@@ -1,6 +1,5 @@
 -- What a stored case says of its buffers: they are made of pieces over zeros, and what is left is compared.
-use Rattle.std.specs.Prelude.{ℕ, ◌+◌, ◌/◌, List, length, get_or, leb}
-use Rattle.window.specs.Memory.{if◌then◌else◌}
+use Rattle.std.specs.Prelude.{if◌then◌else◌, ℕ, ◌+◌, ◌/◌, List, length, get_or, leb}
 use Rattle.register.specs.Words.{words_in, same}
 use Rattle.case_reader.specs.declared.append.NextPlace.{NextPlace}
 use Rattle.case_reader.specs.declared.append.NextPlace.TheVariants.{At, Full}

@@ -1,6 +1,5 @@
 -- What a stored case says of its call.
-use Rattle.std.specs.Prelude.{ℕ, ◌+◌, List, get_or, eqb}
-use Rattle.window.specs.Memory.{if◌then◌else◌}
+use Rattle.std.specs.Prelude.{if◌then◌else◌, ℕ, ◌+◌, List, get_or, eqb}
 use Rattle.linker_spec.specs.declared.call.Call.{Call}
 use Rattle.linker_spec.specs.declared.call.Call.TheVariants.{Initialize, Load, Unload}
 use Rattle.linker_spec.specs.Outcome.{Buffers, Outcome, load_arguments}

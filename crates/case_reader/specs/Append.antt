@@ -1,10 +1,9 @@
 -- What an append of a text leaves in a lent buffer.
-use Rattle.std.specs.Prelude.{ℕ, ◌+◌, ◌≤◌, ◌<◌, ◌≡◌, List, ◌++◌, take, drop, leb}
+use Rattle.std.specs.Prelude.{if◌then◌else◌, ℕ, ◌+◌, ◌≤◌, ◌<◌, ◌≡◌, List, ◌++◌, take, drop, leb}
 use Rattle.std.proofs.Common.{sym, ap, ◌∙◌, arith, length-append, length-take, length-drop, length-take-le, le-leb}
 use Rattle.std.proofs.Math.Decide.{dec_le}
 use Rattle.std.proofs.Math.ListN.{length}
 use Rattle.std.proofs.lemmas.Bool.{lt-leb}
-use Rattle.window.specs.Memory.{if◌then◌else◌}
 use Rattle.case_reader.specs.declared.append.NextPlace.{NextPlace}
 use Rattle.case_reader.specs.declared.append.NextPlace.TheVariants.{At, Full}
 

@@ -1,6 +1,5 @@
 -- Pieces of a stored buffer: what they leave in it, and the place after them.
-use Rattle.std.specs.Prelude.{ℕ, zero, suc, ◌+◌, ◌*◌, ◌/◌, List, length, get_or, leb}
-use Rattle.window.specs.Memory.{if◌then◌else◌}
+use Rattle.std.specs.Prelude.{if◌then◌else◌, ℕ, zero, suc, ◌+◌, ◌*◌, ◌/◌, List, length, get_or, leb}
 use Rattle.register.specs.Words.{words_in, part}
 use Rattle.case_reader.specs.Append.{appended}
 use Rattle.case_reader.specs.declared.append.NextPlace.{NextPlace}

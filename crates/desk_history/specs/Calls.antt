@@ -1,11 +1,11 @@
 -- The calls that turns make: their arguments are 32-bit numbers, they answer neither 3 nor 4, and they gave what the definition gives.
-use Rattle.std.specs.Prelude.{ℕ, ◌*◌, ◌%◌, ◌^◌, ◌<◌, ◌≡◌, List, [], ◌∷◌, Bool, not, ◌||◌, ◌&&◌}
+use Rattle.std.specs.Prelude.{if◌then◌else◌, ℕ, ◌*◌, ◌%◌, ◌^◌, ◌<◌, ◌≡◌, List, [], ◌∷◌, Bool, not, ◌||◌, ◌&&◌}
 use Rattle.std.proofs.Math.Path.{refl, ap}
 use Rattle.std.proofs.Common.{sym, ◌∙◌, subst}
 use Rattle.std.proofs.Math.Bool.{true, false}
 use native.Mathlib.Omega.{arith}
 use Rattle.std.proofs.Math.Dec.{eqb}
-use Rattle.window.specs.Memory.{if◌then◌else◌, ◌⊕◌, good_window, word_at}
+use Rattle.window.specs.Memory.{◌⊕◌, good_window, word_at}
 use Rattle.window.specs.Access.{run}
 use Rattle.window.specs.Small.{Bytes, word_at-small}
 use Rattle.layout.specs.Header.{magic}

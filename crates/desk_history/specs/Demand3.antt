@@ -1,10 +1,10 @@
 -- Demand 3 through the desk: history does not show there either.
-use Rattle.std.specs.Prelude.{ℕ, ◌≡◌, Bool}
+use Rattle.std.specs.Prelude.{if◌then◌else◌, ℕ, ◌≡◌, Bool}
 use Rattle.std.proofs.Math.Path.{refl, subst}
 use Rattle.std.proofs.Common.{sym, ◌∙◌, inl, inr}
 use mathlib.Core.List.{List, [], ◌∷◌, ◌++◌, map}
 use Rattle.std.proofs.Math.Bool.{true, false}
-use Rattle.window.specs.Memory.{if◌then◌else◌, byte_at}
+use Rattle.window.specs.Memory.{byte_at}
 use Rattle.window.specs.Within.{Agree}
 use Rattle.linker_spec.specs.Outcome.{Buffers}
 use Rattle.history.specs.Below.{Each}

@@ -1,8 +1,8 @@
 -- A reply changes only the words that it puts, at most three, and nothing of the register.
-use Rattle.std.specs.Prelude.{ℕ, zero, suc, ◌+◌, ◌*◌, ◌%◌, ◌^◌, ◌≤◌, ◌≡◌, List, [], ◌∷◌, Bool, true, false, length, eqb}
+use Rattle.std.specs.Prelude.{if◌then◌else◌, ℕ, zero, suc, ◌+◌, ◌*◌, ◌%◌, ◌^◌, ◌≤◌, ◌≡◌, List, [], ◌∷◌, Bool, true, false, length, eqb}
 use Rattle.std.proofs.Math.Path.{refl, sym}
 use Rattle.std.proofs.Common.{◌∙◌, arith}
-use Rattle.window.specs.Memory.{if◌then◌else◌, ◌⊕◌, place, byte_at, put_word}
+use Rattle.window.specs.Memory.{◌⊕◌, place, byte_at, put_word}
 use Rattle.window.specs.Bytes.{place-next, length-put_word, put_bytes-off}
 use Rattle.linker_spec.specs.declared.call.Call.{Call}
 use Rattle.linker_spec.specs.declared.call.Call.TheVariants.{Initialize, Load, Unload}

@@ -1,6 +1,6 @@
 -- A session through the desk: turns, what each was lent, and the linker's calls that they made. As in history, the last one comes first.
-use Rattle.std.specs.Prelude.{ℕ, ◌%◌, ◌^◌, ◌<◌, ◌≡◌, ◌≢◌, List, [], ◌∷◌, ◌++◌, Bool, true, ◌&&◌}
-use Rattle.window.specs.Memory.{if◌then◌else◌, good_window, byte_at, ◌⊕◌}
+use Rattle.std.specs.Prelude.{if◌then◌else◌, ℕ, ◌%◌, ◌^◌, ◌<◌, ◌≡◌, ◌≢◌, List, [], ◌∷◌, ◌++◌, Bool, true, ◌&&◌}
+use Rattle.window.specs.Memory.{good_window, byte_at, ◌⊕◌}
 use Rattle.register.specs.Decode.{is_register}
 use Rattle.linker_spec.specs.Outcome.{Buffers}
 use Rattle.linker_spec.specs.Valid.{AreBytes}

@@ -1,10 +1,10 @@
 -- What a turn leaves: its call's outcome with the reply over it, or what it was lent with a reply over it.
-use Rattle.std.specs.Prelude.{ℕ, ◌≤◌, ◌%◌, ◌^◌, ◌<◌, ◌≡◌, ◌≢◌, List, [], ◌∷◌, Bool, ◌&&◌, length}
+use Rattle.std.specs.Prelude.{if◌then◌else◌, ℕ, ◌≤◌, ◌%◌, ◌^◌, ◌<◌, ◌≡◌, ◌≢◌, List, [], ◌∷◌, Bool, ◌&&◌, length}
 use Rattle.std.proofs.Math.Path.{refl, ap, subst}
 use Rattle.std.proofs.Common.{sym, ◌∙◌, arith}
 use Rattle.std.proofs.Math.Bool.{true, false}
 use Rattle.std.proofs.Math.Decide.{dec_le}
-use Rattle.window.specs.Memory.{if◌then◌else◌, ◌⊕◌, place, good_window}
+use Rattle.window.specs.Memory.{◌⊕◌, place, good_window}
 use Rattle.register.specs.Decode.{is_register}
 use Rattle.linker_spec.specs.declared.call.Call.{Call}
 use Rattle.linker_spec.specs.Calls.{BadWindow, NoRegister, number}

@@ -1,6 +1,6 @@
 -- The desk's two exported calls, one after another, on any lent bytes; and what a caller sees of their results.
-use Rattle.std.specs.Prelude.{ℕ, suc, ◌^◌, ◌<◌, ◌≡◌, List, [], ◌∷◌, ◌++◌, Bool, true, not, ◌&&◌, eqb}
-use Rattle.window.specs.Memory.{if◌then◌else◌, good_window}
+use Rattle.std.specs.Prelude.{if◌then◌else◌, ℕ, suc, ◌^◌, ◌<◌, ◌≡◌, List, [], ◌∷◌, ◌++◌, Bool, true, not, ◌&&◌, eqb}
+use Rattle.window.specs.Memory.{good_window}
 use Rattle.register.specs.Decode.{is_register}
 use Rattle.register.specs.Buffers.{Below}
 use Rattle.linker_spec.specs.Outcome.{Buffers}

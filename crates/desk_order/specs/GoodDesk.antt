@@ -1,11 +1,11 @@
 -- A desk in lent bytes, and that the exported calls do there what is done at the desk.
-use Rattle.std.specs.Prelude.{ℕ, suc, ◌+◌, ◌-◌, ◌^◌, ◌≤◌, ◌<◌, Bool, ◌&&◌, length, drop, replicate, ltb}
+use Rattle.std.specs.Prelude.{if◌then◌else◌, ℕ, suc, ◌+◌, ◌-◌, ◌^◌, ◌≤◌, ◌<◌, Bool, ◌&&◌, length, drop, replicate, ltb}
 use Rattle.std.proofs.Math.Path.{◌≡◌, refl}
 use Rattle.std.proofs.Common.{sym, ap, ◌∙◌, arith, get_or-drop, le-ltb}
 use mathlib.Core.List.{List, [], ◌∷◌, ◌++◌}
 use Rattle.std.proofs.Math.Bool.{true, false}
 use Rattle.std.proofs.Math.Seq.{length-sets}
-use Rattle.window.specs.Memory.{if◌then◌else◌, good_window}
+use Rattle.window.specs.Memory.{good_window}
 use Rattle.window.specs.Tests.{both}
 use Rattle.register.specs.Decode.{is_register}
 use Rattle.register.specs.Words.{flat, words_in}

@@ -1,12 +1,11 @@
 -- The desk's order, said of the exported calls and their bytes.
 use Prim.Native.Nat.{ℕ, zero, suc, ◌*◌, ◌≤◌}
-use Rattle.std.specs.Prelude.{◌≡◌, Bool, not, ◌&&◌, replicate, length, drop, get_or, eqb}
+use Rattle.std.specs.Prelude.{if◌then◌else◌, ◌≡◌, Bool, not, ◌&&◌, replicate, length, drop, get_or, eqb}
 use Rattle.std.proofs.Math.Path.{refl, sym, ap}
 use Rattle.std.proofs.Common.{◌∙◌, ne_eqb}
 use mathlib.Core.List.{List, [], ◌∷◌, ◌++◌, append_assoc, append-nil}
 use Rattle.std.proofs.Math.Bool.{true, false}
 use native.Mathlib.Omega.{arith}
-use Rattle.window.specs.Memory.{if◌then◌else◌}
 use Rattle.linker_spec.specs.Outcome.{Buffers}
 use Rattle.history.specs.Below.{Each}
 use Rattle.history.specs.Sessions.Lists.{each_left}

@@ -1,8 +1,7 @@
 -- Whatever is done, at most 8 callers have places, each one place, with at most 16 buffers waiting.
-use Rattle.std.specs.Prelude.{ℕ, zero, suc, ◌≤◌, ◌<◌, ◌≡◌, refl, List, [], ◌∷◌, ◌++◌, Bool, true, false, length, drop}
+use Rattle.std.specs.Prelude.{if◌then◌else◌, ℕ, zero, suc, ◌≤◌, ◌<◌, ◌≡◌, refl, List, [], ◌∷◌, ◌++◌, Bool, true, false, length, drop}
 use Rattle.std.proofs.Common.{◌∙◌, arith, length-append, length-drop}
 use Rattle.std.proofs.Math.Decide.{ℕ_discrete, dec_lt}
-use Rattle.window.specs.Memory.{if◌then◌else◌}
 use Rattle.history.specs.Below.{Each, Pairs}
 use Rattle.history.specs.Sessions.Lists.{each_at, each_mono}
 use Rattle.desk_spec.specs.declared.place.Turn.{Turn}

@@ -1,6 +1,5 @@
 -- What is done at a desk, one after another: sendings, and turns free of 3 and 4; and what a caller sees of it.
-use Rattle.std.specs.Prelude.{ℕ, suc, List, [], ◌∷◌, ◌++◌, not, ◌&&◌, eqb}
-use Rattle.window.specs.Memory.{if◌then◌else◌}
+use Rattle.std.specs.Prelude.{if◌then◌else◌, ℕ, suc, List, [], ◌∷◌, ◌++◌, not, ◌&&◌, eqb}
 use Rattle.desk_spec.specs.declared.place.Turn.{Turn}
 use Rattle.desk_spec.specs.declared.place.Turn.TheVariants.{Nobody, Of}
 use Rattle.desk_spec.specs.declared.place.Change.TheVariants.{Sent, Served}

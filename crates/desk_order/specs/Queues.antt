@@ -1,10 +1,9 @@
 -- A caller is served what it sent, in order, none lost and none twice; and it keeps its place.
-use Rattle.std.specs.Prelude.{ℕ, zero, suc, ◌<◌, ◌≡◌, refl, List, [], ◌∷◌, ◌++◌, map, Bool, true, false, not, ◌&&◌, length, get_or, drop, eqb}
+use Rattle.std.specs.Prelude.{if◌then◌else◌, ℕ, zero, suc, ◌<◌, ◌≡◌, refl, List, [], ◌∷◌, ◌++◌, map, Bool, true, false, not, ◌&&◌, length, get_or, drop, eqb}
 use Rattle.std.proofs.Common.{sym, ◌∙◌, append_assoc, append-nil, arith, eqb-true}
 use Rattle.std.proofs.Math.Path.{ap}
 use Rattle.std.proofs.Math.Decide.{ℕ_discrete}
 use Rattle.std.proofs.lemmas.Bool.{eqb-false}
-use Rattle.window.specs.Memory.{if◌then◌else◌}
 use Rattle.history.specs.Below.{Pairs}
 use Rattle.history.specs.Sessions.Lists.{each_at}
 use Rattle.desk_spec.specs.declared.place.Turn.{Turn}

@@ -1,6 +1,6 @@
 -- A desk stored in lent bytes is read back.
 use Prim.Native.Nat.{ℕ, zero, suc, ◌+◌, ◌*◌, ◌/◌, ◌%◌, ◌^◌, ◌≤◌, ◌<◌}
-use Rattle.std.specs.Prelude.{◌≡◌, refl, List, [], ◌∷◌, ◌++◌, Bool, true, false, take, drop, leb}
+use Rattle.std.specs.Prelude.{if◌then◌else◌, ◌≡◌, refl, List, [], ◌∷◌, ◌++◌, Bool, true, false, take, drop, leb}
 use Rattle.std.proofs.Math.Path.{ap}
 use Rattle.std.proofs.Common.{◌∙◌, length-append, length-drop, leb-true}
 use native.Mathlib.Omega.{arith}
@@ -8,7 +8,6 @@ use Rattle.std.proofs.Math.Decide.{dec_lt}
 use Rattle.std.proofs.Math.ListN.{length, get_or, length-take, get_or-append, get_or-eq_default}
 use Rattle.std.proofs.lemmas.List.Edits.{sets, sets-eq}
 use Rattle.std.proofs.Math.Seq.{ext_get_or, get_or-take, get_or-drop}
-use Rattle.window.specs.Memory.{if◌then◌else◌}
 use Rattle.register.specs.Words.{part, flat, words_in}
 use Rattle.register.specs.Buffers.{Below, length-flat, words-flat}
 use Rattle.desk_spec.specs.Desk.{Place, place, Desk, desk, most_places, most_waiting, place_at}

@@ -1,9 +1,9 @@
 -- What a refused sending or turn leaves: "one that meets them changes nothing", "each without other changes".
-use Rattle.std.specs.Prelude.{ℕ, ◌≤◌, ◌≡◌, List, Bool, ◌||◌, length, ltb}
+use Rattle.std.specs.Prelude.{if◌then◌else◌, ℕ, ◌≤◌, ◌≡◌, List, Bool, ◌||◌, length, ltb}
 use Rattle.std.proofs.Math.Path.{refl}
 use Rattle.std.proofs.Math.Bool.{true, false}
 use Rattle.std.proofs.Common.{arith}
-use Rattle.window.specs.Memory.{if◌then◌else◌, good_window}
+use Rattle.window.specs.Memory.{good_window}
 use Rattle.window.specs.Access.{run}
 use Rattle.register.specs.Decode.{is_register}
 use Rattle.linker_spec.specs.declared.call.Call.{Call}

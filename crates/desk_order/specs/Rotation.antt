@@ -1,12 +1,11 @@
 -- "a waiting one is served within 8 turns": whatever is sent in between.
-use Rattle.std.specs.Prelude.{ℕ, suc, ◌+◌, ◌-◌, ◌*◌, ◌%◌, ◌≤◌, ◌<◌, ◌≡◌, Bool, true, false, length, drop, replicate, eqb}
+use Rattle.std.specs.Prelude.{if◌then◌else◌, ℕ, suc, ◌+◌, ◌-◌, ◌*◌, ◌%◌, ◌≤◌, ◌<◌, ◌≡◌, Bool, true, false, length, drop, replicate, eqb}
 use Rattle.std.proofs.Math.Path.{refl, ap}
 use Rattle.std.proofs.Common.{sym, ◌∙◌, length-append, eq-eqb, ne_eqb}
 use mathlib.Core.List.{List, [], ◌∷◌, ◌++◌, append_assoc, append-nil}
 use native.Mathlib.Omega.{arith}
 use Rattle.std.proofs.Math.Decide.{ℕ_discrete, dec_lt}
 use Rattle.std.proofs.Math.ListN.{get_or}
-use Rattle.window.specs.Memory.{if◌then◌else◌}
 use Rattle.desk_spec.specs.declared.place.Turn.{Turn}
 use Rattle.desk_spec.specs.declared.place.Turn.TheVariants.{Nobody, Of}
 use Rattle.desk_spec.specs.declared.place.Change.TheVariants.{Sent, Served}

@@ -1,8 +1,7 @@
 -- A desk in lent bytes: 592 of them, 148 little-endian words. Words 0 and 1 are the places taken and `next`, words 2 and 3 are 0; then come
 -- 8 places of 18 words: caller, buffers waiting, and 16 buffers, the oldest first. Unused words are 0, so all bytes 0 is an empty desk.
-use Rattle.std.specs.Prelude.{ℕ, zero, suc, ◌+◌, ◌*◌, ◌/◌, ◌%◌, List, [], ◌∷◌, length, get_or, leb}
+use Rattle.std.specs.Prelude.{if◌then◌else◌, ℕ, zero, suc, ◌+◌, ◌*◌, ◌/◌, ◌%◌, List, [], ◌∷◌, length, get_or, leb}
 use Rattle.std.proofs.lemmas.List.Edits.{sets}
-use Rattle.window.specs.Memory.{if◌then◌else◌}
 use Rattle.register.specs.Words.{part, words_in, flat}
 use Rattle.desk_spec.specs.Desk.{Place, place, Desk, desk, most_places, most_waiting, place_at}
 

@@ -1,6 +1,6 @@
 -- `handle` of ldr_ro.rs for "requests whose address is 0 or equals the source: ids 1 to 9, parameter places and reply words as there".
-use Rattle.std.specs.Prelude.{ℕ, suc, ◌+◌, ◌*◌, ◌/◌, ◌%◌, List, [], ◌∷◌, Bool, ◌||◌, eqb}
-use Rattle.window.specs.Memory.{if◌then◌else◌, ◌⊕◌, word_at, put_word}
+use Rattle.std.specs.Prelude.{if◌then◌else◌, ℕ, suc, ◌+◌, ◌*◌, ◌/◌, ◌%◌, List, [], ◌∷◌, Bool, ◌||◌, eqb}
+use Rattle.window.specs.Memory.{◌⊕◌, word_at, put_word}
 use Rattle.linker_spec.specs.declared.call.Call.{Call}
 use Rattle.linker_spec.specs.declared.call.Call.TheVariants.{Initialize, Load, Unload}
 use Rattle.linker_spec.specs.Outcome.{load_arguments}

@@ -1,7 +1,6 @@
 -- Document 02, Ask 3: "a dispatcher for up to 8 callers, each with at most 16 waiting buffers, one served a turn, oldest first, callers in
 -- rotation by first sending. A caller keeps its place."
-use Rattle.std.specs.Prelude.{ℕ, zero, suc, List, [], ◌∷◌, ◌++◌, Bool, ◌||◌, length, get_or, drop, eqb, leb}
-use Rattle.window.specs.Memory.{if◌then◌else◌}
+use Rattle.std.specs.Prelude.{if◌then◌else◌, ℕ, zero, suc, List, [], ◌∷◌, ◌++◌, Bool, ◌||◌, length, get_or, drop, eqb, leb}
 use Rattle.desk_spec.specs.declared.place.Turn.{Turn}
 use Rattle.desk_spec.specs.declared.place.Turn.TheVariants.{Nobody, Of}
 use Rattle.desk_spec.specs.declared.place.Change.{Change}

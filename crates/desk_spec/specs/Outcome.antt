@@ -1,6 +1,6 @@
 -- What the desk's two calls leave, for all lent bytes.
-use Rattle.std.specs.Prelude.{ℕ, List, ◌||◌, length, ltb}
-use Rattle.window.specs.Memory.{if◌then◌else◌, good_window}
+use Rattle.std.specs.Prelude.{if◌then◌else◌, ℕ, List, ◌||◌, length, ltb}
+use Rattle.window.specs.Memory.{good_window}
 use Rattle.register.specs.Decode.{is_register}
 use Rattle.linker_spec.specs.declared.call.Call.{Call}
 use Rattle.linker_spec.specs.Calls.{BadWindow, NoRegister, number}

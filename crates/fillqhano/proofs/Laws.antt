@@ -1,11 +1,12 @@
 -- The two tests, and what an exported call makes of a call over a trace.
+use Rattle.std.specs.Prelude.{if◌then◌else◌}
 use Prim.Native.Nat.{ℕ}
 use mathlib.Core.Path.{◌≡◌, refl, sym, ap, ◌∙◌}
 use mathlib.Core.List.{List}
 use mathlib.Core.Bool.{Bool, true, false, ◌&&◌}
 use native.Mathlib.Omega.{arith}
 use lib.Dec.{eqb}
-use Rattle.window.specs.Memory.{if◌then◌else◌, good_window}
+use Rattle.window.specs.Memory.{good_window}
 use Rattle.window.specs.Access.{Prog, run}
 use Rattle.window.specs.Trace.{run_t, touch_of}
 use Rattle.window.specs.Silent.{erase}

@@ -1,9 +1,10 @@
 -- What a turn of the desk is: refused by the two tests, idle, or a command buffer's handling.
+use Rattle.std.specs.Prelude.{if◌then◌else◌}
 use Prim.Native.Nat.{ℕ}
 use mathlib.Core.Path.{◌≡◌, sym, ap, ◌∙◌}
 use mathlib.Core.List.{List}
 use mathlib.Core.Bool.{Bool, true, false}
-use Rattle.window.specs.Memory.{if◌then◌else◌, good_window}
+use Rattle.window.specs.Memory.{good_window}
 use Rattle.register.specs.Decode.{is_register}
 use Rattle.linker_spec.specs.Calls.{BadWindow, NoRegister, number}
 use Rattle.linker_spec.specs.Outcome.{Buffers}

@@ -1,6 +1,5 @@
 -- The two tests that come first in all three calls.
-use Rattle.std.specs.Prelude.{ℕ, Bool}
-use Rattle.window.specs.Memory.{if◌then◌else◌}
+use Rattle.std.specs.Prelude.{if◌then◌else◌, ℕ, Bool}
 use Rattle.linker_spec.specs.Calls.{BadWindow, NoRegister, number}
 
 -- the number of the first two tests: the window's, then the register's, 0 where both pass

@@ -1,8 +1,7 @@
 -- The lines of a header: the fields of cro/format.rs by their names there, in lower case, and their offsets.
-use Rattle.std.specs.Prelude.{ℕ, zero, suc, ◌+◌, ◌*◌, Bool, ◌&&◌, ◌||◌, List, [], ◌∷◌, get_or, eqb, leb}
+use Rattle.std.specs.Prelude.{if◌then◌else◌, ℕ, zero, suc, ◌+◌, ◌*◌, Bool, ◌&&◌, ◌||◌, List, [], ◌∷◌, get_or, eqb, leb}
 use Prim.Native.Char.{code}
 use Prim.Native.String.{String, [] as ε, ◌∷◌ as ◌◃◌}
-use Rattle.window.specs.Memory.{if◌then◌else◌}
 use Rattle.layout.specs.Header.{header_size, magic, name_offset, next_cro, previous_cro, file_size, bss_size, fixed_size}
 use Rattle.layout.specs.Header.{on_unresolved_segment_tag, code_offset, code_size, data_offset, data_size, module_name_offset}
 use Rattle.layout.specs.Header.{module_name_size, segment_table_offset, segment_num, export_named_symbol_table_offset}

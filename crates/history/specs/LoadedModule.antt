@@ -1,6 +1,6 @@
 -- An image in its place: the call that brought it and its own bytes; where its segments, exports and areas are.
-use Rattle.std.specs.Prelude.{ℕ, zero, suc, ◌+◌, ◌<◌, List, Bool, true, false, ◌⊎◌, eqb, ltb}
-use Rattle.window.specs.Memory.{if◌then◌else◌, ◌⊕◌}
+use Rattle.std.specs.Prelude.{if◌then◌else◌, ℕ, zero, suc, ◌+◌, ◌<◌, List, Bool, true, false, ◌⊎◌, eqb, ltb}
+use Rattle.window.specs.Memory.{◌⊕◌}
 use Rattle.window.specs.Within.{In}
 use Rattle.window.specs.Mirror.{word}
 use Rattle.layout.specs.Header.{on_unresolved_segment_tag}

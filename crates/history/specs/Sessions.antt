@@ -5,8 +5,8 @@ pub mod Unique
 pub mod Registers
 pub mod Answers
 pub mod Conclude
-use Rattle.std.specs.Prelude.{ℕ, ◌^◌, ◌<◌, ◌≡◌, ◌⊎◌, List, [], ◌∷◌, ◌++◌, Bool, false, not, ◌||◌, length, eqb}
-use Rattle.window.specs.Memory.{if◌then◌else◌, byte_at}
+use Rattle.std.specs.Prelude.{if◌then◌else◌, ℕ, ◌^◌, ◌<◌, ◌≡◌, ◌⊎◌, List, [], ◌∷◌, ◌++◌, Bool, false, not, ◌||◌, length, eqb}
+use Rattle.window.specs.Memory.{byte_at}
 use Rattle.window.specs.Within.{Agree}
 use Rattle.register.specs.declared.words.Crs.TheVariants.{Unknown}
 use Rattle.linker_spec.specs.declared.call.Call.{Call}

@@ -1,8 +1,8 @@
 -- Sessions whose calls gave what the definition gives (`Exact`): there the session's own calls, what came and what stands are read from
 -- what the calls gave.
-use Rattle.std.specs.Prelude.{ℕ, zero, suc, ◌≡◌, refl, List, [], ◌∷◌, ◌++◌, Bool, true, false, ◌&&◌, ◌||◌, length, eqb, ltb}
+use Rattle.std.specs.Prelude.{if◌then◌else◌, ℕ, zero, suc, ◌≡◌, refl, List, [], ◌∷◌, ◌++◌, Bool, true, false, ◌&&◌, ◌||◌, length, eqb, ltb}
 use Rattle.std.proofs.Common.{sym, ap, ◌∙◌, subst, arith, lit<, ltb-true}
-use Rattle.window.specs.Memory.{if◌then◌else◌, byte_at}
+use Rattle.window.specs.Memory.{byte_at}
 use Rattle.window.specs.Within.{In}
 use Rattle.window.specs.Tests.{both}
 use Rattle.register.specs.Buffers.{Below}

@@ -1,8 +1,8 @@
 -- A load that patches the first entry of each batch alone and marks the batch as resolved: the definition's steps, by their own names,
 -- but for the walk of one entry in `resolve`.
-use Rattle.std.specs.Prelude.{ℕ, List, [], ◌∷◌, Bool, not, eqb}
+use Rattle.std.specs.Prelude.{if◌then◌else◌, ℕ, List, [], ◌∷◌, Bool, not, eqb}
 use Rattle.std.proofs.Math.Option.{Option, some, none}
-use Rattle.window.specs.Memory.{if◌then◌else◌, ◌⊕◌}
+use Rattle.window.specs.Memory.{◌⊕◌}
 use Rattle.window.specs.Access.{Prog, ret, ◌>>=◌, ◌>>◌, get32, put8}
 use Rattle.window.specs.Loop.{loop}
 use Rattle.window.specs.Name.{name_at}

@@ -1,11 +1,11 @@
 -- A window with a page of zeros in front of it: a call that writes nothing in that page gives the same.
-use Rattle.std.specs.Prelude.{ℕ, zero, suc, ◌+◌, ◌-◌, ◌/◌, ◌%◌, ◌^◌, ◌<◌, ◌≡◌, refl, List, [], ◌∷◌, ◌++◌, Bool, true, false, ◌&&◌, length, set, ltb}
+use Rattle.std.specs.Prelude.{if◌then◌else◌, ℕ, zero, suc, ◌+◌, ◌-◌, ◌/◌, ◌%◌, ◌^◌, ◌<◌, ◌≡◌, refl, List, [], ◌∷◌, ◌++◌, Bool, true, false, ◌&&◌, length, set, ltb}
 use Rattle.std.proofs.Common.{sym, ap, ◌∙◌, arith, suc-add, zero-add, length-append, get_or-append-add, ltb-true, lt-ltb}
 use Rattle.std.proofs.Math.Option.{Option, some, none}
 use Rattle.std.proofs.Math.Decide.{dec_lt}
 use Rattle.std.proofs.lemmas.List.{get_or-replicate}
 use Rattle.std.proofs.Math.ListN.{get_or-append, get_or-eq_default}
-use Rattle.window.specs.Memory.{if◌then◌else◌, good_window, place, inside, byte_at, word_at, put_byte, put_bytes, put_word, put_upward, put_privileged}
+use Rattle.window.specs.Memory.{good_window, place, inside, byte_at, word_at, put_byte, put_bytes, put_word, put_upward, put_privileged}
 use Rattle.window.specs.Access.{Prog, ret, read8, read32, write8, write32, write_privileged, run}
 use Rattle.window.specs.Bytes.{length-put_byte, length-put_word, length-put_privileged}
 use Rattle.window.specs.Tests.{both}

@@ -1,11 +1,11 @@
 -- "Which sham linkers come closest?": document 01's six, none of which meets demand 3. Four are refuted by the outcomes, two by the
 -- import clause alone, each in a session of the witness whose last call the sham makes in its own way.
-use Rattle.std.specs.Prelude.{ℕ, ◌≡◌, Bool, ◌||◌, eqb}
+use Rattle.std.specs.Prelude.{if◌then◌else◌, ℕ, ◌≡◌, Bool, ◌||◌, eqb}
 use Rattle.std.proofs.Math.Path.{refl}
 use Rattle.std.proofs.Common.{sym, ap, ◌∙◌, arith}
 use mathlib.Core.List.{List, [], ◌∷◌, map}
 use Rattle.std.proofs.Math.Bool.{true, false}
-use Rattle.window.specs.Memory.{if◌then◌else◌, byte_at}
+use Rattle.window.specs.Memory.{byte_at}
 use Rattle.linker_spec.specs.declared.call.Call.{Call}
 use Rattle.linker_spec.specs.declared.call.Call.TheVariants.{Initialize, Load, Unload}
 use Rattle.linker_spec.specs.Outcome.{Buffers, Outcome, call_outcome}

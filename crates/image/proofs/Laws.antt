@@ -1,4 +1,5 @@
 -- Beside 0 the value is a length within the buffer.
+use Rattle.std.specs.Prelude.{if◌then◌else◌}
 use Prim.Native.Nat.{ℕ, ◌≤◌}
 use mathlib.Core.Path.{◌≡◌, refl, ap}
 use mathlib.Core.List.{List}
@@ -7,7 +8,6 @@ use native.Mathlib.Omega.{arith}
 use lib.ListN.{length, length-append, length-drop}
 use lib.Dec.{ltb}
 use borrow.Author.Tests.{ltb-false}
-use Rattle.window.specs.Memory.{if◌then◌else◌}
 use Rattle.writer_spec.specs.Description.{image_size, image_file, image_of}
 use Rattle.writer_spec.specs.FirstBytes.{first-length}
 use Rattle.writer_spec.specs.Accepts.{accepts}

@@ -1,6 +1,5 @@
 -- Document 01, "cro/format.rs: the layout": what the numbers of segment kinds, tags and relocation kinds stand for.
-use Rattle.std.specs.Prelude.{◌≡◌, ℕ, ◌/◌, ◌%◌, ◌==◌, nat_eq, refl}
-use Rattle.window.specs.Memory.{if◌then◌else◌}
+use Rattle.std.specs.Prelude.{if◌then◌else◌, ◌≡◌, ℕ, ◌/◌, ◌%◌, ◌==◌, nat_eq, refl}
 use Rattle.layout.specs.declared.format.SegmentType.{SegmentType}
 use Rattle.layout.specs.declared.format.SegmentType.TheVariants.{Code, RoData, Data, Bss}
 use Rattle.layout.specs.declared.format.RelocationType.{RelocationType}

@@ -1,6 +1,6 @@
 -- Where the entry of a segment stands, if all that a lookup reads is inside: the lookup then needs no test of its own for each word.
-use Rattle.std.specs.Prelude.{ℕ, ◌+◌, List, length, nat_lt}
-use Rattle.window.specs.Memory.{if◌then◌else◌, ◌⊕◌}
+use Rattle.std.specs.Prelude.{if◌then◌else◌, ℕ, ◌+◌, List, length, nat_lt}
+use Rattle.window.specs.Memory.{◌⊕◌}
 use Rattle.window.specs.Word.{word_in}
 use Rattle.window.specs.Row.{row_of}
 use Rattle.window.specs.declared.row.Row.{Row}

@@ -1,9 +1,9 @@
 -- Header fields, segments and the addresses that tags give, as programs of accesses in the order of cro/mod.rs.
-use Rattle.std.specs.Prelude.{◌≡◌, ℕ, ◌+◌, ◌*◌, ◌%◌, ◌^◌, ◌<◌, ◌≤◌, Bool, true, false, List, nat_lt}
+use Rattle.std.specs.Prelude.{if◌then◌else◌, ◌≡◌, ℕ, ◌+◌, ◌*◌, ◌%◌, ◌^◌, ◌<◌, ◌≤◌, Bool, true, false, List, nat_lt}
 use Rattle.std.proofs.Math.Path.{refl, ap}
 use Rattle.std.proofs.Common.{◌∙◌}
 use borrow.Author.Tests.{lt-ltb, le-ltb}
-use Rattle.window.specs.Memory.{if◌then◌else◌, ◌⊕◌, word_at, put_word}
+use Rattle.window.specs.Memory.{◌⊕◌, word_at, put_word}
 use Rattle.window.specs.Access.{Prog, ret, ◌>>=◌, ◌>>◌, get32, put32, run, run_bind, Reads, reads_bind}
 use Rattle.layout.specs.Header.{segment_num, segment_table_offset, segment_entry_size}
 use Rattle.layout.specs.Format.{segment_type, segment_type_number, tag_segment, tag_offset}

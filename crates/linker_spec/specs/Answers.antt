@@ -1,13 +1,13 @@
 -- What the steps and calls may answer: how far a batch walk counts, which numbers a call has.
 use Prim.Native.Nat.{ℕ, zero, suc, ◌+◌, ◌^◌, ◌≤◌, ◌<◌}
-use Rattle.std.specs.Prelude.{◌≡◌, Bool}
+use Rattle.std.specs.Prelude.{if◌then◌else◌, ◌≡◌, Bool}
 use Rattle.std.proofs.Math.Path.{refl, sym, ap}
 use Rattle.std.proofs.Common.{subst, ◌∙◌, eq-eqb, ne_eqb}
 use mathlib.Core.List.{List}
 use Rattle.std.proofs.Math.Bool.{true, false}
 use native.Mathlib.Omega.{arith}
 use Rattle.std.proofs.Math.Dec.{eqb}
-use Rattle.window.specs.Memory.{if◌then◌else◌, ◌⊕◌, byte_at, word_at}
+use Rattle.window.specs.Memory.{◌⊕◌, byte_at, word_at}
 use Rattle.window.specs.Access.{Prog, ret, ◌>>=◌, ◌>>◌, run, run_bind}
 use Rattle.layout.specs.Header.{relocation_entry_size}
 use Rattle.layout.specs.Tables.{pointer_tables}

@@ -1,8 +1,8 @@
 -- What a program may answer, whatever it reads.
 use Prim.Native.Nat.{ℕ, zero, suc}
-use Rattle.std.specs.Prelude.{◌≡◌, refl, List, Bool, true, false}
+use Rattle.std.specs.Prelude.{if◌then◌else◌, ◌≡◌, refl, List, Bool, true, false}
 use Rattle.std.proofs.Common.{sym, subst}
-use Rattle.window.specs.Memory.{if◌then◌else◌, byte_at, word_at, put_byte, put_word, put_privileged}
+use Rattle.window.specs.Memory.{byte_at, word_at, put_byte, put_word, put_privileged}
 use Rattle.window.specs.Access.{Prog, ret, read8, read32, write8, write32, write_privileged, ◌>>=◌, run, run_bind}
 use Rattle.window.specs.Loop.{loop}
 use Rattle.window.specs.Small.{Bytes, run-bytes}

@@ -1,6 +1,6 @@
 -- The three calls over the modules that stand: programs of accesses that give an answer.
-use Rattle.std.specs.Prelude.{ℕ, suc, ◌*◌, List, [], ◌∷◌, Bool, true, ◌&&◌, length, eqb, ltb, leb}
-use Rattle.window.specs.Memory.{if◌then◌else◌, ◌⊕◌}
+use Rattle.std.specs.Prelude.{if◌then◌else◌, ℕ, suc, ◌*◌, List, [], ◌∷◌, Bool, true, ◌&&◌, length, eqb, ltb, leb}
+use Rattle.window.specs.Memory.{◌⊕◌}
 use Rattle.window.specs.Access.{Prog, ret, ◌>>=◌, ◌>>◌, get32}
 use Rattle.layout.specs.Header.{magic, next_cro, previous_cro}
 use Rattle.layout.specs.Tables.{pointer_tables}

@@ -1,12 +1,12 @@
 -- The proved cases of document 01's table that live here, and the batch that never ends.
 use Prim.Native.Nat.{ℕ, zero, suc, ◌+◌, ◌-◌, ◌%◌, ◌^◌, ◌<◌}
-use Rattle.std.specs.Prelude.{◌≡◌, true, false, not, eqb}
+use Rattle.std.specs.Prelude.{if◌then◌else◌, ◌≡◌, true, false, not, eqb}
 use Rattle.std.proofs.Math.Path.{refl, ap}
 use Rattle.std.proofs.Common.{◌∙◌, ne_eqb}
 use mathlib.Core.List.{List}
 use native.Mathlib.Omega.{arith}
 use borrow.Fn.Enter.{pair≡}
-use Rattle.window.specs.Memory.{if◌then◌else◌, ◌⊕◌, good_window, byte_at, word_at}
+use Rattle.window.specs.Memory.{◌⊕◌, good_window, byte_at, word_at}
 use Rattle.window.specs.Access.{ret, ◌>>=◌, ◌>>◌, put8, run, run_bind, reads_same}
 use Rattle.window.specs.Loop.{loop, loop_none, loop-more}
 use Rattle.layout.specs.Header.{magic, segment_num, relocation_entry_size}

@@ -1,6 +1,6 @@
 -- Fixing: the tables that a level says the module no longer needs are dropped, and the rest's size is the value.
-use Rattle.std.specs.Prelude.{ℕ, ◌+◌, ◌-◌, ◌*◌, ◌/◌, ◌%◌, ◌^◌, min, max, get_or, eqb, ltb}
-use Rattle.window.specs.Memory.{if◌then◌else◌, ◌⊕◌}
+use Rattle.std.specs.Prelude.{if◌then◌else◌, ℕ, ◌+◌, ◌-◌, ◌*◌, ◌/◌, ◌%◌, ◌^◌, min, max, get_or, eqb, ltb}
+use Rattle.window.specs.Memory.{◌⊕◌}
 use Rattle.window.specs.Access.{Prog, ret, ◌>>=◌, ◌>>◌}
 use Rattle.window.specs.Loop.{loop}
 use Rattle.layout.specs.Header.{code_offset, code_size, module_name_offset, export_named_symbol_table_offset, import_module_table_offset, static_anonymous_symbol_table_offset, header_size, fixed_size}

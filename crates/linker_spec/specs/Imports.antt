@@ -1,7 +1,7 @@
 -- Imports of a new module, and the imports of the others that it serves.
-use Rattle.std.specs.Prelude.{ℕ, List, [], ◌∷◌, ◌++◌, Bool, true, false, length, eqb, ltb}
+use Rattle.std.specs.Prelude.{if◌then◌else◌, ℕ, List, [], ◌∷◌, ◌++◌, Bool, true, false, length, eqb, ltb}
 use Rattle.std.proofs.Math.Option.{Option, some, none}
-use Rattle.window.specs.Memory.{if◌then◌else◌, ◌⊕◌}
+use Rattle.window.specs.Memory.{◌⊕◌}
 use Rattle.window.specs.Access.{Prog, ret, ◌>>=◌, ◌>>◌, get32}
 use Rattle.window.specs.Loop.{loop}
 use Rattle.window.specs.Name.{name_at}

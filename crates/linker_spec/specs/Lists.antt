@@ -1,7 +1,6 @@
 -- The lists that the title walks. "0x088 is next, 0x08C previous. The CRS's next heads the auto-linked list, its previous the other;
 -- a head's previous is the tail."
-use Rattle.std.specs.Prelude.{ℕ, Bool, true, false, eqb}
-use Rattle.window.specs.Memory.{if◌then◌else◌}
+use Rattle.std.specs.Prelude.{if◌then◌else◌, ℕ, Bool, true, false, eqb}
 use Rattle.window.specs.Access.{Prog, ret, ◌>>=◌, ◌>>◌}
 use Rattle.layout.specs.Header.{next_cro, previous_cro}
 use Rattle.layout.specs.Segments.{field, set_field}

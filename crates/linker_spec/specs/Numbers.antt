@@ -1,10 +1,10 @@
 -- The number of a load and of an `initialize`, for all inputs: 3, 4, 1, 2, and then 0 or 5 as the record fits or not.
-use Rattle.std.specs.Prelude.{ℕ, ◌≡◌, Bool, not, length, eqb}
+use Rattle.std.specs.Prelude.{if◌then◌else◌, ℕ, ◌≡◌, Bool, not, length, eqb}
 use Rattle.std.proofs.Math.Path.{refl, ap}
 use Rattle.std.proofs.Common.{sym, ◌∙◌, arith}
 use mathlib.Core.List.{List}
 use Rattle.std.proofs.Math.Bool.{true, false}
-use Rattle.window.specs.Memory.{if◌then◌else◌, ◌⊕◌, good_window, word_at}
+use Rattle.window.specs.Memory.{◌⊕◌, good_window, word_at}
 use Rattle.window.specs.Access.{Prog, ret, ◌>>=◌, run, run_bind}
 use Rattle.layout.specs.Header.{magic, next_cro, previous_cro}
 use Rattle.layout.specs.Tables.{pointer_tables}

@@ -1,6 +1,6 @@
 -- Outcomes of a call for all lent bytes, refusals in the order 3, 4, 1, 2, 5.
-use Rattle.std.specs.Prelude.{ℕ, List, Bool, not, length, eqb}
-use Rattle.window.specs.Memory.{if◌then◌else◌, good_window}
+use Rattle.std.specs.Prelude.{if◌then◌else◌, ℕ, List, Bool, not, length, eqb}
+use Rattle.window.specs.Memory.{good_window}
 use Rattle.window.specs.Access.{Prog, run}
 use Rattle.register.specs.Module.{Register}
 use Rattle.register.specs.Decode.{register_of, is_register}

@@ -1,9 +1,9 @@
 -- What a module's record holds, whatever its image: names, ascending exports, at most 16 segments, 32-bit numbers. And that missing
 -- names are names, at most 64.
-use Rattle.std.specs.Prelude.{ℕ, ◌+◌, ◌^◌, ◌≤◌, ◌<◌, ◌≡◌, refl, Bool, true, false, length, take, ltb}
+use Rattle.std.specs.Prelude.{if◌then◌else◌, ℕ, ◌+◌, ◌^◌, ◌≤◌, ◌<◌, ◌≡◌, refl, Bool, true, false, length, take, ltb}
 use mathlib.Core.List.{List, [], ◌∷◌, ◌++◌}
 use Rattle.std.proofs.Common.{arith, length-take, le-leb}
-use Rattle.window.specs.Memory.{if◌then◌else◌, ◌⊕◌}
+use Rattle.window.specs.Memory.{◌⊕◌}
 use Rattle.window.specs.Access.{get32, run}
 use Rattle.window.specs.Name.{is_name, order_of, name_at, name_at-is_name}
 use Rattle.window.specs.declared.name.NameOrder.{NameOrder}

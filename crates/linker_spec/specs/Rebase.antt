@@ -1,6 +1,6 @@
 -- Rebasing: every stored offset becomes an address, or an address an offset again.
-use Rattle.std.specs.Prelude.{ℕ, ◌+◌, ◌*◌, List, [], ◌∷◌, Bool, true, false, ◌||◌, take, eqb, ltb}
-use Rattle.window.specs.Memory.{if◌then◌else◌, ◌⊕◌, ◌⊖◌}
+use Rattle.std.specs.Prelude.{if◌then◌else◌, ℕ, ◌+◌, ◌*◌, List, [], ◌∷◌, Bool, true, false, ◌||◌, take, eqb, ltb}
+use Rattle.window.specs.Memory.{◌⊕◌, ◌⊖◌}
 use Rattle.window.specs.Access.{Prog, ret, ◌>>=◌, ◌>>◌, get32, put32}
 use Rattle.window.specs.Loop.{loop}
 use Rattle.layout.specs.Header.{magic, name_offset, first_rebased, segment_num}

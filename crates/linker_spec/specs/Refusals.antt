@@ -1,8 +1,8 @@
 -- What a refused call leaves: document 01's column "leaves", and the order of refusals 3, 4, 1, 2, 5.
-use Rattle.std.specs.Prelude.{ℕ, ◌≡◌, refl, List, Bool, false, not, length, eqb}
+use Rattle.std.specs.Prelude.{if◌then◌else◌, ℕ, ◌≡◌, refl, List, Bool, false, not, length, eqb}
 use Rattle.std.proofs.Common.{◌∙◌}
 use Rattle.std.proofs.Math.Bool.{true}
-use Rattle.window.specs.Memory.{if◌then◌else◌, ◌⊕◌, good_window, word_at}
+use Rattle.window.specs.Memory.{◌⊕◌, good_window, word_at}
 use Rattle.window.specs.Access.{Prog, ◌>>=◌, run, run_bind, reads_same}
 use Rattle.layout.specs.Header.{magic}
 use Rattle.register.specs.Module.{Module, Register}

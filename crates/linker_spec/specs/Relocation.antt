@@ -1,6 +1,6 @@
 -- Relocation: internal relocations, the reset of external ones, and the batch walk.
-use Rattle.std.specs.Prelude.{ℕ, zero, suc, ◌+◌, Bool, true, false, eqb, ltb}
-use Rattle.window.specs.Memory.{if◌then◌else◌, ◌⊕◌}
+use Rattle.std.specs.Prelude.{if◌then◌else◌, ℕ, zero, suc, ◌+◌, Bool, true, false, eqb, ltb}
+use Rattle.window.specs.Memory.{◌⊕◌}
 use Rattle.window.specs.Access.{Prog, ret, ◌>>=◌, ◌>>◌, get8, get32, put8}
 use Rattle.window.specs.Loop.{loop}
 use Rattle.layout.specs.Header.{internal_relocation_table_offset, internal_relocation_num, external_relocation_table_offset, external_relocation_num, relocation_entry_size, on_unresolved_segment_tag}

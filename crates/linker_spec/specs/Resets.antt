@@ -1,6 +1,6 @@
 -- The resets of an unload: what linked against the module goes back to its own handler.
-use Rattle.std.specs.Prelude.{ℕ, List, [], ◌∷◌, Bool, true, false, eqb}
-use Rattle.window.specs.Memory.{if◌then◌else◌, ◌⊕◌}
+use Rattle.std.specs.Prelude.{if◌then◌else◌, ℕ, List, [], ◌∷◌, Bool, true, false, eqb}
+use Rattle.window.specs.Memory.{◌⊕◌}
 use Rattle.window.specs.Access.{Prog, ret, ◌>>=◌, ◌>>◌, get32}
 use Rattle.window.specs.Loop.{loop}
 use Rattle.window.specs.Name.{name_at}

@@ -1,10 +1,10 @@
 -- The shape of the lists that the title walks, and that a load keeps it: its module then stands at its list's end.
-use Rattle.std.specs.Prelude.{ℕ, ◌^◌, ◌≤◌, ◌<◌, ◌≡◌, refl, ◌⊎◌, Bool, eqb}
+use Rattle.std.specs.Prelude.{if◌then◌else◌, ℕ, ◌^◌, ◌≤◌, ◌<◌, ◌≡◌, refl, ◌⊎◌, Bool, eqb}
 use Rattle.std.proofs.Common.{sym, ◌∙◌, inl, inr, arith, ne_eqb}
 use Rattle.std.proofs.Math.Path.{ap, subst}
 use mathlib.Core.List.{List, [], ◌∷◌, ◌++◌}
 use Rattle.std.proofs.Math.Bool.{true, false}
-use Rattle.window.specs.Memory.{if◌then◌else◌, ◌⊕◌, place, word_at, put_word}
+use Rattle.window.specs.Memory.{◌⊕◌, place, word_at, put_word}
 use Rattle.window.specs.Bytes.{Whole, word_at-same, word_at-apart, length-put_word}
 use Rattle.window.specs.Access.{Prog, ◌>>=◌, ◌>>◌, run}
 use Rattle.layout.specs.Header.{next_cro, previous_cro}

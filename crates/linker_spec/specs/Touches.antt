@@ -1,7 +1,7 @@
 -- Touches of a call: whether one of its accesses had a byte outside the window, and where the first such access started.
 -- They are those of the very programs of accesses that give the call's outcome.
-use Rattle.std.specs.Prelude.{ℕ, ◌≡◌, refl, List, not, ◌&&◌, length, replicate, eqb}
-use Rattle.window.specs.Memory.{if◌then◌else◌, place, byte_at, word_at, good_window}
+use Rattle.std.specs.Prelude.{if◌then◌else◌, ℕ, ◌≡◌, refl, List, not, ◌&&◌, length, replicate, eqb}
+use Rattle.window.specs.Memory.{place, byte_at, word_at, good_window}
 use Rattle.window.specs.Access.{Prog, ret, ◌>>=◌, run}
 use Rattle.window.specs.Trace.{run_t, touch_of}
 use Rattle.window.specs.Silent.{quiet}

@@ -1,6 +1,6 @@
 -- Unrebasing: an unloaded module gets its offsets back.
-use Rattle.std.specs.Prelude.{ℕ, eqb, false}
-use Rattle.window.specs.Memory.{if◌then◌else◌, ◌⊖◌}
+use Rattle.std.specs.Prelude.{if◌then◌else◌, ℕ, eqb, false}
+use Rattle.window.specs.Memory.{◌⊖◌}
 use Rattle.window.specs.Access.{Prog, ret, ◌>>=◌, ◌>>◌}
 use Rattle.window.specs.Loop.{loop}
 use Rattle.layout.specs.Header.{segment_num, fixed_size}

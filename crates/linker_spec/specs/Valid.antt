@@ -1,9 +1,9 @@
 -- Every call on a valid register leaves a valid register, whatever the lent bytes and the arguments: number 4's rule stays met.
-use Rattle.std.specs.Prelude.{ℕ, suc, ◌+◌, ◌^◌, ◌≤◌, ◌<◌, ◌≡◌, List, [], ◌∷◌, ◌++◌, Bool, false, not, length, eqb, ltb}
+use Rattle.std.specs.Prelude.{if◌then◌else◌, ℕ, suc, ◌+◌, ◌^◌, ◌≤◌, ◌<◌, ◌≡◌, List, [], ◌∷◌, ◌++◌, Bool, false, not, length, eqb, ltb}
 use Rattle.std.proofs.Math.Path.{refl, sym}
 use Rattle.std.proofs.Common.{◌∙◌, arith, length-append, ltb-true}
 use Rattle.std.proofs.Math.Bool.{true}
-use Rattle.window.specs.Memory.{if◌then◌else◌, ◌⊕◌, good_window}
+use Rattle.window.specs.Memory.{◌⊕◌, good_window}
 use Rattle.window.specs.Access.{Prog, get32, run, length_run}
 use Rattle.window.specs.Name.{is_name, name_at}
 use Rattle.window.specs.Small.{run-bytes}

@@ -1,7 +1,7 @@
 -- The header's words with word 3 settled.
+use Rattle.std.specs.Prelude.{if◌then◌else◌}
 use Rattle.std.proofs.Common.{◌≡◌, ℕ, ◌<◌, Bool, true, false, ◌&&◌, eqb, List, length, get_or, set, sym, refl, ◌∙◌, arith, get_or-set_same, eq-eqb, ne_eqb}
 use lib.ListN.{get_or-eq_default}
-use Rattle.window.specs.Memory.{if◌then◌else◌}
 use Rattle.register.specs.Words.{words_in, length-words}
 use Rattle.register.specs.Decode.{settled}
 use Rattle.register.specs.CheckIs.{length-settled}

@@ -1,10 +1,9 @@
 -- The encoding as bytes of lent buffers: what the three buffers are when they encode a register, and that such bytes encode it.
-use Rattle.std.specs.Prelude.{◌≡◌, ℕ, zero, suc, ◌+◌, ◌-◌, ◌*◌, ◌/◌, ◌%◌, ◌^◌, ◌<◌, ◌≤◌, Bool, true, false, ◌&&◌, List, [], ◌∷◌, ◌++◌, length, take, drop, set, replicate, ◌==◌, nat_eq, slice_index, slice_set, refl}
+use Rattle.std.specs.Prelude.{if◌then◌else◌, ◌≡◌, ℕ, zero, suc, ◌+◌, ◌-◌, ◌*◌, ◌/◌, ◌%◌, ◌^◌, ◌<◌, ◌≤◌, Bool, true, false, ◌&&◌, List, [], ◌∷◌, ◌++◌, length, take, drop, set, replicate, ◌==◌, nat_eq, slice_index, slice_set, refl}
 use Rattle.std.proofs.Common.{sym, ap, ◌∙◌, arith, length-append, length-drop, length-set, take-append-drop, set-set, drop_at, eqb-true, eq-eqb, ne_eqb}
 use Rattle.std.proofs.Math.Bool.{and-false}
 use Rattle.std.proofs.lemmas.List.{length-replicate, set-get_or}
 use Rattle.std.proofs.Math.Seq.{take-set-lt, drop-append_seam, take-append_seam}
-use Rattle.window.specs.Memory.{if◌then◌else◌}
 use Rattle.window.specs.Bytes.{byte_of, join, join-bytes}
 use Rattle.window.specs.Tests.{both, also}
 use Rattle.register.specs.Words.{same, all_zero, holds, bytes_of, flat, words_in, length-words}

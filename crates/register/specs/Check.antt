@@ -1,6 +1,5 @@
 -- The test as the code makes it, record by record, and that it is `is_register`.
-use Rattle.std.specs.Prelude.{ℕ, zero, suc, ◌+◌, ◌-◌, ◌*◌, ◌/◌, ◌%◌, Bool, true, false, ◌&&◌, ◌||◌, List, length, take, drop, ◌==◌, nat_le, slice_index}
-use Rattle.window.specs.Memory.{if◌then◌else◌}
+use Rattle.std.specs.Prelude.{if◌then◌else◌, ℕ, zero, suc, ◌+◌, ◌-◌, ◌*◌, ◌/◌, ◌%◌, Bool, true, false, ◌&&◌, ◌||◌, List, length, take, drop, ◌==◌, nat_le, slice_index}
 use Rattle.window.specs.Name.{no_zero}
 use Rattle.register.specs.Words.{part, all_zero, words_in}
 use Rattle.register.specs.Module.{ascending}

@@ -1,5 +1,5 @@
 -- The test as the code makes it is `is_register`; and what encodes a proper register is read back as that register.
-use Rattle.std.specs.Prelude.{◌≡◌, ℕ, ◌+◌, ◌-◌, ◌*◌, ◌/◌, ◌%◌, ◌<◌, ◌≤◌, Bool, true, false, ◌&&◌, ◌||◌, leb, List, [], ◌++◌, length, take, drop, ◌==◌, nat_eq, nat_le, slice_index, slice_index_or, slice_set, refl}
+use Rattle.std.specs.Prelude.{if◌then◌else◌, ◌≡◌, ℕ, ◌+◌, ◌-◌, ◌*◌, ◌/◌, ◌%◌, ◌<◌, ◌≤◌, Bool, true, false, ◌&&◌, ◌||◌, leb, List, [], ◌++◌, length, take, drop, ◌==◌, nat_eq, nat_le, slice_index, slice_index_or, slice_set, refl}
 use Rattle.std.proofs.Math.Path.{sym, ap}
 use Rattle.std.proofs.Common.{◌∙◌, subst, length-set, take-append-drop, get_or-take, take_all, drop-set-lt}
 use Rattle.std.proofs.Math.Option.{some, none}
@@ -7,7 +7,6 @@ use native.Mathlib.Omega.{arith}
 use Rattle.std.proofs.Math.Decide.{dec_le}
 use Rattle.std.proofs.Math.Seq.{length-take-le}
 use borrow.Author.Tests.{eqb-true, leb-true, eq-eqb, le-leb}
-use Rattle.window.specs.Memory.{if◌then◌else◌}
 use Rattle.window.specs.Tests.{both, also, iff_same}
 use Rattle.register.specs.Words.{part, same, all_zero, holds, words_in, length-words, part-words}
 use Rattle.register.specs.Lists.{same_true, same_refl, length_part}

@@ -1,6 +1,5 @@
 -- The abstract register: modules in load order, the CRS, missing names.
-use Rattle.std.specs.Prelude.{ℕ, ◌+◌, Bool, true, false, ◌&&◌, List, [], ◌∷◌, length, nat_le}
-use Rattle.window.specs.Memory.{if◌then◌else◌}
+use Rattle.std.specs.Prelude.{if◌then◌else◌, ℕ, ◌+◌, Bool, true, false, ◌&&◌, List, [], ◌∷◌, length, nat_le}
 use Rattle.window.specs.Name.{is_name, order_of}
 use Rattle.window.specs.declared.name.NameOrder.{NameOrder}
 use Rattle.window.specs.declared.name.NameOrder.TheVariants.{Before, Same, After}

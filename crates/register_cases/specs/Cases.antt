@@ -1,6 +1,5 @@
 -- What a stored case says: three buffers, made of pieces over zeros, and number 4's rule on them.
-use Rattle.std.specs.Prelude.{ℕ, ◌+◌, ◌/◌, List, Bool, true, false, ◌&&◌, length, take, get_or, replicate, leb}
-use Rattle.window.specs.Memory.{if◌then◌else◌}
+use Rattle.std.specs.Prelude.{if◌then◌else◌, ℕ, ◌+◌, ◌/◌, List, Bool, true, false, ◌&&◌, length, take, get_or, replicate, leb}
 use Rattle.register.specs.Words.{words_in}
 use Rattle.register.specs.Decode.{is_register}
 use Rattle.case_reader.specs.declared.append.NextPlace.{NextPlace}

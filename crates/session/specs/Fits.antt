@@ -1,7 +1,6 @@
 -- No text is longer than 139,264 bytes: that much the session program lends.
-use Rattle.std.specs.Prelude.{ℕ, zero, suc, ◌+◌, ◌*◌, ◌/◌, ◌%◌, ◌≤◌, ◌≡◌, refl, Bool, true, false, ◌&&◌, List, [], ◌∷◌, ◌++◌, length, ltb, leb}
+use Rattle.std.specs.Prelude.{if◌then◌else◌, ℕ, zero, suc, ◌+◌, ◌*◌, ◌/◌, ◌%◌, ◌≤◌, ◌≡◌, refl, Bool, true, false, ◌&&◌, List, [], ◌∷◌, ◌++◌, length, ltb, leb}
 use Rattle.std.proofs.Common.{arith, length-append, leb-true}
-use Rattle.window.specs.Memory.{if◌then◌else◌}
 use Rattle.window.specs.Tests.{both}
 use Rattle.window.specs.Name.{is_name}
 use Rattle.register.specs.Module.{Module, Register, proper, proper_module, proper_modules, proper_names, named_ok, ascending}

@@ -1,6 +1,5 @@
 -- A whole session: the file's bytes in, the text out. Document 01, "The session program".
-use Rattle.std.specs.Prelude.{ℕ, zero, suc, ◌+◌, List, [], ◌++◌}
-use Rattle.window.specs.Memory.{if◌then◌else◌}
+use Rattle.std.specs.Prelude.{if◌then◌else◌, ℕ, zero, suc, ◌+◌, List, [], ◌++◌}
 use Rattle.register.specs.Module.{Register}
 use Rattle.linker_spec.specs.Outcome.{Buffers, Outcome}
 use Rattle.linker_spec.specs.Refusals.{lent_register}

@@ -1,6 +1,5 @@
 -- A step of a session file.
-use Rattle.std.specs.Prelude.{ℕ, ◌+◌, ◌*◌, List, [], ◌∷◌, get_or, eqb}
-use Rattle.window.specs.Memory.{if◌then◌else◌}
+use Rattle.std.specs.Prelude.{if◌then◌else◌, ℕ, ◌+◌, ◌*◌, List, [], ◌∷◌, get_or, eqb}
 use Rattle.register.specs.Words.{part, words_in, all_zero}
 use Rattle.session.specs.declared.step.Step.{Step}
 use Rattle.linker_spec.specs.declared.call.Call.TheVariants.{Initialize, Load, Unload}

@@ -1,4 +1,5 @@
 -- From the branches to the definitions of `Cases`.
+use Rattle.std.specs.Prelude.{if◌then◌else◌}
 use Prim.Native.Nat.{ℕ, ◌+◌, ◌/◌, ◌≤◌, ◌<◌}
 use mathlib.Core.Path.{◌≡◌, refl, sym, ap, subst, ◌∙◌}
 use mathlib.Core.List.{List}
@@ -8,7 +9,6 @@ use lib.ListN.{length, take, get_or, replicate}
 use lib.Seq.{length-take-le}
 use lib.Dec.{leb}
 use borrow.Author.Tests.{le-leb, lt-leb}
-use Rattle.window.specs.Memory.{if◌then◌else◌}
 use Rattle.register.specs.Words.{words_in}
 use Rattle.case_reader.specs.declared.append.NextPlace.{NextPlace}
 use Rattle.case_reader.specs.declared.append.NextPlace.TheVariants.{At, Full}

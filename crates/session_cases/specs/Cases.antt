@@ -1,6 +1,5 @@
 -- What a stored case says: a session file, made of pieces over zeros, and its text.
-use Rattle.std.specs.Prelude.{ℕ, ◌+◌, ◌/◌, List, length, take, get_or, replicate, leb}
-use Rattle.window.specs.Memory.{if◌then◌else◌}
+use Rattle.std.specs.Prelude.{if◌then◌else◌, ℕ, ◌+◌, ◌/◌, List, length, take, get_or, replicate, leb}
 use Rattle.register.specs.Words.{words_in}
 use Rattle.case_reader.specs.declared.append.NextPlace.{NextPlace}
 use Rattle.case_reader.specs.declared.append.NextPlace.TheVariants.{At, Full}

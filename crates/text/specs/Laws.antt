@@ -1,10 +1,9 @@
 -- What the definitions of `Text` give.
-use Rattle.std.specs.Prelude.{ℕ, zero, suc, ◌+◌, ◌-◌, ◌/◌, ◌%◌, ◌^◌, ◌≤◌, ◌<◌, min, ◌≡◌, refl, Bool, true, false, List, [], ◌∷◌, ◌++◌, length, take, drop, set, ltb}
+use Rattle.std.specs.Prelude.{if◌then◌else◌, ℕ, zero, suc, ◌+◌, ◌-◌, ◌/◌, ◌%◌, ◌^◌, ◌≤◌, ◌<◌, min, ◌≡◌, refl, Bool, true, false, List, [], ◌∷◌, ◌++◌, length, take, drop, set, ltb}
 use Rattle.std.proofs.Common.{sym, ap, ◌∙◌, append-nil, append_assoc, arith, pow-suc, div-lt_iff_lt-mul, add-one, length-set, take-append-drop, drop_of_length-le, length-take-le, take_all, take-suc-set, drop-set-lt, lt-ltb, le-ltb}
 use Rattle.std.proofs.Math.Nat.{pow-zero}
 use Rattle.std.proofs.Math.Decide.{dec_lt}
 use Rattle.std.proofs.Math.Seq.{take-nil, append_snoc}
-use Rattle.window.specs.Memory.{if◌then◌else◌}
 use Rattle.text.specs.Text.{bytes, digit_of, digits_in, hex_of, decimal_of, pairs_of, put}
 
 -- put: one byte, and one text after another

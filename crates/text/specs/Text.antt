@@ -1,8 +1,7 @@
 -- Text in a lent buffer: the bytes of a text, numbers in digits, bytes in pairs of hex digits, and what putting a text leaves.
-use Rattle.std.specs.Prelude.{ℕ, zero, suc, ◌+◌, ◌/◌, ◌%◌, List, [], ◌∷◌, ◌++◌, length, get_or, set, ltb}
+use Rattle.std.specs.Prelude.{if◌then◌else◌, ℕ, zero, suc, ◌+◌, ◌/◌, ◌%◌, List, [], ◌∷◌, ◌++◌, length, get_or, set, ltb}
 use Prim.Native.Char.{code}
 use Prim.Native.String.{String, [] as ε, ◌∷◌ as ◌◃◌}
-use Rattle.window.specs.Memory.{if◌then◌else◌}
 
 -- the bytes of an ASCII text
 unfoldable pub bytes : String → List ℕ

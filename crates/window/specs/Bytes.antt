@@ -1,10 +1,10 @@
 -- What stands at an address after each kind of write: "byte k of the value at x + k, else as before".
 -- `place x y` is how far y lies above x, so "y is none of the n bytes from x on" is `n ≤ place x y`.
-use Rattle.std.specs.Prelude.{◌≡◌, ℕ, zero, suc, ◌+◌, ◌*◌, ◌/◌, ◌%◌, ◌^◌, ◌<◌, ◌≤◌, Bool, true, false, ◌&&◌, ◌≢◌, List, length, refl}
+use Rattle.std.specs.Prelude.{if◌then◌else◌, ◌≡◌, ℕ, zero, suc, ◌+◌, ◌*◌, ◌/◌, ◌%◌, ◌^◌, ◌<◌, ◌≤◌, Bool, true, false, ◌&&◌, ◌≢◌, List, length, refl}
 use Rattle.std.proofs.Common.{sym, ap, ◌∙◌, arith, length-set, get_or-set_same, get_or-set_other, lit<, lt-ltb, le-ltb, ltb-true, ltb-false}
 use Rattle.std.proofs.Math.ListN.{get_or-eq_default}
 use Rattle.std.proofs.Math.Seq.{set_out}
-use Rattle.window.specs.Memory.{if◌then◌else◌, place, inside, byte_at, word_at, put_byte, put_bytes, put_word, put_upward, put_privileged}
+use Rattle.window.specs.Memory.{place, inside, byte_at, word_at, put_byte, put_bytes, put_word, put_upward, put_privileged}
 
 -- addresses modulo 2 ^ 32
 

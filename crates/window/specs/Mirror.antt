@@ -1,9 +1,9 @@
 -- Programs on plain bytes, `ℕ → ℕ`, with no window: a run in S is the same there.
-use Rattle.std.specs.Prelude.{◌≡◌, ℕ, ◌+◌, ◌-◌, ◌%◌, ◌<◌, ltb, ◌≢◌, List, length, ◌==◌, nat_lt, refl}
+use Rattle.std.specs.Prelude.{if◌then◌else◌, ◌≡◌, ℕ, ◌+◌, ◌-◌, ◌%◌, ◌<◌, ltb, ◌≢◌, List, length, ◌==◌, nat_lt, refl}
 use Rattle.std.proofs.Math.Path.{sym, subst}
 use Rattle.std.proofs.Common.{◌∙◌, arith, lit<, eq-eqb, ne_eqb, lt-ltb, le-ltb}
 use Rattle.std.proofs.Math.Decide.{dec_lt, ℕ_discrete}
-use Rattle.window.specs.Memory.{if◌then◌else◌, byte_at, word_at, put_byte, put_word, put_privileged}
+use Rattle.window.specs.Memory.{byte_at, word_at, put_byte, put_word, put_privileged}
 use Rattle.window.specs.Bytes.{byte_of, join, join-at, byte_at-same, byte_at-other, put_bytes_on}
 use Rattle.window.specs.Bytes.{length-put_byte, length-put_word, length-put_privileged}
 use Rattle.window.specs.Access.{Prog, ret, read8, read32, write8, write32, write_privileged, run}

@@ -1,12 +1,12 @@
 -- Document 01: "A name is the bytes before a zero, at most 512. Address 0 reads as the empty name. Names compare as raw bytes."
-use Rattle.std.specs.Prelude.{◌≡◌, ℕ, zero, suc, ◌+◌, ◌^◌, ◌<◌, ◌≤◌, Bool, true, false, not, ◌&&◌, ltb, ◌≢◌, ◌⊎◌, List, [], ◌∷◌, ◌++◌, length, take, drop, ◌==◌, nat_eq, nat_le, nat_lt, slice_index, slice_index_or}
+use Rattle.std.specs.Prelude.{if◌then◌else◌, ◌≡◌, ℕ, zero, suc, ◌+◌, ◌^◌, ◌<◌, ◌≤◌, Bool, true, false, not, ◌&&◌, ltb, ◌≢◌, ◌⊎◌, List, [], ◌∷◌, ◌++◌, length, take, drop, ◌==◌, nat_eq, nat_le, nat_lt, slice_index, slice_index_or}
 use Rattle.std.proofs.Math.Path.{refl, ap}
 use Rattle.std.proofs.Common.{sym, ◌∙◌, inl, inr, length-append, length-drop, length-take-le, get_or-take, get_or-drop, eq-eqb, ne_eqb, le-leb, lt-ltb, le-ltb, ltb-true, ltb-false}
 use native.Mathlib.Omega.{arith}
 use Rattle.std.proofs.Math.Decide.{ℕ_discrete}
 use Rattle.std.proofs.Math.Seq.{take-append_seam}
 use Rattle.std.proofs.lemmas.Bool.{eqb-false, not-true}
-use Rattle.window.specs.Memory.{if◌then◌else◌, ◌⊕◌, place, byte_at}
+use Rattle.window.specs.Memory.{◌⊕◌, place, byte_at}
 use Rattle.window.specs.Bytes.{byte_at-add, place_on}
 use Rattle.window.specs.Tests.{both}
 use Rattle.window.specs.Access.{Prog, ret, ◌>>=◌, get8, run, run_bind, Reads, reads_bind}

@@ -1,11 +1,11 @@
 -- Entries of a table that lie wholly outside the window. Once a touch is kept their reads give 0 and their writes leave all as it is,
 -- so a loop may pass over them.
-use Rattle.std.specs.Prelude.{◌≡◌, ℕ, zero, suc, ◌+◌, ◌-◌, ◌*◌, ◌/◌, ◌%◌, ◌^◌, ◌<◌, ◌≤◌, Bool, true, false, ◌||◌, ltb, List, [], length, ◌==◌, nat_lt}
+use Rattle.std.specs.Prelude.{if◌then◌else◌, ◌≡◌, ℕ, zero, suc, ◌+◌, ◌-◌, ◌*◌, ◌/◌, ◌%◌, ◌^◌, ◌<◌, ◌≤◌, Bool, true, false, ◌||◌, ltb, List, [], length, ◌==◌, nat_lt}
 use Rattle.std.proofs.Math.Path.{refl}
 use Rattle.std.proofs.Common.{sym, ap, ◌∙◌, true≢false, mul-le-mul_right, div-mul-le_self, suc-mul, add-mul, lit<}
 use native.Mathlib.Omega.{arith}
 use borrow.Author.Tests.{ltb-true, ltb-false}
-use Rattle.window.specs.Memory.{if◌then◌else◌, place, word_at, put_word, put_bytes}
+use Rattle.window.specs.Memory.{place, word_at, put_word, put_bytes}
 use Rattle.window.specs.Bytes.{place-mod, place-add, place_on, byte_at-outside, put_byte-outside, put_bytes-outside}
 use Rattle.window.specs.Access.{Prog, get8, get32, put8, put32}
 use Rattle.window.specs.Loop.{loop}

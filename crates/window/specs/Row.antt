@@ -1,7 +1,7 @@
 -- Bytes that stand in a row inside a window: one range test for all of them.
-use Rattle.std.specs.Prelude.{◌≡◌, ℕ, suc, ◌+◌, ◌%◌, ◌^◌, ◌<◌, ◌≤◌, Bool, true, false, ◌&&◌, nat_le, refl}
+use Rattle.std.specs.Prelude.{if◌then◌else◌, ◌≡◌, ℕ, suc, ◌+◌, ◌%◌, ◌^◌, ◌<◌, ◌≤◌, Bool, true, false, ◌&&◌, nat_le, refl}
 use Rattle.std.proofs.Common.{sym, ap, ◌∙◌, arith, leb-true}
-use Rattle.window.specs.Memory.{if◌then◌else◌, place}
+use Rattle.window.specs.Memory.{place}
 use Rattle.window.specs.Bytes.{place-mod, place_on}
 use Rattle.window.specs.Tests.{both}
 use Rattle.window.specs.declared.row.Row.{Row}

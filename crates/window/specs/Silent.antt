@@ -1,10 +1,10 @@
 -- What a run keeps of window and trace: lengths, the first touch, and all of the trace where every access lies inside.
-use Rattle.std.specs.Prelude.{◌≡◌, ℕ, zero, suc, ◌+◌, ◌/◌, ◌^◌, ◌<◌, ◌≤◌, Bool, true, false, ◌≢◌, ◌⊎◌, List, length}
+use Rattle.std.specs.Prelude.{if◌then◌else◌, ◌≡◌, ℕ, zero, suc, ◌+◌, ◌/◌, ◌^◌, ◌<◌, ◌≤◌, Bool, true, false, ◌≢◌, ◌⊎◌, List, length}
 use Rattle.std.proofs.Math.Path.{refl, ap}
 use Rattle.std.proofs.Common.{◌∙◌, lt-ltb, ne_eqb}
 use Rattle.std.proofs.Math.Logic.{inr}
 use native.Mathlib.Omega.{arith}
-use Rattle.window.specs.Memory.{if◌then◌else◌, place, inside, byte_at, word_at, put_byte, put_word, put_privileged}
+use Rattle.window.specs.Memory.{place, inside, byte_at, word_at, put_byte, put_word, put_privileged}
 use Rattle.window.specs.Bytes.{length-put_byte, put_bytes_keeps, put_upward_keeps, Whole, word_at-same, word_at-apart}
 use Rattle.window.specs.Access.{Prog, ret, read8, read32, write8, write32, write_privileged, run, Reads}
 use Rattle.window.specs.Within.{Within, Lies, Four}

@@ -1,8 +1,8 @@
 -- A program's run over a window and a trace: what `run` gives, and the first access with a byte outside the window.
 -- The trace is a byte list of four words: word 1 says whether there was such an access, word 2 where it started.
-use Rattle.std.specs.Prelude.{◌≡◌, ℕ, zero, suc, ◌+◌, ◌/◌, Bool, true, false, not, ◌||◌, List, length, ◌==◌, nat_lt}
+use Rattle.std.specs.Prelude.{if◌then◌else◌, ◌≡◌, ℕ, zero, suc, ◌+◌, ◌/◌, Bool, true, false, not, ◌||◌, List, length, ◌==◌, nat_lt}
 use Rattle.std.proofs.Math.Path.{refl}
-use Rattle.window.specs.Memory.{if◌then◌else◌, place, inside, byte_at, word_at, put_byte, put_bytes, put_word, put_upward, put_privileged}
+use Rattle.window.specs.Memory.{place, inside, byte_at, word_at, put_byte, put_bytes, put_word, put_upward, put_privileged}
 use Rattle.window.specs.Access.{Prog, ret, read8, read32, write8, write32, write_privileged, ◌>>=◌}
 
 -- the window, then the trace

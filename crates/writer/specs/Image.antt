@@ -1,6 +1,5 @@
 -- What helpers of the code leave in a buffer, by its byte at each offset.
-use Rattle.std.specs.Prelude.{ℕ, ◌<◌, ◌≡◌, List, length, ltb}
-use Rattle.window.specs.Memory.{if◌then◌else◌}
+use Rattle.std.specs.Prelude.{if◌then◌else◌, ℕ, ◌<◌, ◌≡◌, List, length, ltb}
 use Rattle.writer_spec.specs.Description.{file_of}
 
 -- the bytes of F from `from` up to `to`, and those of G elsewhere

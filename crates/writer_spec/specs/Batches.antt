@@ -1,7 +1,6 @@
 -- What the imports' batches must be, computed: "Each import has its own nonzero batch, a run of at most 4,097 entries of the external table from
 -- the table's first entry or one right after an end mark up to the next end mark, sharing none."
-use Rattle.std.specs.Prelude.{ℕ, zero, suc, ◌+◌, ◌-◌, ◌/◌, ◌%◌, Bool, false, not, ◌&&◌, ◌||◌, eqb, ltb, leb}
-use Rattle.window.specs.Memory.{if◌then◌else◌}
+use Rattle.std.specs.Prelude.{if◌then◌else◌, ℕ, zero, suc, ◌+◌, ◌-◌, ◌/◌, ◌%◌, Bool, false, not, ◌&&◌, ◌||◌, eqb, ltb, leb}
 use Rattle.window.specs.Mirror.{word}
 use Rattle.linker_spec.specs.Relocation.{batch_limit}
 use Rattle.history.specs.Image.{Table, externals, named_imports, indexed_imports, anonymous_imports, start, count, entry, end_mark}

@@ -1,7 +1,6 @@
 -- Document 02, Ask 1: "from a description with a header of counts, offsets and tags .. it makes a CRO image". A description has the form of an
 -- image: a header of 0x138 bytes, then its parts. F gives its byte at each offset.
-use Rattle.std.specs.Prelude.{ℕ, zero, suc, ◌+◌, ◌-◌, ◌*◌, ◌/◌, List, [], ◌∷◌, ◌++◌, Bool, true, false, ◌&&◌, length, get_or, eqb, ltb}
-use Rattle.window.specs.Memory.{if◌then◌else◌}
+use Rattle.std.specs.Prelude.{if◌then◌else◌, ℕ, zero, suc, ◌+◌, ◌-◌, ◌*◌, ◌/◌, List, [], ◌∷◌, ◌++◌, Bool, true, false, ◌&&◌, length, get_or, eqb, ltb}
 use Rattle.window.specs.Mirror.{word, put4}
 use Rattle.layout.specs.Header.{magic, name_offset, next_cro, file_size, bss_size, fixed_size, module_name_offset, module_name_size, export_strings_offset, export_strings_size, export_tree_num, import_strings_offset, import_strings_size, static_anonymous_symbol_num, static_relocation_table_offset, static_relocation_num, header_size}
 use Rattle.layout.specs.Tables.{table_entry_sizes}

@@ -1,7 +1,6 @@
 -- What the writer's two calls leave: "It refuses exactly a description .. (6), then an output buffer shorter than the image (7); bytes past the
 -- image, and with a refusal all, stay. Beside any refusal .. the value is 0."
-use Rattle.std.specs.Prelude.{ℕ, List, ◌++◌, ◌||◌, length, drop, ltb}
-use Rattle.window.specs.Memory.{if◌then◌else◌}
+use Rattle.std.specs.Prelude.{if◌then◌else◌, ℕ, List, ◌++◌, ◌||◌, length, drop, ltb}
 use Rattle.layout.specs.Header.{header_size}
 use Rattle.writer_spec.specs.Description.{image_size, image_of, described_size, read_back}
 use Rattle.writer_spec.specs.Accepts.{accepts}

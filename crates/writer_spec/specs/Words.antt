@@ -1,7 +1,6 @@
 -- What the relocated words must be, computed without a place: where each stands in the image or in the lent areas, that it lies in them wherever
 -- they are, and that it meets no other and nothing else that the linker reads or writes.
-use Rattle.std.specs.Prelude.{ℕ, zero, suc, ◌+◌, ◌-◌, ◌*◌, ◌/◌, ◌%◌, ◌^◌, max, List, [], ◌∷◌, Bool, true, false, not, ◌&&◌, ◌||◌, eqb, ltb, leb}
-use Rattle.window.specs.Memory.{if◌then◌else◌}
+use Rattle.std.specs.Prelude.{if◌then◌else◌, ℕ, zero, suc, ◌+◌, ◌-◌, ◌*◌, ◌/◌, ◌%◌, ◌^◌, max, List, [], ◌∷◌, Bool, true, false, not, ◌&&◌, ◌||◌, eqb, ltb, leb}
 use Rattle.window.specs.Mirror.{word}
 use Rattle.layout.specs.Header.{module_name_offset, export_strings_offset, import_strings_offset, header_size}
 use Rattle.layout.specs.Format.{tag_segment, tag_offset}

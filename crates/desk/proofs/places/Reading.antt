@@ -1,8 +1,8 @@
 -- What the words of a desk's bytes say of its places.
+use Rattle.std.specs.Prelude.{if◌then◌else◌}
 use Rattle.std.proofs.Common.{◌≡◌, ℕ, zero, suc, ◌+◌, ◌-◌, ◌*◌, ◌<◌, ◌≤◌, Bool, true, false, leb, List, [], length, get_or, drop, sym, refl, ap, ◌∙◌, arith, length-take, get_or-drop, get_or-take, le-leb, leb-false, leb-true}
 use lib.ListN.{get_or-eq_default}
 use borrow.Author.Tests.{lt-leb}
-use Rattle.window.specs.Memory.{if◌then◌else◌}
 use Rattle.register.specs.Words.{part, words_in, length-words}
 use Rattle.register.specs.Lists.{length_part}
 use Rattle.desk_spec.specs.Desk.{Place, place, place_at, oldest}

@@ -1,12 +1,11 @@
 -- `load` of a well-laid module: a refusal, or one module more, all listed again and all links at rest.
 use Prim.Native.Nat.{ℕ, suc, ◌^◌, ◌<◌}
-use Rattle.std.specs.Prelude.{◌≡◌, refl, ◌≢◌, List, Bool, false}
+use Rattle.std.specs.Prelude.{if◌then◌else◌, ◌≡◌, refl, ◌≢◌, List, Bool, false}
 use Rattle.std.proofs.Common.{sym, ◌∙◌, inl, inr, arith}
 use Rattle.std.proofs.Math.Path.{ap}
 use Rattle.std.proofs.Math.Option.{none}
 use Rattle.std.proofs.Math.Bool.{true}
 use Rattle.std.proofs.Math.Decide.{ℕ_discrete}
-use Rattle.window.specs.Memory.{if◌then◌else◌}
 use Rattle.window.specs.Access.{ret}
 use Rattle.window.specs.Within.{Low, Agree}
 use Rattle.window.specs.Mirror.{word}

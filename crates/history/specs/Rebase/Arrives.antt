@@ -1,8 +1,7 @@
 -- What is known of a module when its record is read: it stands without links, or the call was refused.
-use Rattle.std.specs.Prelude.{ℕ, ◌+◌, ◌<◌, ◌≡◌, refl, ◌⊎◌, Bool}
+use Rattle.std.specs.Prelude.{if◌then◌else◌, ℕ, ◌+◌, ◌<◌, ◌≡◌, refl, ◌⊎◌, Bool}
 use Rattle.std.proofs.Math.Option.{none}
 use Rattle.std.proofs.Common.{lt-ltb}
-use Rattle.window.specs.Memory.{if◌then◌else◌}
 use Rattle.window.specs.Access.{Prog, ret, ◌>>=◌}
 use Rattle.window.specs.Mirror.{word}
 use Rattle.layout.specs.Header.{next_cro, previous_cro}

@@ -1,5 +1,5 @@
 -- Loops whose turns write each in a cell of its own; and words that are moved.
-use Rattle.std.specs.Prelude.{ℕ, suc, ◌+◌, ◌^◌, ◌≤◌, ◌<◌, ◌≡◌, ◌⊎◌}
+use Rattle.std.specs.Prelude.{if◌then◌else◌, ℕ, suc, ◌+◌, ◌^◌, ◌≤◌, ◌<◌, ◌≡◌, ◌⊎◌}
 use Rattle.std.proofs.Math.Path.{refl, ap}
 use Rattle.std.proofs.Common.{◌∙◌, arith, eq-eqb, ne_eqb}
 use Rattle.std.proofs.Math.Logic.{inl, inr}
@@ -7,7 +7,7 @@ use mathlib.Core.List.{List, [], ◌∷◌}
 use Rattle.std.proofs.Math.Bool.{true}
 use Rattle.std.proofs.Math.Decide.{ℕ_discrete}
 use Rattle.std.proofs.Math.Dec.{eqb}
-use Rattle.window.specs.Memory.{if◌then◌else◌, ◌⊕◌}
+use Rattle.window.specs.Memory.{◌⊕◌}
 use Rattle.window.specs.Bytes.{byte_of, join-bytes, join-at}
 use Rattle.window.specs.Access.{Prog, ret, get32, put32}
 use Rattle.window.specs.Loop.{loop}

@@ -1,9 +1,9 @@
 -- One segment of a load: refused, or written back with its place.
-use Rattle.std.specs.Prelude.{ℕ, ◌+◌, ◌^◌, ◌<◌, ◌≡◌, refl, ◌⊎◌, List, Bool, true, false, eqb, ltb}
+use Rattle.std.specs.Prelude.{if◌then◌else◌, ℕ, ◌+◌, ◌^◌, ◌<◌, ◌≡◌, refl, ◌⊎◌, List, Bool, true, false, eqb, ltb}
 use Rattle.std.proofs.Common.{ap, ◌∙◌, inl, inr, lit<, eq-eqb, ne_eqb}
 use native.Mathlib.Omega.{arith}
 use Rattle.std.proofs.Math.Decide.{ℕ_discrete}
-use Rattle.window.specs.Memory.{if◌then◌else◌, ◌⊕◌}
+use Rattle.window.specs.Memory.{◌⊕◌}
 use Rattle.window.specs.Within.{In, Low}
 use Rattle.window.specs.Mirror.{word, put4, put4-off}
 use Rattle.layout.specs.Header.{segment_table_offset}

@@ -1,12 +1,11 @@
 -- Lists by index: what holds of each or of each pair, what stands among what came, and one that leaves.
-use Rattle.std.specs.Prelude.{ℕ, zero, suc, ◌<◌, ◌≡◌, ◌≢◌, Bool, not, ◌||◌, length, get_or, eqb}
+use Rattle.std.specs.Prelude.{if◌then◌else◌, ℕ, zero, suc, ◌<◌, ◌≡◌, ◌≢◌, Bool, not, ◌||◌, length, get_or, eqb}
 use Rattle.std.proofs.Math.Path.{refl, sym, ap}
 use Rattle.std.proofs.Common.{◌∙◌, arith}
 use mathlib.Core.List.{List, [], ◌∷◌, ◌++◌, map}
 use Rattle.std.proofs.Math.Bool.{true, false}
 use Rattle.std.proofs.Math.Decide.{ℕ_discrete}
 use borrow.Author.Tests.{eq-eqb, ne_eqb}
-use Rattle.window.specs.Memory.{if◌then◌else◌}
 use Rattle.history.specs.LoadedModule.{LoadedModule, base_of, is_crs}
 use Rattle.linker_spec.specs.declared.call.Call.{Call}
 use Rattle.linker_spec.specs.declared.call.Call.TheVariants.{Initialize, Load, Unload}

@@ -1,9 +1,9 @@
 -- All modules that stand, by number: 0 is the CRS, the others follow in load order. What is done to one leaves the others as they are.
-use Rattle.std.specs.Prelude.{ℕ, ◌+◌, ◌^◌, ◌≤◌, ◌<◌, ◌≡◌, refl, ◌≢◌, eqb}
+use Rattle.std.specs.Prelude.{if◌then◌else◌, ℕ, ◌+◌, ◌^◌, ◌≤◌, ◌<◌, ◌≡◌, refl, ◌≢◌, eqb}
 use Rattle.std.proofs.Common.{sym, ◌∙◌, lit<, lit≤, eq-eqb, ne_eqb}
 use native.Mathlib.Omega.{arith}
 use Rattle.std.proofs.Math.Decide.{ℕ_discrete}
-use Rattle.window.specs.Memory.{if◌then◌else◌, ◌⊕◌}
+use Rattle.window.specs.Memory.{◌⊕◌}
 use Rattle.window.specs.Access.{Prog}
 use Rattle.window.specs.Bytes.{byte_of, join-bytes, join-at}
 use Rattle.window.specs.Within.{Low}

@@ -1,6 +1,6 @@
 -- Fixing at a level other than 2 and 3 changes only bytes at rest, none of them seen by a step that reads the module.
 use Prim.Native.Nat.{ℕ, ◌+◌, ◌-◌, ◌*◌, ◌≤◌, ◌<◌, max}
-use Rattle.std.specs.Prelude.{◌≡◌, ◌≢◌, ◌⊎◌, get_or}
+use Rattle.std.specs.Prelude.{if◌then◌else◌, ◌≡◌, ◌≢◌, ◌⊎◌, get_or}
 use Rattle.std.proofs.Math.Path.{refl, sym, ap}
 use Rattle.std.proofs.Common.{◌∙◌, lit<, lit≤}
 use Rattle.std.proofs.Math.Logic.{inl, inr}
@@ -8,7 +8,7 @@ use native.Mathlib.Omega.{arith}
 use Rattle.std.proofs.Math.Decide.{dec_lt, ℕ_discrete}
 use Rattle.std.proofs.Math.Dec.{eqb, ltb}
 use borrow.Author.Tests.{ne_eqb, lt-ltb, le-ltb}
-use Rattle.window.specs.Memory.{if◌then◌else◌, ◌⊕◌}
+use Rattle.window.specs.Memory.{◌⊕◌}
 use Rattle.window.specs.Access.{Prog, ret, ◌>>=◌}
 use Rattle.window.specs.Loop.{loop}
 use Rattle.window.specs.Within.{In, dec_in, Low, Agree}

@@ -1,12 +1,11 @@
 -- A module leaves the list: the one before it and the one after it close the gap.
 use Prim.Native.Nat.{ℕ, zero, suc, pred, ◌+◌, ◌^◌, ◌≤◌, ◌<◌}
-use Rattle.std.specs.Prelude.{◌≡◌, refl, ◌≢◌, ltb}
+use Rattle.std.specs.Prelude.{if◌then◌else◌, ◌≡◌, refl, ◌≢◌, ltb}
 use Rattle.std.proofs.Common.{sym, ◌∙◌, subst, eq-eqb, ne_eqb, lt-ltb, le-ltb}
 use Rattle.std.proofs.Math.Path.{ap}
 use native.Mathlib.Omega.{arith}
 use Rattle.std.proofs.Math.Decide.{dec_lt, ℕ_discrete}
 use Rattle.std.proofs.Math.Dec.{eqb}
-use Rattle.window.specs.Memory.{if◌then◌else◌}
 use Rattle.window.specs.Access.{ret, ◌>>=◌}
 use Rattle.layout.specs.Segments.{field, set_field}
 use Rattle.linker_spec.specs.Lists.{head_leaves, middle_leaves, new_tail, tail_leaves, other_leaves, leaves, unregister}

@@ -1,6 +1,6 @@
 -- The links of a standing module: for each external entry that begins an import's batch, the address found for it, or none.
 use Prim.Native.Nat.{ℕ, zero, suc, ◌+◌, ◌%◌, ◌≤◌, ◌<◌}
-use Rattle.std.specs.Prelude.{◌≡◌, ◌≢◌, ◌⊎◌, Bool}
+use Rattle.std.specs.Prelude.{if◌then◌else◌, ◌≡◌, ◌≢◌, ◌⊎◌, Bool}
 use Rattle.std.proofs.Math.Path.{refl, ap}
 use Rattle.std.proofs.Common.{sym, ◌∙◌, inl, inr}
 use Rattle.std.proofs.Math.Option.{Option, some, none}
@@ -9,7 +9,6 @@ use native.Mathlib.Omega.{arith}
 use Rattle.std.proofs.Math.Decide.{dec_le, ℕ_discrete}
 use Rattle.std.proofs.Math.Dec.{eqb}
 use borrow.Author.Tests.{eq-eqb, ne_eqb}
-use Rattle.window.specs.Memory.{if◌then◌else◌}
 use Rattle.window.specs.Within.{Low}
 use Rattle.linker_spec.specs.Relocation.{apply_relocation_batch, batch_is_resolved}
 use Rattle.history.specs.Image.{externals, count, entry, end_mark}

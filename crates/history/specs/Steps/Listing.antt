@@ -1,11 +1,10 @@
 -- The list that the title walks: each module's next is the one after it, its previous the one before it, the first one's the last.
 use Prim.Native.Nat.{ℕ, zero, suc, pred, ◌^◌, ◌≤◌, ◌<◌}
-use Rattle.std.specs.Prelude.{◌≡◌, refl, ◌≢◌, true, ltb}
+use Rattle.std.specs.Prelude.{if◌then◌else◌, ◌≡◌, refl, ◌≢◌, true, ltb}
 use Rattle.std.proofs.Common.{sym, ◌∙◌, ne_eqb, lt-ltb, le-ltb}
 use Rattle.std.proofs.Math.Path.{ap}
 use native.Mathlib.Omega.{arith}
 use Rattle.std.proofs.Math.Decide.{ℕ_discrete}
-use Rattle.window.specs.Memory.{if◌then◌else◌}
 use Rattle.window.specs.Access.{◌>>◌}
 use Rattle.layout.specs.Segments.{field, set_field}
 use Rattle.linker_spec.specs.Lists.{becomes_head, becomes_tail, register}

@@ -1,10 +1,9 @@
 -- A standing module's bytes: relocated words by their symbols, marks, the two list words, and all others as they were left at rest.
-use Rattle.std.specs.Prelude.{ℕ, zero, suc, ◌+◌, ◌-◌, ◌%◌, ◌≤◌, ◌<◌, refl, ◌≢◌, eqb}
+use Rattle.std.specs.Prelude.{if◌then◌else◌, ℕ, zero, suc, ◌+◌, ◌-◌, ◌%◌, ◌≤◌, ◌<◌, refl, ◌≢◌, eqb}
 use Rattle.std.proofs.Math.Path.{◌≡◌, sym, ap}
 use Rattle.std.proofs.Common.{◌∙◌, lit<, eq-eqb, ne_eqb}
 use native.Mathlib.Omega.{arith}
 use Rattle.std.proofs.Math.Decide.{dec_lt, ℕ_discrete}
-use Rattle.window.specs.Memory.{if◌then◌else◌}
 use Rattle.window.specs.Bytes.{byte_of}
 use Rattle.window.specs.Within.{In, dec_in, in_range, Agree}
 use Rattle.window.specs.Mirror.{put1, put4, put1_on, put1-off, put4_on, put4-off}

@@ -1,5 +1,5 @@
 -- Where the bytes that are read stand: in a part of the image, and neither in a relocated word, nor a mark, nor the list words.
-use Rattle.std.specs.Prelude.{ℕ, suc, ◌+◌, ◌*◌, ◌≤◌, ◌<◌, ◌≡◌, ◌≢◌, ◌⊎◌, Bool, true, not, ◌||◌, eqb}
+use Rattle.std.specs.Prelude.{if◌then◌else◌, ℕ, suc, ◌+◌, ◌*◌, ◌≤◌, ◌<◌, ◌≡◌, ◌≢◌, ◌⊎◌, Bool, true, not, ◌||◌, eqb}
 use Rattle.std.proofs.Math.Path.{refl, ap}
 use Rattle.std.proofs.Common.{sym, ◌∙◌, inr, mul-le-mul_right, suc-mul, lit<}
 use Rattle.std.proofs.Math.Logic.{inl}
@@ -7,7 +7,6 @@ use Rattle.std.proofs.Math.Bool.{false}
 use native.Mathlib.Omega.{arith}
 use Rattle.std.proofs.Math.Nat.{zero-mul}
 use Rattle.std.proofs.Math.Decide.{dec_lt}
-use Rattle.window.specs.Memory.{if◌then◌else◌}
 use Rattle.window.specs.Within.{In}
 use Rattle.history.specs.Below.{AllBelow, below}
 use Rattle.history.specs.Image.{Table, tables, export_tree, externals, static_anonymous, static_relocations, start, count, entry}

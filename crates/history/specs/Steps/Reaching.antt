@@ -1,13 +1,12 @@
 -- What is done to standing modules one after another: a new one's exports reach them, or one that leaves is taken from their links.
 use Prim.Native.Nat.{ℕ, zero, suc, pred, ◌≤◌, ◌<◌}
-use Rattle.std.specs.Prelude.{◌≡◌, ◌≢◌}
+use Rattle.std.specs.Prelude.{if◌then◌else◌, ◌≡◌, ◌≢◌}
 use Rattle.std.proofs.Math.Path.{refl}
 use Rattle.std.proofs.Common.{sym, ◌∙◌, arith}
 use mathlib.Core.List.{List, [], ◌∷◌}
 use Rattle.std.proofs.Math.Option.{none}
 use Rattle.std.proofs.Math.Decide.{dec_lt}
 use Rattle.std.proofs.Math.ListN.{length}
-use Rattle.window.specs.Memory.{if◌then◌else◌}
 use Rattle.window.specs.Access.{Prog, ret, ◌>>=◌}
 use Rattle.register.specs.Module.{Module}
 use Rattle.linker_spec.specs.Imports.{serve, apply_exports_to_loaded}

@@ -1,10 +1,10 @@
 -- A module leaves: each import of a standing one that it may have served goes back to its handler.
-use Rattle.std.specs.Prelude.{ℕ, ◌+◌, ◌<◌, ◌≡◌, refl, ◌⊎◌, Bool}
+use Rattle.std.specs.Prelude.{if◌then◌else◌, ℕ, ◌+◌, ◌<◌, ◌≡◌, refl, ◌⊎◌, Bool}
 use Rattle.std.proofs.Common.{sym, ◌∙◌, lit<}
 use Rattle.std.proofs.Math.Logic.{inl, inr}
 use Rattle.std.proofs.Math.Option.{none}
 use Rattle.std.proofs.Math.Bool.{true, false}
-use Rattle.window.specs.Memory.{if◌then◌else◌, ◌⊕◌}
+use Rattle.window.specs.Memory.{◌⊕◌}
 use Rattle.window.specs.Access.{Prog, ret, ◌>>=◌, ◌>>◌, get32}
 use Rattle.window.specs.Loop.{loop}
 use Rattle.window.specs.Name.{name_at}

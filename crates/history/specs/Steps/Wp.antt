@@ -1,11 +1,10 @@
 -- A program on plain bytes: `Does S m Q M` says that its accesses lie in S and that Q holds of what it gives and of the bytes it leaves.
 use Prim.Native.Nat.{ℕ, zero, suc, ◌+◌, ◌≤◌, ◌<◌}
-use Rattle.std.specs.Prelude.{◌≡◌, Bool}
+use Rattle.std.specs.Prelude.{if◌then◌else◌, ◌≡◌, Bool}
 use Rattle.std.proofs.Math.Path.{refl}
 use Rattle.std.proofs.Common.{◌∙◌}
 use Rattle.std.proofs.Math.Bool.{true, false}
 use native.Mathlib.Omega.{arith}
-use Rattle.window.specs.Memory.{if◌then◌else◌}
 use Rattle.window.specs.Access.{Prog, ret, read8, read32, write8, write32, write_privileged, ◌>>=◌, get8, get32, put8, put32, put32_privileged}
 use Rattle.window.specs.Loop.{loop}
 use Rattle.window.specs.Within.{Four, in_range}

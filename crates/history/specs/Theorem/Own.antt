@@ -1,7 +1,6 @@
 -- A session is what its calls on its own window and register make it: those lent what breaks a rule, 3 and 4, change nothing of it.
-use Rattle.std.specs.Prelude.{ℕ, ◌≡◌, refl, List, [], ◌∷◌, ◌++◌, map, Bool, true, false, ◌||◌, eqb}
+use Rattle.std.specs.Prelude.{if◌then◌else◌, ℕ, ◌≡◌, refl, List, [], ◌∷◌, ◌++◌, map, Bool, true, false, ◌||◌, eqb}
 use Rattle.std.proofs.Common.{sym, ap, ◌∙◌, subst, arith, eqb-true}
-use Rattle.window.specs.Memory.{if◌then◌else◌}
 use Rattle.linker_spec.specs.Calls.{number}
 use Rattle.history.specs.LoadedModule.{Image, image_of}
 use Rattle.history.specs.Sessions.{CallRecord, expected, Typed, done, unfit, own, brought, loaded_modules, stay, standing, Lends, Next, Trace}

@@ -1,7 +1,7 @@
 -- A call's touches by its program: what they depend on, that each is a yes or a no, and that the first touch stands.
-use Rattle.std.specs.Prelude.{ℕ, ◌≡◌, refl, ◌≢◌, List, Bool, true, false, ◌&&◌, length, eqb}
+use Rattle.std.specs.Prelude.{if◌then◌else◌, ℕ, ◌≡◌, refl, ◌≢◌, List, Bool, true, false, ◌&&◌, length, eqb}
 use Rattle.std.proofs.Common.{sym, ap, ◌∙◌, subst, inl, arith}
-use Rattle.window.specs.Memory.{if◌then◌else◌, good_window}
+use Rattle.window.specs.Memory.{good_window}
 use Rattle.window.specs.Access.{Prog, ret, ◌>>=◌, run}
 use Rattle.window.specs.Trace.{State, touch_of, run_t, run_t_bind}
 use Rattle.window.specs.Silent.{YesOrNo, touched_said, silent, erase, yes_or_no}

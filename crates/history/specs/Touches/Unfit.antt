@@ -1,7 +1,7 @@
 -- A call lent a window or a register that breaks its rule touches nothing: no call answers 3 or 4 of its own.
-use Rattle.std.specs.Prelude.{ℕ, ◌≡◌, refl, Bool, true, false, not, ◌||◌, ◌&&◌, length, eqb}
+use Rattle.std.specs.Prelude.{if◌then◌else◌, ℕ, ◌≡◌, refl, Bool, true, false, not, ◌||◌, ◌&&◌, length, eqb}
 use Rattle.std.proofs.Common.{sym, ap, ◌∙◌}
-use Rattle.window.specs.Memory.{if◌then◌else◌, good_window}
+use Rattle.window.specs.Memory.{good_window}
 use Rattle.window.specs.Access.{Prog, run}
 use Rattle.layout.specs.Header.{next_cro, previous_cro}
 use Rattle.layout.specs.Segments.{set_field}

@@ -1,7 +1,8 @@
 -- From the code's calls and branches to the programs of `Imports`.
+use Rattle.std.specs.Prelude.{if◌then◌else◌}
 use Rattle.std.proofs.Common.{◌≡◌, ℕ, ◌+◌, ◌-◌, Bool, true, false, List, [], ◌∷◌, ◌++◌, sym, refl, ap, ◌∙◌, arith}
 use mathlib.Core.Option.{Option, some, none}
-use Rattle.window.specs.Memory.{if◌then◌else◌, ◌⊕◌}
+use Rattle.window.specs.Memory.{◌⊕◌}
 use Rattle.window.specs.Access.{Prog, ret, ◌>>=◌, get32}
 use Rattle.window.specs.Trace.{State, run_t}
 use Rattle.window.specs.TraceRuns.{left, given, gives, then_it, two}

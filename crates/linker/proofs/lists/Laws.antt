@@ -1,6 +1,6 @@
 -- From the code's calls and branches to the programs of `Lists`.
+use Rattle.std.specs.Prelude.{if◌then◌else◌}
 use Rattle.std.proofs.Common.{◌≡◌, ℕ, Bool, eqb, ap, ◌∙◌, eq-eqb, ne_eqb}
-use Rattle.window.specs.Memory.{if◌then◌else◌}
 use Rattle.window.specs.Access.{Prog, ret, ◌>>=◌, ◌>>◌}
 use Rattle.window.specs.Trace.{State, run_t}
 use Rattle.window.specs.TraceRuns.{then_it, two, pick_then, pick_else}

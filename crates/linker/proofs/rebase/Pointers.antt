@@ -1,8 +1,9 @@
 -- Tables whose entries hold pointers: one pointer an entry in a row inside, and past entries wholly outside.
+use Rattle.std.specs.Prelude.{if◌then◌else◌}
 use Rattle.std.proofs.Common.{◌≡◌, ℕ, zero, suc, ◌+◌, ◌-◌, ◌*◌, ◌%◌, ◌^◌, ◌<◌, ◌≤◌, Bool, true, false, ◌&&◌, ◌||◌, ltb, leb, List, [], ◌∷◌, length, take, sym, refl, ap, ◌∙◌, mul-le-mul_right, suc-mul, arith, le-leb, leb-true}
 use borrow.Author.Tests.{lt-leb}
 use Rattle.window.specs.Tests.{both}
-use Rattle.window.specs.Memory.{if◌then◌else◌, ◌⊕◌, place}
+use Rattle.window.specs.Memory.{◌⊕◌, place}
 use Rattle.window.specs.Access.{Prog}
 use Rattle.window.specs.Loop.{loop}
 use Rattle.window.specs.Trace.{State, said, run_t}

@@ -1,8 +1,9 @@
 -- From the code's calls and branches to the programs of `Relocation`.
+use Rattle.std.specs.Prelude.{if◌then◌else◌}
 use Rattle.std.proofs.Common.{◌≡◌, ℕ, suc, ◌+◌, ◌-◌, ◌<◌, Bool, true, false, not, eqb, List, sym, refl, ap, ◌∙◌, arith, eq-eqb, ne_eqb}
 use native.Mathlib.Decide.{ℕ_discrete}
 use mir.Val.{bool_byte}
-use Rattle.window.specs.Memory.{if◌then◌else◌, ◌⊕◌}
+use Rattle.window.specs.Memory.{◌⊕◌}
 use Rattle.window.specs.Access.{Prog, ret, ◌>>=◌, ◌>>◌, get8, get32, put8}
 use Rattle.window.specs.Loop.{loop}
 use Rattle.window.specs.Trace.{State, said, run_t, run_t_bind}

@@ -1,6 +1,6 @@
 -- The resets of all modules but one.
+use Rattle.std.specs.Prelude.{if◌then◌else◌}
 use Rattle.std.proofs.Common.{◌≡◌, ℕ, ◌+◌, ◌<◌, ◌≤◌, Bool, true, false, eqb, List, ◌∷◌, get_or, sym, refl, ap, ◌∙◌, eq-eqb, ne_eqb}
-use Rattle.window.specs.Memory.{if◌then◌else◌}
 use Rattle.window.specs.Access.{Prog, ret, ◌>>=◌}
 use Rattle.window.specs.Trace.{State, run_t, run_t_bind}
 use Rattle.register.specs.Words.{words_in}

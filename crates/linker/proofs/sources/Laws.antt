@@ -1,7 +1,8 @@
 -- From the code's calls and branches to the programs of `Imports` for one batch, one import and the imports of an entry.
+use Rattle.std.specs.Prelude.{if◌then◌else◌}
 use Rattle.std.proofs.Common.{◌≡◌, ℕ, ◌-◌, Bool, true, false, not, List, length, take, refl, ap, ◌∙◌, arith, eq-eqb, ne_eqb}
 use mathlib.Core.Option.{Option, some, none}
-use Rattle.window.specs.Memory.{if◌then◌else◌, ◌⊕◌}
+use Rattle.window.specs.Memory.{◌⊕◌}
 use Rattle.window.specs.Access.{ret, ◌>>=◌, get32}
 use Rattle.window.specs.Trace.{State, said, run_t}
 use Rattle.window.specs.TraceRuns.{given, gives, then_it, two, on_true, on_false}

@@ -1,8 +1,7 @@
 -- A module's entry into the register.
-use Rattle.std.specs.Prelude.{◌≡◌, ℕ, Bool, true, false, List, length}
+use Rattle.std.specs.Prelude.{if◌then◌else◌, ◌≡◌, ℕ, Bool, true, false, List, length}
 use Rattle.std.proofs.Math.Path.{refl}
 use Rattle.std.proofs.Common.{◌∙◌}
-use Rattle.window.specs.Memory.{if◌then◌else◌}
 use Rattle.window.specs.Access.{Prog, ret}
 use Rattle.window.specs.Trace.{State, run_t, run_t_bind}
 use Rattle.window.specs.Silent.{reads_run_t}

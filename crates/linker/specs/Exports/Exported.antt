@@ -1,8 +1,7 @@
 -- What `index_exports` answers, and what it leaves in the records and names that it is lent.
-use Rattle.std.specs.Prelude.{◌≡◌, ℕ, zero, suc, ◌^◌, ◌<◌, Bool, true, List, [], length, drop, slice_index}
+use Rattle.std.specs.Prelude.{if◌then◌else◌, ◌≡◌, ℕ, zero, suc, ◌^◌, ◌<◌, Bool, true, List, [], length, drop, slice_index}
 use Rattle.std.proofs.Math.Path.{refl, sym}
 use Rattle.std.proofs.Common.{ap, ◌∙◌, subst}
-use Rattle.window.specs.Memory.{if◌then◌else◌}
 use Rattle.window.specs.Access.{run}
 use Rattle.register.specs.Words.{words_in}
 use Rattle.register.specs.Module.{Module, Register, proper_module}

@@ -1,12 +1,12 @@
 -- What the loops over a module's tables gather, entry by entry, and so what `read_module` gives.
-use Rattle.std.specs.Prelude.{◌≡◌, ℕ, zero, suc, ◌+◌, ◌-◌, ◌<◌, ◌≤◌, Bool, List, [], ◌∷◌, ◌++◌, length, take, nat_lt}
+use Rattle.std.specs.Prelude.{if◌then◌else◌, ◌≡◌, ℕ, zero, suc, ◌+◌, ◌-◌, ◌<◌, ◌≤◌, Bool, List, [], ◌∷◌, ◌++◌, length, take, nat_lt}
 use Rattle.std.proofs.Math.Path.{refl, ap}
 use Rattle.std.proofs.Common.{sym, ◌∙◌, take_all, lt-ltb, le-ltb}
 use native.Mathlib.Omega.{arith}
 use Rattle.std.proofs.Math.Decide.{dec_lt}
 use Rattle.std.proofs.Math.ListN.{length-append}
 use Rattle.std.proofs.lemmas.List.{take-append-le}
-use Rattle.window.specs.Memory.{if◌then◌else◌, ◌⊕◌, word_at}
+use Rattle.window.specs.Memory.{◌⊕◌, word_at}
 use Rattle.window.specs.Access.{Prog, ret, ◌>>=◌, run, run_bind, Reads, reads_same}
 use Rattle.window.specs.Loop.{loop, loop_none, loop-more}
 use Rattle.window.specs.Name.{name_at, name_at_reads, name_none}

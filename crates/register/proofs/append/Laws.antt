@@ -1,9 +1,9 @@
 -- From the code's loops and tests to the definitions of `Draft`.
+use Rattle.std.specs.Prelude.{if◌then◌else◌}
 use Rattle.std.proofs.Common.{◌≡◌, ℕ, suc, ◌+◌, ◌-◌, ◌%◌, ◌^◌, ◌<◌, ◌≤◌, Bool, true, false, leb, List, [], ◌∷◌, ◌++◌, length, get_or, take, drop, set, replicate, sym, refl, ap, ◌∙◌, add-one, arith, length-drop, drop_of_length-le, length-take-le, get_or-drop, drop-cons, take-suc, le-ltb, lt-ltb, le-leb}
 use native.Mathlib.Decide.{dec_le, dec_lt}
 use lib.Seq.{sets, set_out}
 use borrow.Author.Tests.{lt-leb}
-use Rattle.window.specs.Memory.{if◌then◌else◌}
 use Rattle.window.specs.Word.{word_in, set_word_in}
 use Rattle.register.specs.declared.append.draft.Draft.{Draft}
 use Rattle.register.specs.declared.append.draft.Drafted.{Drafted}

@@ -1,7 +1,7 @@
 -- From the code's parts and words to the definitions.
+use Rattle.std.specs.Prelude.{if◌then◌else◌}
 use Rattle.std.proofs.Common.{◌≡◌, ℕ, zero, suc, ◌+◌, ◌-◌, ◌*◌, ◌/◌, ◌<◌, ◌≤◌, Bool, true, false, List, [], ◌∷◌, length, get_or, take, drop, sym, refl, ap, ◌∙◌, arith, drop_of_length-le, le-ltb, lt-ltb}
 use lib.Seq.{take-nil}
-use Rattle.window.specs.Memory.{if◌then◌else◌}
 use Rattle.register.specs.Words.{part, same, words_in, length-words, part-words}
 use Rattle.register.specs.Module.{find_from, find_export, ascending}
 use Rattle.register.specs.Decode.{export_at, exports_from, exports_in, read_module, slot_length, slot_name}

@@ -1,9 +1,8 @@
 -- A finished record stands: the buffers are a register again, with that module last.
-use Rattle.std.specs.Prelude.{◌≡◌, ℕ, zero, suc, ◌+◌, ◌-◌, ◌*◌, ◌^◌, ◌<◌, ◌≤◌, Bool, true, false, ◌&&◌, List, [], ◌∷◌, ◌++◌, length, take, drop, set, replicate, ◌==◌, slice_index, slice_set, refl}
+use Rattle.std.specs.Prelude.{if◌then◌else◌, ◌≡◌, ℕ, zero, suc, ◌+◌, ◌-◌, ◌*◌, ◌^◌, ◌<◌, ◌≤◌, Bool, true, false, ◌&&◌, List, [], ◌∷◌, ◌++◌, length, take, drop, set, replicate, ◌==◌, slice_index, slice_set, refl}
 use Rattle.std.proofs.Common.{sym, ◌∙◌, arith, length-set}
 use Rattle.std.proofs.Math.Path.{ap, subst}
 use Rattle.std.proofs.Math.ListN.{length-append}
-use Rattle.window.specs.Memory.{if◌then◌else◌}
 use Rattle.window.specs.Tests.{both, also}
 use Rattle.register.specs.Words.{same, all_zero, holds, words_in}
 use Rattle.register.specs.Lists.{same_true}

@@ -1,7 +1,7 @@
 -- What each change does to the bytes of the buffers.
-use Rattle.std.specs.Prelude.{ℕ, zero, suc, ◌+◌, ◌*◌, ◌/◌, ◌%◌, Bool, ◌&&◌, List, ◌∷◌, ◌++◌, length, take, drop, replicate, ◌==◌, nat_le, nat_lt}
+use Rattle.std.specs.Prelude.{if◌then◌else◌, ℕ, zero, suc, ◌+◌, ◌*◌, ◌/◌, ◌%◌, Bool, ◌&&◌, List, ◌∷◌, ◌++◌, length, take, drop, replicate, ◌==◌, nat_le, nat_lt}
 use Rattle.std.proofs.lemmas.List.Edits.{sets}
-use Rattle.window.specs.Memory.{if◌then◌else◌, ◌⊖◌}
+use Rattle.window.specs.Memory.{◌⊖◌}
 use Rattle.window.specs.Word.{word_in, set_word_in}
 
 -- header words 1 and 2, where there is a header

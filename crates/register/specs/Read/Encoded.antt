@@ -1,9 +1,8 @@
 -- What an encoded register says: its records stand one after another from byte 32 on, and its counts and missing names are there.
-use Rattle.std.specs.Prelude.{◌≡◌, ℕ, zero, suc, ◌+◌, ◌*◌, ◌<◌, ◌≤◌, Bool, true, false, ◌&&◌, List, [], ◌∷◌, ◌++◌, length, get_or, take, drop, ◌==◌, slice_index, slice_index_or, slice_set}
+use Rattle.std.specs.Prelude.{if◌then◌else◌, ◌≡◌, ℕ, zero, suc, ◌+◌, ◌*◌, ◌<◌, ◌≤◌, Bool, true, false, ◌&&◌, List, [], ◌∷◌, ◌++◌, length, get_or, take, drop, ◌==◌, slice_index, slice_index_or, slice_set}
 use Rattle.std.proofs.Math.Path.{refl, sym, ap}
 use Rattle.std.proofs.Common.{◌∙◌, subst, append_assoc, arith, length-append, take-append-drop, drop-set-lt, drop-drop}
 use Rattle.std.proofs.Math.Seq.{drop-append_seam}
-use Rattle.window.specs.Memory.{if◌then◌else◌}
 use Rattle.window.specs.Tests.{both}
 use Rattle.register.specs.Words.{part, same, all_zero, holds, words_in, words-drop, length-words}
 use Rattle.register.specs.Lists.{same_true}

@@ -1,7 +1,6 @@
 -- Where the records of modules stand: one after another from a byte of the records buffer on.
-use Rattle.std.specs.Prelude.{◌≡◌, ℕ, ◌+◌, ◌*◌, ◌%◌, ◌≤◌, Bool, true, false, ◌&&◌, List, [], ◌∷◌, ◌++◌, length, nat_le, refl}
+use Rattle.std.specs.Prelude.{if◌then◌else◌, ◌≡◌, ℕ, ◌+◌, ◌*◌, ◌%◌, ◌≤◌, Bool, true, false, ◌&&◌, List, [], ◌∷◌, ◌++◌, length, nat_le, refl}
 use Rattle.std.proofs.Common.{sym, ap, subst, arith, length-append}
-use Rattle.window.specs.Memory.{if◌then◌else◌}
 use Rattle.window.specs.Name.{is_name}
 use Rattle.window.specs.Tests.{both}
 use Rattle.register.specs.Words.{part}

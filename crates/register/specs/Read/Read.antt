@@ -1,6 +1,5 @@
 -- What is read from a register, over its modules in load order; and a record by its place in the records buffer.
-use Rattle.std.specs.Prelude.{◌≡◌, ℕ, ◌+◌, ◌*◌, Bool, true, List, [], ◌∷◌, length, take, drop, ◌==◌, nat_lt, slice_index}
-use Rattle.window.specs.Memory.{if◌then◌else◌}
+use Rattle.std.specs.Prelude.{if◌then◌else◌, ◌≡◌, ℕ, ◌+◌, ◌*◌, Bool, true, List, [], ◌∷◌, length, take, drop, ◌==◌, nat_lt, slice_index}
 use Rattle.register.specs.Words.{same, words_in}
 use Rattle.register.specs.Module.{Export, Module, ascending}
 use Rattle.register.specs.Encode.{flag}

@@ -1,4 +1,5 @@
 -- The test's loops and branches: exports of a record, records of the buffer.
+use Rattle.std.specs.Prelude.{if◌then◌else◌}
 use Prim.Native.Nat.{ℕ, suc, ◌+◌, ◌-◌, ◌*◌, ◌/◌, ◌%◌, ◌≤◌, ◌<◌}
 use mathlib.Core.Path.{◌≡◌, refl, sym, ap, ◌∙◌}
 use mathlib.Core.List.{List}
@@ -8,7 +9,6 @@ use lib.ListN.{length, take, drop, get_or, length-drop}
 use lib.Seq.{drop-drop}
 use lib.Dec.{eqb}
 use borrow.Author.Tests.{eq-eqb, ne_eqb, le-leb}
-use Rattle.window.specs.Memory.{if◌then◌else◌}
 use Rattle.window.specs.Name.{no_zero}
 use Rattle.register.specs.Words.{part, words_in, words-drop, length-words, part-words}
 use Rattle.register.specs.Module.{ascending}

@@ -1,11 +1,11 @@
 -- What the code of `step_of` finds, test by test: nine words as a step.
+use Rattle.std.specs.Prelude.{if◌then◌else◌}
 use Prim.Native.Nat.{ℕ}
 use mathlib.Core.Path.{◌≡◌, refl}
 use mathlib.Core.List.{List, [], ◌∷◌}
 use mathlib.Core.Bool.{Bool, true, false, and-false}
 use lib.Dec.{eqb}
 use borrow.Author.Tests.{ne_eqb}
-use Rattle.window.specs.Memory.{if◌then◌else◌}
 use Rattle.register.specs.Words.{all_zero}
 use Rattle.linker_spec.specs.declared.rebase.LoadArguments.{LoadArguments}
 use Rattle.session.specs.declared.step.Step.{Step}

@@ -17,10 +17,10 @@ loop-k-preserved c =
     let t = c.args.text.now in
     let h = c.loop-k-test.true in
     elim c.if-i-out.branch [
-      then-i-out w ↦
-      let o = byte_in t l.k l.i l.out h w.if-i-out.true w.out-is w.i-is in (omega arith, o.0 ∙ l.invariant.1, o.1 ∙ l.invariant.2)
-    | else-i-out w ↦
-      let o = byte_out t l.k l.i l.out h w.if-i-out.false w.out-is w.i-is in (omega arith, o.0 ∙ l.invariant.1, o.1 ∙ l.invariant.2)
+      | then-i-out w ↦
+          let o = byte_in t l.k l.i l.out h w.if-i-out.true w.out-is w.i-is in (omega arith, o.0 ∙ l.invariant.1, o.1 ∙ l.invariant.2)
+      | else-i-out w ↦
+          let o = byte_out t l.k l.i l.out h w.if-i-out.false w.out-is w.i-is in (omega arith, o.0 ∙ l.invariant.1, o.1 ∙ l.invariant.2)
     ]
 
 pub returns : goal.returns

@@ -1,7 +1,8 @@
 -- From the code's tests to `stride_of` and `silent_stride`.
+use Rattle.std.specs.Prelude.{if◌then◌else◌}
 use Rattle.std.proofs.Common.{◌≡◌, ℕ, ◌-◌, ◌/◌, ◌^◌, ◌<◌, ◌≤◌, Bool, true, false, not, List, refl, le-ltb, lt-ltb, eq-eqb, ne_eqb}
 use borrow.Author.Tests.{not-true, not-false}
-use Rattle.window.specs.Memory.{if◌then◌else◌, place}
+use Rattle.window.specs.Memory.{place}
 use Rattle.window.specs.Trace.{said}
 use Rattle.window.specs.Outside.{stride_of, silent_stride}
 

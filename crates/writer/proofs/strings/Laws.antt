@@ -1,4 +1,5 @@
 -- The length of a name, a name after another, and a walk over the names.
+use Rattle.std.specs.Prelude.{if◌then◌else◌}
 use Prim.Native.Nat.{ℕ, suc, ◌+◌, ◌-◌, ◌≤◌, ◌<◌}
 use mathlib.Core.Path.{◌≡◌, refl, sym, ◌∙◌}
 use mathlib.Core.List.{List, [], ◌∷◌, ◌++◌}
@@ -7,7 +8,6 @@ use native.Mathlib.Omega.{arith}
 use native.Mathlib.Numerals.{add-one}
 use lib.Dec.{eqb}
 use borrow.Author.Tests.{eq-eqb, ne_eqb, lt-ltb, le-ltb}
-use Rattle.window.specs.Memory.{if◌then◌else◌}
 use Rattle.window.specs.Mirror.{word}
 use Rattle.history.specs.Image.{Table, entry}
 use Rattle.writer_spec.specs.Description.{name_room, and_then, ends_at, nonzeros, string_after, strings_from, pointers}

@@ -1,6 +1,6 @@
 -- What "packed" says: the segments with bytes and then the header's 15 pairs are successive intervals of the description.
 use Prim.Native.Nat.{ℕ, zero, suc, ◌+◌, ◌≤◌, ◌<◌}
-use Rattle.std.specs.Prelude.{◌≡◌, refl, Bool, ◌&&◌, length, eqb}
+use Rattle.std.specs.Prelude.{if◌then◌else◌, ◌≡◌, refl, Bool, ◌&&◌, length, eqb}
 use Rattle.std.proofs.Common.{ap}
 use mathlib.Core.List.{List, [], ◌∷◌, ◌++◌}
 use Rattle.std.proofs.Math.Bool.{true, false}
@@ -8,7 +8,6 @@ use native.Mathlib.Omega.{arith}
 use Rattle.std.proofs.Math.Decide.{ℕ_discrete}
 use borrow.Author.Tests.{eqb-true}
 use Rattle.window.specs.Tests.{both}
-use Rattle.window.specs.Memory.{if◌then◌else◌}
 use Rattle.window.specs.Mirror.{word}
 use Rattle.layout.specs.Header.{module_name_offset, header_size, export_tree_num, static_anonymous_symbol_num, static_relocation_table_offset, static_relocation_num}
 use Rattle.layout.specs.Tables.{table_entry_sizes}

@@ -1,11 +1,10 @@
 -- Which relocation kinds write a word: those that the writer counts.
-use Rattle.std.specs.Prelude.{ℕ, refl, ◌≢◌, Bool, eqb}
+use Rattle.std.specs.Prelude.{if◌then◌else◌, ℕ, refl, ◌≢◌, Bool, eqb}
 use Rattle.std.proofs.Math.Path.{◌≡◌, sym}
 use Rattle.std.proofs.Common.{◌∙◌, arith}
 use Rattle.std.proofs.Math.Bool.{true, false}
 use Rattle.std.proofs.Math.Decide.{ℕ_discrete}
 use borrow.Author.Tests.{ne_eqb}
-use Rattle.window.specs.Memory.{if◌then◌else◌}
 use Rattle.layout.specs.Format.{relocation_type}
 use Rattle.layout.specs.Relocation.Relocation.{relocated_word}
 use Rattle.layout.specs.declared.format.RelocationType.{RelocationType}

@@ -1,11 +1,10 @@
 -- Where the relocated words of an image stand in a place: at the addresses of the offsets that the writer computes.
-use Rattle.std.specs.Prelude.{ℕ, ◌+◌, ◌-◌, ◌<◌, ◌≡◌, refl, ◌≢◌, Bool, ◌&&◌, ltb}
+use Rattle.std.specs.Prelude.{if◌then◌else◌, ℕ, ◌+◌, ◌-◌, ◌<◌, ◌≡◌, refl, ◌≢◌, Bool, ◌&&◌, ltb}
 use Rattle.std.proofs.Common.{sym, ◌∙◌}
 use Rattle.std.proofs.Math.Bool.{true, false}
 use native.Mathlib.Omega.{arith}
 use Rattle.std.proofs.Math.Decide.{dec_lt}
 use borrow.Author.Tests.{lt-ltb, le-ltb, ltb-true}
-use Rattle.window.specs.Memory.{if◌then◌else◌}
 use Rattle.window.specs.Tests.{both}
 use Rattle.layout.specs.declared.segments.Address.TheVariants.{Nowhere}
 use Rattle.linker_spec.specs.declared.rebase.LoadArguments.{LoadArguments}

@@ -15,10 +15,10 @@ loop-i-preserved c =
     let i = c.loop-i.i in
     let z = c.loop-i.none in
     elim c.if-bytes-i-eq0.branch [
-      then-bytes-i-eq0 w ↦
-      ap (λ z. z && no_zero (drop (i + 1) l)) w.none-is ∙ no_zero-off l i z c.loop-i-test.true w.if-bytes-i-eq0.true ∙ c.loop-i.invariant
-    | else-bytes-i-eq0 w ↦
-      ap (λ z. z && no_zero (drop (i + 1) l)) w.none-is ∙ ap (λ b. z && b) (no_zero_on l i c.loop-i-test.true w.if-bytes-i-eq0.false) ∙ c.loop-i.invariant
+      | then-bytes-i-eq0 w ↦
+          ap (λ z. z && no_zero (drop (i + 1) l)) w.none-is ∙ no_zero-off l i z c.loop-i-test.true w.if-bytes-i-eq0.true ∙ c.loop-i.invariant
+      | else-bytes-i-eq0 w ↦
+          ap (λ z. z && no_zero (drop (i + 1) l)) w.none-is ∙ ap (λ b. z && b) (no_zero_on l i c.loop-i-test.true w.if-bytes-i-eq0.false) ∙ c.loop-i.invariant
     ]
 
 pub returns : goal.returns
