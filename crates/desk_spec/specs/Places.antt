@@ -166,7 +166,7 @@ first_of i (q ∷ qs) {n} e =
       | yes z ↦
           let (j, s, f) = first_of (suc i) qs {n = n} (rw (eq-eqb (length q.waiting) 0 z) at e) in
           let least : (k : ℕ) → HasWaiting (q ∷ qs) k → suc j ≤ k =
-          λ k. elim k [ zero ↦ λ w. absurd (omega arith) | suc m ↦ λ w. let g = f.first m w in omega arith ] in
+          λ k. elim k as (λ k. HasWaiting (q ∷ qs) k → suc j ≤ k) [ zero ↦ λ w. absurd (omega arith) | suc m ↦ λ w. let g = f.first m w in omega arith ] in
           (suc j, omega arith, record { waits = f.waits; first = least })
       | no z ↦
           let e₁ : Of i ≡ Of n = rw (ne_eqb (length q.waiting) 0 z) at e in

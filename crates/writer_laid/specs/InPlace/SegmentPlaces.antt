@@ -18,7 +18,7 @@ use Rattle.layout.specs.declared.format.SegmentType.TheVariants.{Code, RoData, D
 use Rattle.layout.specs.declared.segments.Address.TheVariants.{At, Nowhere}
 use Rattle.linker_spec.specs.declared.rebase.LoadArguments.{LoadArguments}
 use Rattle.linker_spec.specs.Relocation.{write_place}
-use Rattle.history.specs.Image.{segments, count, file_segment, kind}
+use Rattle.history.specs.Image.{segments, count, file_segment}
 use Rattle.history.specs.LoadedModule.{Image, loaded, moved_offset, loaded_place, place_of, old_for, old_among, segment_place, old_place, placed_segment, address, handler}
 use Rattle.writer_spec.specs.Description.{in_file}
 use Rattle.writer_spec.specs.Words.{external_in, internal_in, data_bytes, data_room, last_data, room_of, usable}

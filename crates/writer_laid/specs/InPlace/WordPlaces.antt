@@ -6,7 +6,6 @@ use native.Mathlib.Omega.{arith}
 use Rattle.std.proofs.Math.Decide.{dec_lt}
 use borrow.Author.Tests.{lt-ltb, le-ltb, ltb-true}
 use Rattle.window.specs.Tests.{both}
-use Rattle.layout.specs.declared.segments.Address.TheVariants.{Nowhere}
 use Rattle.linker_spec.specs.declared.rebase.LoadArguments.{LoadArguments}
 use Rattle.history.specs.Image.{segments, externals, internals, count, tag, kind, symbol_segment}
 use Rattle.history.specs.LoadedModule.{Image}

@@ -1,0 +1,11 @@
+use Prim.Native.Nat.{◌-◌, ◌≤◌}
+use lib.ListN.{length}
+use Rattle.writer_spec.specs.Description.{file_of}
+use Rattle.writer.specs.Image.{between, Holds}
+use Rattle.writer.proofs.image.copy.Given as goal
+
+abbrev pub invariant-loop-i : goal.invariant-loop-i
+invariant-loop-i l = (l.i ≤ length l.from) × (length l.from ≤ length l.initial.buffer) × Holds l.initial.buffer l.buffer (between 0 l.i (file_of l.from) (file_of l.initial.buffer))
+
+abbrev pub decreases-loop-i : goal.decreases-loop-i
+decreases-loop-i l = length l.from - l.i
