@@ -1,3 +1,2 @@
 -- What the proofs of `session::step` share.
 pub mod Laws
-pub mod Reading
