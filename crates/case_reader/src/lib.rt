@@ -1,5 +1,7 @@
 // Stored buffers. A file of whole words holds pieces: an offset, a length, and the bytes, with zeros up to a whole word.
 // Places in the file are counted in words.
+#![tactic(auto)]
+
 pub mod append;
 
 ghost use Rattle.std.specs.Prelude.{◌≡◌};

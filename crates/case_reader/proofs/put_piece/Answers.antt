@@ -1,7 +1,6 @@
 -- A piece is laid by `put_bytes` if it is all in the file.
 use mathlib.Core.Path.{sym, ap, ◌∙◌}
 use native.Mathlib.Omega.{arith}
-use borrow.Author.Rules.{rules}
 use Rattle.case_reader.specs.Pieces.{placed}
 use Rattle.case_reader.proofs.Laws.{outside, cut, inside}
 use Rattle.case_reader.proofs.put_piece.Goals as goal
@@ -16,12 +15,12 @@ pub returns-in-At : goal.returns-in-At
 unfolding placed
 returns-in-At c =
     let p = c.put_bytes in
-    ap (placed _) (ap (λ r. (r, p.new.0)) (sym c.in-At.is))
+    ap (placed _) (ap (λ r. (r, p.new.buffer)) (sym c.in-At.is))
     ∙ inside _ _ _ c.word-n.ensures c.word.ensures (omega arith) (omega arith) p.ensures
 
 pub returns-in-Full : goal.returns-in-Full
 unfolding placed
 returns-in-Full c =
     let p = c.put_bytes in
-    ap (placed _) (ap (λ r. (r, p.new.0)) (sym c.in-Full.is))
+    ap (placed _) (ap (λ r. (r, p.new.buffer)) (sym c.in-Full.is))
     ∙ inside _ _ _ c.word-n.ensures c.word.ensures (omega arith) (omega arith) p.ensures

@@ -1,7 +1,5 @@
 use mathlib.Core.Path.{◌≡◌, refl, ◌∙◌}
 use native.Mathlib.Omega.{arith}
-use lib.ListN.{length}
-use borrow.Author.Rules.{rules}
 use Rattle.case_reader.specs.Pieces.{pieces}
 use Rattle.case_reader.proofs.Laws.{pieces-stop, pieces_on}
 use Rattle.case_reader.proofs.put_pieces.Goals as goal

@@ -1,10 +1,7 @@
 -- The invariant: the pieces that are left, laid over the buffer as it is, give what all of them give.
-use mathlib.Core.Path.{◌≡◌, refl, ◌∙◌}
-use native.Mathlib.Omega.{arith}
+use mathlib.Core.Path.{◌≡◌}
 use lib.ListN.{length}
-use borrow.Author.Rules.{rules}
 use Rattle.case_reader.specs.Pieces.{pieces}
-use Rattle.case_reader.proofs.Laws.{pieces-stop, pieces_on}
 use Rattle.case_reader.proofs.put_pieces.Given as goal
 
 abbrev pub invariant-loop-left : goal.invariant-loop-left

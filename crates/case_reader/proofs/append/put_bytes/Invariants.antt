@@ -1,12 +1,8 @@
 -- The invariant: the first i bytes of the text are laid over the buffer.
 use Prim.Native.Nat.{◌+◌, ◌-◌, ◌≤◌}
-use mathlib.Core.Path.{◌≡◌, refl, sym}
-use native.Mathlib.Omega.{arith}
-use native.Mathlib.Numerals.{add-one}
-use lib.ListN.{length, length-set}
-use lib.Seq.{paste, paste-zero, paste-suc, take-length}
-use Rattle.case_reader.specs.Append.{appended_full}
-use Rattle.case_reader.proofs.append.Laws.{room_none, room_enough, laid}
+use mathlib.Core.Path.{◌≡◌}
+use lib.ListN.{length}
+use lib.Seq.{paste}
 use Rattle.case_reader.proofs.append.put_bytes.Given as goal
 
 abbrev pub invariant-loop-i : goal.invariant-loop-i
