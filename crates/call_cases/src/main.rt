@@ -4,6 +4,8 @@
 // and the value that it must give, its touch (1 or 0, and where it starts); then for each of the four buffers how many pieces stand in it before the call, how
 // many the call must change, and the pieces. tools/call_cases.py makes the file, and says why each case gives what it does.
 // Prints for each case `ok` or the first output that differs, and how many were ok.
+#![tactic(auto)]
+
 mod buffers;
 mod call;
 
@@ -12,31 +14,33 @@ ghost use Rattle.std.specs.Prelude.{◌/◌, ◌≤◌, length};
 use crate::buffers::{Verdict, compare, lay};
 use crate::call::call;
 use case_reader::append::NextPlace;
+use reading::read_full;
 use register::words::word;
+use std::io;
+use std::io::Write;
 
-fn main() {
+fn main(rt: HostRuntime) -> io::Result<()> {
     let mut file = [0u8; 262144];
-    let n = io::read_full(0, &mut file);
-    run_cases(&file[..n]);
+    let n = read_full(&mut rt.reader(), &mut file)?;
+    run_cases(&mut io::writer(&rt), &file[..n])
 }
 
-fn run_cases(file: &[u8]) {
+fn run_cases<W: Write>(out: &mut W, file: &[u8]) -> io::Result<()> {
     let count = word(file, 0);
     let mut at: usize = 1;
     let mut same: u32 = 0;
     let mut k: u32 = 0;
     while k < count {
         if file.len() / 4 < at {
-            io::write_all(1, b"the file ends before the last case\n");
-            return;
+            return out.write_all(b"the file ends before the last case\n");
         }
         let verdict = run_case(file, at);
-        print_verdict(k, verdict);
+        print_verdict(out, k, verdict)?;
         same += tally(verdict);
         at += word(file, at) as usize;
         k += 1;
     }
-    print_counts(count, same);
+    print_counts(out, count, same)
 }
 
 // 1 for a case that is as stored.
@@ -184,25 +188,21 @@ fn call_lent(
 }
 
 // Prints the number of case k, counted from 1, and the verdict.
-fn print_verdict(k: u32, verdict: Verdict) {
-    io::print_decimal(1, (k as u64) + 1);
+fn print_verdict<W: Write>(out: &mut W, k: u32, verdict: Verdict) -> io::Result<()> {
+    write!(out, "{}", u64::from(k) + 1)?;
     match verdict {
-        Verdict::Same => io::write_all(1, b" ok\n"),
-        Verdict::Number => io::write_all(1, b" number differs\n"),
-        Verdict::Value => io::write_all(1, b" value differs\n"),
-        Verdict::Touch => io::write_all(1, b" touch differs\n"),
-        Verdict::Window => io::write_all(1, b" window differs\n"),
-        Verdict::Records => io::write_all(1, b" records differ\n"),
-        Verdict::Names => io::write_all(1, b" names differ\n"),
-        Verdict::Missing => io::write_all(1, b" missing list differs\n"),
-        Verdict::Unreadable => io::write_all(1, b" unreadable\n"),
-    };
+        Verdict::Same => out.write_all(b" ok\n"),
+        Verdict::Number => out.write_all(b" number differs\n"),
+        Verdict::Value => out.write_all(b" value differs\n"),
+        Verdict::Touch => out.write_all(b" touch differs\n"),
+        Verdict::Window => out.write_all(b" window differs\n"),
+        Verdict::Records => out.write_all(b" records differ\n"),
+        Verdict::Names => out.write_all(b" names differ\n"),
+        Verdict::Missing => out.write_all(b" missing list differs\n"),
+        Verdict::Unreadable => out.write_all(b" unreadable\n"),
+    }
 }
 
-fn print_counts(cases: u32, same: u32) {
-    io::write_all(1, b"cases ");
-    io::print_decimal(1, cases as u64);
-    io::write_all(1, b" ok ");
-    io::print_decimal(1, same as u64);
-    io::write_all(1, b"\n");
+fn print_counts<W: Write>(out: &mut W, cases: u32, same: u32) -> io::Result<()> {
+    writeln!(out, "cases {cases} ok {same}")
 }

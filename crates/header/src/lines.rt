@@ -62,7 +62,7 @@ const NAMES: [u8; 912] = *b"magic name_offset next_cro previous_cro file_size bs
 
 // How many bytes the first k words of `text` take, each with the space after it.
 fn words_length(text: &[u8], k: u32) -> usize
-    ensures { result ≡ wordsLength k text.now }
+    ensures { result ≡ words_length k text.now }
 {
     let mut i: usize = 0;
     let mut left = k;

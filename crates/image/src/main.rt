@@ -1,24 +1,28 @@
 // Makes the CRO image of the description on standard input, and writes it to standard output; a line that says why not, where there is none.
+#![tactic(auto)]
+
+use reading::read_full;
+use std::io;
+use std::io::Write;
 
 // One byte more than the largest image has is read, so that a longer input is noticed.
-fn main() {
+fn main(rt: HostRuntime) -> io::Result<()> {
     let mut description = [0u8; 262145];
-    let n = io::read_full(0, &mut description);
+    let n = read_full(&mut rt.reader(), &mut description)?;
+    let mut out = io::writer(&rt);
     if 262144 < n {
-        io::write_all(1, b"the image would have more than 262,144 bytes\n");
-        return;
+        return out.write_all(b"the image would have more than 262,144 bytes\n");
     }
     let mut image = [0u8; 262144];
-    print_image(&description[..n], &mut image);
+    print_image(&mut out, &description[..n], &mut image)
 }
 
 // Writes the image to the buffer lent, and prints it. A buffer that is too short is told as a description that makes no image is.
-fn print_image(description: &[u8], image: &mut [u8]) {
+fn print_image<W: Write>(out: &mut W, description: &[u8], image: &mut [u8]) -> io::Result<()> {
     let mut size: u32 = 0;
     if fillqhano::write_image(description, image, &mut size) != 0 {
-        io::write_all(1, b"this makes no image that is well laid in every place\n");
-        return;
+        return out.write_all(b"this makes no image that is well laid in every place\n");
     }
     let end = size as usize;
-    io::write_all(1, &image[..end]);
+    out.write_all(&image[..end])
 }

@@ -2,13 +2,18 @@
 // case the lengths of records, names and missing list, the number of pieces of each, and the pieces, laid over zeros.
 // Pieces may reach past a length: those bytes stand after the lent ones, and the test must not read them.
 // Prints the verdict on each case, and how many were valid and refused. tools/register_cases.py makes the file.
+#![tactic(auto)]
+
 ghost use Rattle.std.specs.Prelude.{◌≡◌};
 ghost use Rattle.register_cases.specs.Cases.{judged, case_at};
 
 use case_reader::append::NextPlace;
 use case_reader::put_pieces;
+use reading::read_full;
 use register::words::word;
 use register_test::is_register;
+use std::io;
+use std::io::Write;
 
 // The verdict on a case, and the place of the next one.
 #[derive(Clone, Copy)]
@@ -18,13 +23,13 @@ enum RegisterVerdict {
     Unreadable,
 }
 
-fn main() {
+fn main(rt: HostRuntime) -> io::Result<()> {
     let mut file = [0u8; 262144];
-    let n = io::read_full(0, &mut file);
-    run_cases(&file[..n]);
+    let n = read_full(&mut rt.reader(), &mut file)?;
+    run_cases(&mut io::writer(&rt), &file[..n])
 }
 
-fn run_cases(file: &[u8]) {
+fn run_cases<W: Write>(out: &mut W, file: &[u8]) -> io::Result<()> {
     let count = word(file, 0);
     let mut at: usize = 1;
     let mut valid: u32 = 0;
@@ -34,20 +39,19 @@ fn run_cases(file: &[u8]) {
             RegisterVerdict::Valid(next) => {
                 at = next;
                 valid += 1;
-                print_verdict(k, b" valid\n");
+                print_verdict(out, k, b" valid\n")?;
             }
             RegisterVerdict::Refused(next) => {
                 at = next;
-                print_verdict(k, b" refused\n");
+                print_verdict(out, k, b" refused\n")?;
             }
             RegisterVerdict::Unreadable => {
-                print_verdict(k, b" unreadable\n");
-                return;
+                return print_verdict(out, k, b" unreadable\n");
             }
         }
         k += 1;
     }
-    print_counts(count, valid, count - valid);
+    print_counts(out, count, valid, count - valid)
 }
 
 // Builds the case at place `at` and tries the test on it.
@@ -106,17 +110,11 @@ fn judge(
 }
 
 // Prints the number of case k, counted from 1, and the verdict.
-fn print_verdict(k: u32, verdict: &[u8]) {
-    io::print_decimal(1, (k as u64) + 1);
-    io::write_all(1, verdict);
+fn print_verdict<W: Write>(out: &mut W, k: u32, verdict: &[u8]) -> io::Result<()> {
+    write!(out, "{}", u64::from(k) + 1)?;
+    out.write_all(verdict)
 }
 
-fn print_counts(cases: u32, valid: u32, refused: u32) {
-    io::write_all(1, b"cases ");
-    io::print_decimal(1, cases as u64);
-    io::write_all(1, b" valid ");
-    io::print_decimal(1, valid as u64);
-    io::write_all(1, b" refused ");
-    io::print_decimal(1, refused as u64);
-    io::write_all(1, b"\n");
+fn print_counts<W: Write>(out: &mut W, cases: u32, valid: u32, refused: u32) -> io::Result<()> {
+    writeln!(out, "cases {cases} valid {valid} refused {refused}")
 }

@@ -1,13 +1,18 @@
 // Runs stored sessions. Standard input is a file of whole words: the number of cases, and for each case the length of its
 // session file, the number of pieces, and the pieces, laid over zeros. Prints the number of each case, and its text.
 // tools/session_cases.py makes the file, and the output that it must give.
+#![tactic(auto)]
+
 ghost use Rattle.std.specs.Prelude.{◌≡◌};
 ghost use Rattle.session_cases.specs.Cases.{text_of, case_at};
 
 use case_reader::append::NextPlace;
 use case_reader::put_pieces;
+use reading::read_full;
 use register::words::word;
 use session::session_text;
+use std::io;
+use std::io::Write;
 
 // The place of the next case and the length of this one's text, or that it cannot be read.
 #[derive(Clone, Copy)]
@@ -16,32 +21,32 @@ enum Case {
     Unreadable,
 }
 
-fn main() {
+fn main(rt: HostRuntime) -> io::Result<()> {
     let mut file = [0u8; 1048576];
-    let n = io::read_full(0, &mut file);
-    run_cases(&file[..n]);
+    let n = read_full(&mut rt.reader(), &mut file)?;
+    run_cases(&mut io::writer(&rt), &file[..n])
 }
 
-fn run_cases(file: &[u8]) {
+fn run_cases<W: Write>(out: &mut W, file: &[u8]) -> io::Result<()> {
     let mut text = [0u8; 139264];
     let count = word(file, 0);
     let mut at: usize = 1;
     let mut k: u32 = 0;
     while k < count {
-        print_number(k);
+        print_number(out, k)?;
         match run_case(file, at, &mut text) {
             Case::Text(next, length) => {
                 at = next;
-                io::write_all(1, b"\n");
-                io::write_all(1, &text[..length]);
+                out.write_all(b"\n")?;
+                out.write_all(&text[..length])?;
             }
             Case::Unreadable => {
-                io::write_all(1, b" unreadable\n");
-                return;
+                return out.write_all(b" unreadable\n");
             }
         }
         k += 1;
     }
+    Ok(())
 }
 
 // Builds the session file of the case at place `at` and puts its text.
@@ -76,7 +81,6 @@ fn put_case(next: usize, session: &[u8], n: u32, out: &mut [u8]) -> Case
 }
 
 // Prints the number of case k, counted from 1.
-fn print_number(k: u32) {
-    io::write_all(1, b"case ");
-    io::print_decimal(1, (k as u64) + 1);
+fn print_number<W: Write>(out: &mut W, k: u32) -> io::Result<()> {
+    write!(out, "case {}", u64::from(k) + 1)
 }
