@@ -1,7 +1,9 @@
-// The exported calls, the library that a host links: `initialize`, `load` and `unload` of the title's loader, for any bytes lent, the writer's
+// The calls that a host makes, by the library `fillqhano_c`: `initialize`, `load` and `unload` of the title's loader, for any bytes lent, the writer's
 // `write_image` and `read_image`, and the service desk's `send` and `turn`. Each answers a number, and lends its value through `value`; a call of
 // the loader that answers 1 to 5 leaves the register as it was. `touched` becomes 1 where an access had a byte outside the window, and `first`
 // where the first such access started.
+#![tactic(auto)]
+
 pub mod call;
 mod serve;
 
@@ -52,8 +54,7 @@ fn tell(trace: &[u8], touched: &mut u32, first: &mut u32)
 }
 
 // Takes in the static module, whose base the register keeps from then on.
-#[unsafe(no_mangle)]
-pub extern "C" fn initialize(
+pub fn initialize(
     at: u32,
     window: &mut [u8],
     records: &mut [u8],
@@ -94,8 +95,7 @@ pub extern "C" fn initialize(
 }
 
 // Loads a module: links it, and gives as value how much of it is left.
-#[unsafe(no_mangle)]
-pub extern "C" fn load(
+pub fn load(
     at: u32,
     window: &mut [u8],
     records: &mut [u8],
@@ -152,8 +152,7 @@ pub extern "C" fn load(
 
 // Unloads the first module with that base: the modules that linked on their own no longer use it, and its record is gone.
 // The value is 1 where a module left, 0 where none has that base.
-#[unsafe(no_mangle)]
-pub extern "C" fn unload(
+pub fn unload(
     at: u32,
     window: &mut [u8],
     records: &mut [u8],
@@ -192,24 +191,21 @@ pub extern "C" fn unload(
 }
 
 // Writes the CRO image of a description, and gives as value its length: 6 where it would not be well laid in each place, then 7 where it does not fit.
-#[unsafe(no_mangle)]
-pub extern "C" fn write_image(description: &[u8], image: &mut [u8], value: &mut u32) -> u32
+pub fn write_image(description: &[u8], image: &mut [u8], value: &mut u32) -> u32
     ensures { left result value.new image.new ≡ write_outcome description.now image.old }
 {
     writer::image::write_image(description, image, value)
 }
 
 // Gives the description of an image that was written so back, and as value its length.
-#[unsafe(no_mangle)]
-pub extern "C" fn read_image(image: &[u8], description: &mut [u8], value: &mut u32) -> u32
+pub fn read_image(image: &[u8], description: &mut [u8], value: &mut u32) -> u32
     ensures { left result value.new description.new ≡ read_outcome image.now description.old }
 {
     writer::image::read_image(image, description, value)
 }
 
 // Puts a command buffer at the end of its caller's queue: 8 for a ninth caller or a seventeenth buffer.
-#[unsafe(no_mangle)]
-pub extern "C" fn send(desk: &mut [u8], caller: u32, buffer: u32, value: &mut u32) -> u32
+pub fn send(desk: &mut [u8], caller: u32, buffer: u32, value: &mut u32) -> u32
     ensures { (result, value.new, desk.new) ≡ send_outcome caller buffer desk.old }
 {
     *value = 0;
@@ -218,8 +214,7 @@ pub extern "C" fn send(desk: &mut [u8], caller: u32, buffer: u32, value: &mut u3
 
 // Serves the oldest command buffer of the caller whose turn it is, and says whose and which it was. The tests of window and register come first,
 // and the buffer leaves its queue last.
-#[unsafe(no_mangle)]
-pub extern "C" fn turn(
+pub fn turn(
     at: u32,
     window: &mut [u8],
     records: &mut [u8],
