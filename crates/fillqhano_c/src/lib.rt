@@ -1,4 +1,5 @@
-// The exported calls, the library that a host links: each is the call of that name in `fillqhano`, whose clauses it has.
+// The exported calls, the library that a host links: each is the call of that name in `fillqhano`, whose clauses it has. No export may be named
+// `send`, as a function of C's library is, so that one has the prefix here. host/build gives C callers the names that they link.
 #![tactic(auto)]
 
 ghost use Rattle.std.specs.Prelude.{◌≡◌};
@@ -124,7 +125,7 @@ pub extern "C" fn read_image(image: &[u8], description: &mut [u8], value: &mut u
 
 // Puts a command buffer at the end of its caller's queue: 8 for a ninth caller or a seventeenth buffer.
 #[unsafe(no_mangle)]
-pub extern "C" fn send(desk: &mut [u8], caller: u32, buffer: u32, value: &mut u32) -> u32
+pub extern "C" fn fillqhano_send(desk: &mut [u8], caller: u32, buffer: u32, value: &mut u32) -> u32
     ensures { (result, value.new, desk.new) ≡ send_outcome caller buffer desk.old }
 {
     fillqhano::send(desk, caller, buffer, value)
