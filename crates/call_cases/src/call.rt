@@ -46,7 +46,7 @@ pub fn call(
     first: &mut u32,
 ) -> u32
     requires { at ≤ length file.now / 4 }
-    ensures missing_after { outcome result value.new (buffers window.new records.new names.new missing.new)
+    ensures answered { outcome result value.new (buffers window.new records.new names.new missing.new)
         ≡ called (words_in file.now) at
         (buffers window.old records.old names.old missing.old) }
     ensures touches { (touched.new, first.new)

@@ -18,7 +18,7 @@ pub fn make_call(
     touched: &mut u32,
     first: &mut u32,
 ) -> u32
-    ensures missing_after { outcome result value.new (buffers window.new records.new names.new missing.new)
+    ensures answered { outcome result value.new (buffers window.new records.new names.new missing.new)
         ≡ given call at (buffers window.old records.old names.old missing.old) }
     ensures touches { (touched.new, first.new)
         ≡ touches_of call at (buffers window.old records.old names.old missing.old) }

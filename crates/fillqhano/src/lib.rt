@@ -66,7 +66,7 @@ pub fn initialize(
     touched: &mut u32,
     first: &mut u32,
 ) -> u32
-    ensures missing_after { outcome result value.new (buffers window.new records.new names.new missing.new)
+    ensures answered { outcome result value.new (buffers window.new records.new names.new missing.new)
         ≡ initialize_outcome base size at
         (buffers window.old records.old names.old missing.old) }
     ensures touches { (touched.new, first.new)
@@ -113,7 +113,7 @@ pub fn load(
     touched: &mut u32,
     first: &mut u32,
 ) -> u32
-    ensures missing_after { outcome result value.new (buffers window.new records.new names.new missing.new)
+    ensures answered { outcome result value.new (buffers window.new records.new names.new missing.new)
         ≡ load_outcome (load_arguments base size data_segment data_segment_size bss_segment bss_segment_size) auto_link fix_level at
         (buffers window.old records.old names.old missing.old) }
     ensures touches { (touched.new, first.new)
@@ -163,7 +163,7 @@ pub fn unload(
     touched: &mut u32,
     first: &mut u32,
 ) -> u32
-    ensures missing_after { outcome result value.new (buffers window.new records.new names.new missing.new)
+    ensures answered { outcome result value.new (buffers window.new records.new names.new missing.new)
         ≡ unload_outcome base at
         (buffers window.old records.old names.old missing.old) }
     ensures touches { (touched.new, first.new)

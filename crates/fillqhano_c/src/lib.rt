@@ -22,7 +22,7 @@ pub extern "C" fn initialize(
     touched: &mut u32,
     first: &mut u32,
 ) -> u32
-    ensures missing_after { outcome result value.new (buffers window.new records.new names.new missing.new)
+    ensures answered { outcome result value.new (buffers window.new records.new names.new missing.new)
         ≡ initialize_outcome base size at
         (buffers window.old records.old names.old missing.old) }
     ensures touches { (touched.new, first.new)
@@ -54,7 +54,7 @@ pub extern "C" fn load(
     touched: &mut u32,
     first: &mut u32,
 ) -> u32
-    ensures missing_after { outcome result value.new (buffers window.new records.new names.new missing.new)
+    ensures answered { outcome result value.new (buffers window.new records.new names.new missing.new)
         ≡ load_outcome (load_arguments base size data_segment data_segment_size bss_segment bss_segment_size) auto_link fix_level at
         (buffers window.old records.old names.old missing.old) }
     ensures touches { (touched.new, first.new)
@@ -95,7 +95,7 @@ pub extern "C" fn unload(
     touched: &mut u32,
     first: &mut u32,
 ) -> u32
-    ensures missing_after { outcome result value.new (buffers window.new records.new names.new missing.new)
+    ensures answered { outcome result value.new (buffers window.new records.new names.new missing.new)
         ≡ unload_outcome base at
         (buffers window.old records.old names.old missing.old) }
     ensures touches { (touched.new, first.new)

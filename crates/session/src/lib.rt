@@ -1,4 +1,6 @@
 // A session: the file judged, its steps run through the three calls, and the text that they print.
+#![tactic(auto)]
+
 mod call;
 mod file;
 mod head;

@@ -1,4 +1,4 @@
-use Rattle.std.proofs.Common.{◌≡◌, ◌≤◌, length, true, refl, sym, ap, ◌∙◌, arith, rules}
+use Rattle.std.proofs.Common.{◌≡◌, sym, ap, ◌∙◌, arith}
 use Rattle.session.specs.File.{is_step, are_steps}
 use Rattle.session.specs.Steps.{step_at}
 use Rattle.session.proofs.file.Laws.{step_bad, step_on}

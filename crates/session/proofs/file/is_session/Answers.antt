@@ -1,5 +1,3 @@
-use borrow.Author.Tests.{not-true, not-false}
-use borrow.Author.Rules.{rules}
 use Rattle.session.proofs.file.Laws.{past-limits, part-outside, steps-left}
 use Rattle.session.proofs.file.is_session.Goals as goal
 

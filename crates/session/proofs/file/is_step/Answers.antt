@@ -1,4 +1,3 @@
-use borrow.Author.Rules.{rules}
 use Rattle.session.specs.File.{is_step}
 use Rattle.session.proofs.file.is_step.Goals as goal
 

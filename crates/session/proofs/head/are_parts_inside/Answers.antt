@@ -1,6 +1,5 @@
 use borrow.Author.Tests.{lt-leb}
 use Rattle.session.proofs.head.Laws.{window_left}
-use borrow.Author.Rules.{rules}
 use Rattle.session.specs.Head.{head_word}
 use Rattle.session.proofs.head.are_parts_inside.Goals as goal
 

@@ -1,5 +1,4 @@
 use borrow.Author.Tests.{le-leb, lt-leb}
-use borrow.Author.Rules.{rules}
 use Rattle.session.specs.Head.{head_word}
 use Rattle.session.proofs.head.in_limits.Goals as goal
 

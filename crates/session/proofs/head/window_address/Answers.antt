@@ -1,4 +1,3 @@
-use borrow.Author.Rules.{rules}
 use Rattle.session.specs.Head.{head_word}
 use Rattle.session.proofs.head.window_address.Goals as goal
 

@@ -1,5 +1,4 @@
 -- Two pieces.
-use borrow.Author.Rules.{rules}
 use Rattle.text.specs.Laws.{put_then}
 use Rattle.session.proofs.lines.hex_after.Goals as goal
 

@@ -1,9 +1,8 @@
 -- Each arm puts the name of its call.
-use mathlib.Core.Path.{refl, ap, sym, ◌∙◌}
+use mathlib.Core.Path.{ap, sym, ◌∙◌}
 use Rattle.text.specs.Text.{bytes, put}
 use Rattle.session.specs.declared.step.Step.{Step}
 use Rattle.session.specs.Lines.{call_name, step_name}
-use borrow.Author.Rules.{rules}
 use Rattle.session.proofs.lines.put_call.Goals as goal
 
 pub returns-in_default : goal.returns-in_default

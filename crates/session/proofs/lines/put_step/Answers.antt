@@ -1,6 +1,4 @@
 -- The pieces of the line, one after another.
-use mathlib.Core.Path.{refl}
-use borrow.Author.Rules.{rules}
 use Rattle.text.specs.Text.{bytes}
 use Rattle.session.proofs.lines.Laws.{step_line_lem}
 use Rattle.session.proofs.lines.put_step.Goals as goal

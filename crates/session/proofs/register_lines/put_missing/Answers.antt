@@ -1,10 +1,7 @@
-use Prim.Native.Nat.{◌-◌, ◌≤◌}
-use mathlib.Core.Path.{◌≡◌, refl, ◌∙◌}
+use mathlib.Core.Path.{refl, ◌∙◌}
 use native.Mathlib.Omega.{arith}
-use lib.ListN.{length, drop}
-use Rattle.text.specs.Text.{bytes, put}
-use Rattle.session.specs.RegisterLines.Lines.{name_lines}
-use Rattle.session.proofs.register_lines.Laws.{missing_in, any-names, slot-fits, missing_line, names_more, names-done}
+use Rattle.text.specs.Text.{bytes}
+use Rattle.session.proofs.register_lines.Laws.{any-names, slot-fits, missing_line, names_more, names-done}
 use Rattle.session.proofs.register_lines.put_missing.Goals as goal
 
 pub missing_count-count-requires : goal.missing_count-count-requires

@@ -1,11 +1,10 @@
 -- The invariant: the lines of the names that are left, put where the loop stands, give what all of them give.
 use Prim.Native.Nat.{◌-◌, ◌≤◌}
-use mathlib.Core.Path.{◌≡◌, refl, ◌∙◌}
-use native.Mathlib.Omega.{arith}
+use mathlib.Core.Path.{◌≡◌}
 use lib.ListN.{length, drop}
-use Rattle.text.specs.Text.{bytes, put}
+use Rattle.text.specs.Text.{put}
 use Rattle.session.specs.RegisterLines.Lines.{name_lines}
-use Rattle.session.proofs.register_lines.Laws.{missing_in, any-names, slot-fits, missing_line, names_more, names-done}
+use Rattle.session.proofs.register_lines.Laws.{missing_in}
 use Rattle.session.proofs.register_lines.put_missing.Given as goal
 
 abbrev pub invariant-loop-k : goal.invariant-loop-k

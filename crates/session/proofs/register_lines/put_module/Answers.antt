@@ -1,7 +1,5 @@
 -- The pieces of the line, one after another; the record's words are those of the module that stands there.
-use mathlib.Core.Path.{refl}
 use Rattle.text.specs.Text.{bytes}
-use Rattle.text.specs.Laws.{put_kept}
 use Rattle.session.proofs.register_lines.Laws.{name-fits, module_line_lem}
 use Rattle.session.proofs.register_lines.put_module.Goals as goal
 

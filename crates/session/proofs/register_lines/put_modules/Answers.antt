@@ -1,8 +1,6 @@
-use Prim.Native.Nat.{◌-◌}
-use mathlib.Core.Path.{◌≡◌, refl, ◌∙◌}
+use mathlib.Core.Path.{refl, ◌∙◌}
 use native.Mathlib.Omega.{arith}
-use lib.ListN.{length}
-use Rattle.session.proofs.register_lines.Laws.{ModulesLeft, left_starts, left_here, left_goes, left_ends}
+use Rattle.session.proofs.register_lines.Laws.{left_starts, left_here, left_goes, left_ends}
 use Rattle.session.proofs.register_lines.put_modules.Goals as goal
 
 pub module_count-count-requires : goal.module_count-count-requires

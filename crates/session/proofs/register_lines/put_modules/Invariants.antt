@@ -1,9 +1,8 @@
 -- The invariant: the modules that are left, their records, and their lines put where the loop stands.
 use Prim.Native.Nat.{◌-◌}
-use mathlib.Core.Path.{◌≡◌, refl, ◌∙◌}
-use native.Mathlib.Omega.{arith}
+use mathlib.Core.Path.{◌≡◌}
 use lib.ListN.{length}
-use Rattle.session.proofs.register_lines.Laws.{ModulesLeft, left_starts, left_here, left_goes, left_ends}
+use Rattle.session.proofs.register_lines.Laws.{ModulesLeft}
 use Rattle.session.proofs.register_lines.put_modules.Given as goal
 
 abbrev pub invariant-loop-k : goal.invariant-loop-k

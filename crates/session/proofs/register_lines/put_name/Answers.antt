@@ -1,6 +1,4 @@
 -- Nothing stands after the length of an empty name.
-use mathlib.Core.Path.{refl}
-use borrow.Author.Rules.{rules}
 use Rattle.text.specs.Text.{bytes}
 use Rattle.session.proofs.register_lines.Laws.{name-empty, name-bytes}
 use Rattle.session.proofs.register_lines.put_name.Goals as goal

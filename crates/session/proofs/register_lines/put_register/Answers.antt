@@ -1,5 +1,4 @@
 -- The modules do not depend on the missing list.
-use borrow.Author.Rules.{rules}
 use Rattle.register.specs.Read.Encoded.{modules_are}
 use Rattle.text.specs.Laws.{put_then}
 use Rattle.session.proofs.register_lines.put_register.Goals as goal

@@ -1,5 +1,4 @@
 use native.Mathlib.Nat.{add-zero}
-use borrow.Author.Rules.{rules}
 use Rattle.session.specs.Head.{head_word}
 use Rattle.session.specs.Steps.{step_word, step_at}
 use Rattle.session.proofs.step.step_at.Goals as goal

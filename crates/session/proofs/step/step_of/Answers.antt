@@ -1,6 +1,4 @@
 use mathlib.Core.Path.{sym, ◌∙◌}
-use borrow.Author.Tests.{not-true, not-false}
-use borrow.Author.Rules.{rules}
 use Rattle.session.proofs.step.Laws.{is_load, is_initialize, is_unload, has_size, no_call, not-zero}
 use Rattle.session.proofs.step.step_of.Goals as goal
 

@@ -1,0 +1,32 @@
+-- The tests refuse, or the call over a trace of which nothing is said: `call-refused`, `call-answered`.
+use mathlib.Core.Bool.{not}
+use lib.Dec.{eqb}
+use Rattle.linker_spec.specs.Outcome.{load_outcome, buffers, load_arguments}
+use Rattle.linker_spec.specs.Touches.{up_to_reset, load_touches}
+use Rattle.linker_spec.specs.Calls as calls
+use Rattle.fillqhano.proofs.Laws.{tests_pass, call-refused, call-answered}
+use Rattle.fillqhano.proofs.load.Goals as goal
+
+pub returns-then-refused-ne0 : goal.returns-then-refused-ne0
+unfolding load_outcome load_touches
+returns-then-refused-ne0 c =
+    let a = c.args in
+    let b = buffers a.window.now a.records.now a.names.now a.missing.now in
+    let l = load_arguments a.base a.size a.data_segment a.data_segment_size a.bss_segment a.bss_segment_size in
+    let both =
+    call-refused (calls.load l (not (eqb a.auto_link 0)) a.fix_level) (up_to_reset (calls.rebase l) a.base) a.at b c.refusal_of_buffers-refused.ensures c.if-refused-ne0.true c.clear.ensures in
+    record { answered = both.0; touches = both.1 }
+
+pub load-loaded-requires : goal.load-loaded-requires
+load-loaded-requires c = (tests_pass _ _ c.refusal_of_buffers-refused.ensures c.if-refused-ne0.false).1
+
+pub returns : goal.returns
+unfolding load_outcome load_touches
+returns c =
+    let a = c.args in
+    let b = buffers a.window.now a.records.now a.names.now a.missing.now in
+    let l = load_arguments a.base a.size a.data_segment a.data_segment_size a.bss_segment a.bss_segment_size in
+    let both =
+    call-answered (calls.load l (not (eqb a.auto_link 0)) a.fix_level) (up_to_reset (calls.rebase l) a.base) a.at b c.refusal_of_buffers-refused.ensures c.if-refused-ne0.false
+    c.load-loaded.ensures c.tell.ensures in
+    record { answered = both.0; touches = both.1 }
