@@ -8,7 +8,7 @@ use native.Mathlib.Omega.{arith}
 use lib.ListN.{length, length-append, length-drop}
 use lib.Dec.{ltb}
 use borrow.Author.Tests.{ltb-false}
-use Rattle.writer_spec.specs.Description.{image_size, image_file, image_of}
+use Rattle.writer_spec.specs.Description.{image_size, image_of}
 use Rattle.writer_spec.specs.FirstBytes.{first-length}
 use Rattle.writer_spec.specs.Accepts.{accepts}
 use Rattle.writer_spec.specs.Outcome.{Left, left, over, write_outcome}
