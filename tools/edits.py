@@ -1,18 +1,29 @@
 """What an edit is, which edits are tried together, and what a check's log says of them. `tests/edits` tries them.
 
 An edit has a comment, then lines `file: PATH`, `old: TEXT`, `new: TEXT`; the old text stands once in its file. Before `file:` one that
-must be refused has a line `# refused at: FILE LEMMA`, the place of the first error of the check: the file from its crate's folder, and the
-lemma. A refusal anywhere else is wrong, and so is one whose first error is no fact that fails (FACT) but, say, a field or a name that is
-missing: there a proof only no longer fits.
+must be refused has a line `# refused at: PLACE NAME`, the first failure that the check reports there. Of a function PLACE is the folder of
+its proof, as proofs/name/copy_name, without the + of one that calls itself, and NAME the goal that is not proved, whether a file there answers
+it or `search` does; of a lemma PLACE is its file, as specs/Cases.antt, and NAME the lemma. What fails there must be a fact (FACT), and nowhere
+may the check miss a name or a field (MISSING), since there a proof only no longer fits.
 """
 import collections
 import os
 import re
 
 # what the prover says of a fact that fails: two types or sides that differ, a goal that is not found, an equation that is left over
-FACT = re.compile(r"expected type `|does not hold|`omega`: the (?:goal|part) |`search`: no proof of|what it leaves must be a path")
-FOLLOWS = re.compile(r"was not admitted")  # what it says where only something that is cited fails
-ERROR = re.compile(r"^(.+?):\d+:\d+: error: (?:`([^`]+)`: )?(.*(?:\n  .*)*)", re.M)
+FACT = re.compile(
+    r"expected type `|does not hold|`(?:omega|grind|cc)`: |`search`: no |what it leaves must be a path|the two types|give a proof of that as the last argument"
+    r"|not proved"
+)
+MISSING = re.compile(r"has no field|has no `|is not in scope|is no name|operand is missing|expected the end|cannot continue|error\[")
+FOLLOWS = re.compile(r"was not admitted|(?:was|were) not checked")  # what it says where only something that is cited fails
+ERROR = re.compile(r"^(?:\./)?(\S+?):\d+:\d+: error: (?:`([^`]+)`: )?(.*(?:\n  .*)*)", re.M)
+# a function with a goal that nothing answers and `search` did not prove
+OPEN = re.compile(r"^fn \S+: no proof: expected answers in (?:\./)?(\S+)/Answers\.antt; `search` did not prove (.*)", re.M)
+# such goals of a function with answers to others, before the line that says of the function that it is not proved
+NOTE = re.compile(r"^note: src/\S+: it is not proved .*?\(`([^`]+)`\).*", re.M)
+NOT_PROVED = re.compile(r"^fn \w+::(\S+): not proved$", re.M)
+WALK = re.compile(r"^(proofs/.+)/(?:Answers|Invariants|Proof)\.antt$")
 # a function of the code: its head, whose last line ends with a brace, and its body
 FUNCTION = re.compile(
     r'^(?P<indent> *)(?:pub(?:\([a-z]+\))? )?(?:extern "C" )?fn (?P<name>\w+)(?:.*\n)*?.*\{\n(?P<body>(?:.*\n)*?)(?P=indent)\}$', re.M
@@ -21,14 +32,15 @@ IMPL = re.compile(r"^impl (\w+)", re.M)
 
 
 class Edit:
-    """An edit of tests/FOLDER/CRATE or of crates/CRATE/must-fail, which rt tries."""
+    """An edit of tests/FOLDER/CRATE, whose paths begin at the repository's root, or of crates/CRATE/must-fail, which rt tries too."""
 
-    def __init__(self, path):
+    def __init__(self, path, root):
         self.path, self.name = path, path.stem
         self.by_rt = path.parents[2].name == "crates"
         self.crate = path.parents[1 if self.by_rt else 0].name
         self.must_fail = self.by_rt or path.parents[1].name == "must-fail"
-        self.said = re.findall(r"^# refused at: (.*)\nfile: ", path.read_text(), re.M)
+        self.said = re.findall(r"^# refused at: (\S+ \S+)\nfile: ", path.read_text(), re.M)
+        self.root, self.base = root, f"crates/{self.crate}/" if self.by_rt else ""
 
     def judge(self, verdict, place):
         """Whether that is what the edit must come to, and what is printed of it."""
@@ -41,18 +53,18 @@ class Edit:
             return False, f"{line}, and it has {len(self.said)} lines `# refused at:` before `file:`"
         return False, f"{line}, and not at {self.said[0]}"
 
-    def changed(self, folder):
-        """The files that the edit changes, by their paths from the folder, as it leaves them; and what is wrong with it."""
+    def changed(self):
+        """The files that the edit changes, by their paths from the root, as it leaves them; and what is wrong with it."""
         texts, path, old = {}, None, None
         for line in self.path.read_text().splitlines():
             if line.startswith("file: "):
-                path = line[6:]
+                path = self.base + line[6:]
             elif line.startswith("old: "):
                 old = line[5:]
             elif line.startswith("new:"):
-                if not path or not (folder / path).is_file():
+                if not path or not (self.root / path).is_file():
                     return texts, f"no file {path}"
-                text = texts[path] if path in texts else (folder / path).read_text()
+                text = texts[path] if path in texts else (self.root / path).read_text()
                 if text.count(old) != 1:
                     return texts, f"its old text stands {text.count(old)} times: {old}"
                 texts[path] = text.replace(old, line[4:].removeprefix(" "))
@@ -78,73 +90,91 @@ class Part:
                 return "/".join(["proofs", *module, *impl, function["name"]])
         return None
 
-    def has(self, file):
-        """Whether the file is one of its function's proof; the folder of a function that calls itself begins with +."""
-        return os.path.dirname(file.replace("/+", "/")) == self.proof
 
-
-def parts(edits, root):
+def parts(edits):
     """The edits that may be tried together, each of one file of its crate's code. One that must be refused lies in the body of one function
-    and names a place in that function's proof."""
+    and names a goal of that function's proof."""
     for edit in edits:
-        texts, wrong = edit.changed(root)
+        texts, wrong = edit.changed()
         path = next(iter(texts), "")
         if wrong or len(texts) != 1 or not path.startswith(f"crates/{edit.crate}/src/"):
             continue
-        part = Part(edit, path, (root / path).read_text(), texts[path])
-        if not edit.must_fail or (len(edit.said) == 1 and part.has(edit.said[0])):
+        part = Part(edit, path, (edit.root / path).read_text(), texts[path])
+        if not edit.must_fail or (len(edit.said) == 1 and edit.said[0].split(" ")[0] == part.proof):
             yield part
 
 
-def batches(edits, root):
+def batches(edits):
     """The edits that are tried together, as their parts: of each crate the first of each function, then the second, and so on."""
     made, count = collections.defaultdict(list), collections.Counter()
-    for part in parts(edits, root):
+    for part in parts(edits):
         function = (part.edit.crate, part.proof)
         made[part.edit.crate, count[function]].append(part)
         count[function] += 1
     return [batch for batch in made.values() if len(batch) > 1]
 
 
-def with_parts(batch, root):
+def with_parts(batch):
     """The files that a batch changes, as it leaves them."""
-    texts = {part.path: (root / part.path).read_text() for part in batch}
+    texts = {part.path: (part.edit.root / part.path).read_text() for part in batch}
     for part in sorted(batch, key=lambda part: part.begin, reverse=True):
         text = texts[part.path]
         texts[part.path] = text[: part.begin] + part.new + text[part.end :]
     return texts
 
 
-def logic(log):
-    """What the check says of its crate: `proved` or `not-proved`. What it says before of crates below comes first in the log."""
-    return (re.findall(r"^logic=(\S+)", log, re.M) or [""])[-1]
+def of_crate(log):
+    """What the check says of its own crate: `proved`, `not-proved` or nothing, and its part of the log. The libraries below that it built come
+    before, each up to its line `logic=proved`."""
+    sections = re.split(r"^(logic=\S+.*)$", log, flags=re.M)
+    said = re.fullmatch(r"logic=(proved|not-proved).*", sections[-2]) if len(sections) > 2 else None
+    return (said[1] if said and " did not build, so nothing above it" not in log else ""), sections[-3] if said else ""
 
 
-def read_log(log, folder):
-    """Whether the crate in the folder is proved, and the place of the first error if not; no verdict where the check itself failed."""
-    first = ERROR.search(log)
-    if logic(log) == "proved" and not first:
+def failures(log):
+    """What fails in a crate's part of the log, in its order: places, names, and what is said of each; what only follows from another is left out."""
+    found = []
+    for error in ERROR.finditer(log):
+        if not FOLLOWS.search(error[3]):
+            walk = WALK.match(error[1])
+            found.append((error.start(), walk[1].replace("/+", "/") if walk else error[1], error[2] or "", error[3]))
+    for goal in OPEN.finditer(log):
+        found.append((goal.start(), goal[1].replace("/+", "/"), goal[2].split("`")[1], "it is not proved"))
+    for goal in NOTE.finditer(log):
+        function = NOT_PROVED.search(log, goal.end())
+        found.append((goal.start(), f"proofs/{function[1].replace('::', '/')}" if function else "", goal[1], goal[0]))
+    return [it[1:] for it in sorted(found)]
+
+
+def verdict_of(found, said):
+    """What a failure comes to: the first in the place that is said, or else the first of all, unless a name is missing."""
+    missing = [it for it in found if MISSING.search(it[2])]
+    place, name, text = (missing or [it for it in found if said and it[0] == said[0].split(" ")[0]] or found)[0]
+    return ("refused at", f"{place} {name}") if not missing and FACT.search(text) else ("REFUSED BY NO FACT at", f"{place} {name}: {text}")
+
+
+def read_log(log, edit):
+    """Whether the crate is proved, and the failure that counts if not; no verdict where the check itself failed."""
+    logic, said = of_crate(log)
+    found = failures(said)
+    if logic == "proved" and not found:
         return "accepted", ""
-    if logic(log) == "not-proved" and first and first[2] and first[1].startswith(f"{folder}/"):
-        place = f"{first[1].removeprefix(f'{folder}/')} {first[2]}"
-        return ("refused at", place) if FACT.search(first[3]) else ("REFUSED BY NO FACT at", f"{place}: {first[3]}")
-    return "NO VERDICT:", log[-600:]
+    return verdict_of(found, edit.said) if logic == "not-proved" and found else ("NO VERDICT:", log[-900:])
 
 
-def read_batch(log, folder, batch):
-    """The verdict on each edit of a batch, and its place; None where it is not clear. One that must be refused is so by the first error in
-    the file that it names, one that changes nothing is accepted if its function's proof has no error of its own. Nothing is clear where a
-    proof of no edited function has one."""
-    errors = [(file.removeprefix(f"{folder}/"), lemma, text) for file, lemma, text in ERROR.findall(log)]
-    own = [file for file, _, text in errors if not FOLLOWS.search(text)]
-    if logic(log) != "not-proved" or not all(any(part.has(file) for part in batch) for file in own):
+def read_batch(log, batch):
+    """The verdict on each edit of a batch, and its place; None where it is not clear. One that must be refused is so by the first failure of
+    its function's proof, one that changes nothing is accepted if its function's proof has none. Nothing is clear where anything else fails."""
+    logic, said = of_crate(log)
+    found = failures(said)
+    if logic != "not-proved" or {place for place, _, _ in found} - {part.proof for part in batch}:
         return [None] * len(batch)
     verdicts = []
     for part in batch:
+        own = [it for it in found if it[0] == part.proof]
         if part.edit.must_fail:
-            named, lemma = part.edit.said[0].split(" ", 1)
-            first = next(((found, text) for file, found, text in errors if file == named), ("", ""))
-            verdicts.append(("refused at", part.edit.said[0]) if first[0] == lemma and FACT.search(first[1]) else None)
+            verdict = verdict_of(own, part.edit.said) if own else None
+            verdicts.append(verdict if verdict == ("refused at", *part.edit.said) else None)
         else:
-            verdicts.append(None if any(part.has(file) for file in own) else ("accepted", "among others"))
+            verdicts.append(None if own else ("accepted", "among others"))
     return verdicts
