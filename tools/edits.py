@@ -15,7 +15,7 @@ FACT = re.compile(
     r"expected type `|does not hold|`(?:omega|grind|cc)`: |`search`: no |what it leaves must be a path|the two types|give a proof of that as the last argument"
     r"|not proved"
 )
-MISSING = re.compile(r"has no field|has no `|is not in scope|is no name|operand is missing|expected the end|cannot continue|error\[")
+MISSING = re.compile(r"has no field|has no `|is not in scope(?! here, so what is shown)|is no name|operand is missing|expected the end|cannot continue|error\[")
 FOLLOWS = re.compile(r"was not admitted|(?:was|were) not checked")  # what it says where only something that is cited fails
 ERROR = re.compile(r"^(?:\./)?(\S+?):\d+:\d+: error: (?:`([^`]+)`: )?(.*(?:\n  .*)*)", re.M)
 # a function with a goal that nothing answers and `search` did not prove
