@@ -17,10 +17,12 @@ use Rattle.linker_spec.specs.declared.rebase.Moved.TheVariants.{Bad, OldPlace}
 use Rattle.linker_spec.specs.Calls.{BadWindow, NoRegister, number, unload}
 use Rattle.linker_spec.specs.Rebase.{is_magic, move_header, move_segments}
 use Rattle.linker_spec.specs.Outcome.{Buffers, outcome_of, unload_outcome, load_arguments}
-use Rattle.linker_spec.specs.Refusals.{lent_register, answers}
+use Rattle.linker_spec.specs.Refusals.{lent_register}
+use Rattle.linker_spec.proofs.Refusals.{answers}
 use Rattle.linker_spec.specs.AnyResult.{gives_run}
-use Rattle.linker_spec.specs.Answers.{unload-0}
-use Rattle.linker_spec.specs.Numbers.{entry_number, loaded_module, initialized_module, fits_in, load-number, initialize-number}
+use Rattle.linker_spec.proofs.Counts.{unload-0}
+use Rattle.linker_spec.specs.Numbers.{entry_number, loaded_module, initialized_module, fits_in}
+use Rattle.linker_spec.proofs.Numbers.{load-number, initialize-number}
 use Rattle.linker_spec.specs.Valid.{Valid}
 use Rattle.history.specs.Below.{Each}
 use Rattle.history.specs.Steps.Asking.{true_false}

@@ -13,7 +13,8 @@ use Rattle.linker_spec.specs.declared.rebase.Rebased.{Rebased}
 use Rattle.linker_spec.specs.Calls as calls
 use Rattle.linker_spec.specs.Calls.{Answer, number, fits, add_record, initialized, linked, FirstWithBase, unknown, stands, first_with_base, leave}
 use Rattle.linker_spec.specs.Outcome.{Buffers, outcome_of}
-use Rattle.linker_spec.specs.Refusals.{lent_register, answers}
+use Rattle.linker_spec.specs.Refusals.{lent_register}
+use Rattle.linker_spec.proofs.Refusals.{answers}
 use Rattle.linker_spec.specs.AnyResult.{AnyResult, gives_run, gives_then, gives_if}
 use Rattle.history.specs.Sessions.{given}
 use Rattle.history.specs.Windows.{program, given-program}

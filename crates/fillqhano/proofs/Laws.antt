@@ -15,7 +15,7 @@ use Rattle.register.specs.Decode.{is_register}
 use Rattle.linker_spec.specs.Calls.{Answer, NoRoom, number, value}
 use Rattle.linker_spec.specs.Outcome.{Buffers, Outcome, outcome, outcome_of, call_outcome}
 use Rattle.linker_spec.specs.Touches.{no_touch, no_log, touch_in, counted, touches}
-use Rattle.linker_spec.specs.Refusals.{answers, refuses_3, refuses_4}
+use Rattle.linker_spec.proofs.Refusals.{answers, refuses_3, refuses_4}
 use Rattle.linker.specs.Calls.Traced.{call_of, traced}
 use Rattle.fillqhano.specs.Refusal.{refusal_of_buffers}
 

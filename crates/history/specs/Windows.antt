@@ -8,7 +8,8 @@ use Rattle.linker_spec.specs.Calls as calls
 use Rattle.linker_spec.specs.Calls.{Answer, NotACro, BadSegment, BadWindow, NoRegister, NoRoom, NotLoaded, Done}
 use Rattle.linker_spec.specs.Outcome.{Buffers, register_after, outcome_of, refusal_order, call_outcome, initialize_outcome, load_outcome, unload_outcome}
 use Rattle.linker_spec.specs.Refusals.{lent_register}
-use Rattle.linker_spec.specs.Valid.{Valid, AreBytes, initialize_valid, load_valid, unload_valid}
+use Rattle.linker_spec.specs.Valid.{Valid, AreBytes}
+use Rattle.linker_spec.proofs.Valid.{initialize_valid, load_valid, unload_valid}
 use Rattle.linker_spec.specs.declared.call.Call.{Call}
 use Rattle.linker_spec.specs.declared.call.Call.TheVariants.{Initialize, Load, Unload}
 use Rattle.history.specs.Sessions.{given, WordArguments}

@@ -16,7 +16,7 @@ use Rattle.window.specs.Mirror.{word, run_m, put4-off}
 use Rattle.layout.specs.Tables.{table_entry_sizes}
 use Rattle.layout.specs.Segments.{field, set_field, entry_at}
 use Rattle.linker_spec.specs.Fix.{fixed_to, fix_pair, end_tables, fix_from, fix}
-use Rattle.linker_spec.specs.Cases.{level_1}
+use Rattle.linker_spec.proofs.Cases.{level_1}
 use Rattle.history.specs.Image.{externals, entry}
 use Rattle.history.specs.LoadedModule.{Image, base_of, size_of, Area}
 use Rattle.history.specs.WellLaid.{Part, header, table, string, InPart, Touched, external, WellLaid}

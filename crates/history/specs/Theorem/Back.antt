@@ -27,8 +27,10 @@ use Rattle.linker_spec.specs.Fix.{fix}
 use Rattle.linker_spec.specs.Calls.{Answer, NotACro, BadSegment, BadWindow, NoRegister, NoRoom, NotLoaded, Done, rebase, rebase_static, fits, add_record, initialized, initialize, listed, missing_now, linked, load}
 use Rattle.linker_spec.specs.AnyResult.{Yields, yields_ret, yields_bind, yields_then, yields_if}
 use Rattle.linker_spec.specs.Room.{Fits, fits_means, with, with-small}
-use Rattle.linker_spec.specs.Valid.{MissingNames, imports_yield}
-use Rattle.linker_spec.specs.Reads.{Readable, read_module_yields}
+use Rattle.linker_spec.specs.Valid.{MissingNames}
+use Rattle.linker_spec.proofs.Valid.{imports_yield}
+use Rattle.linker_spec.specs.Reads.{Readable}
+use Rattle.linker_spec.proofs.Recorded.{read_module_yields}
 use Rattle.history.specs.Sessions.Answers.{encoded-back}
 
 abbrev pub Back : ℕ → ℕ → Register → Type 0

@@ -29,7 +29,7 @@ use Rattle.linker_spec.specs.Outcome.{Buffers, Outcome, register_after, outcome_
 use Rattle.linker_spec.specs.Touches.{reset_rebased, up_to_reset, counted}
 use Rattle.linker_spec.specs.Refusals.{lent_register}
 use Rattle.linker_spec.specs.Room.{fits_means}
-use Rattle.linker_spec.specs.Reads.{read_module_yields}
+use Rattle.linker_spec.proofs.Recorded.{read_module_yields}
 use Rattle.linker.specs.Imports.Modules.{modules_are}
 use Rattle.linker.specs.Resets.Modules.{other_than}
 use Rattle.linker.specs.Entry.Entry.{EntryResult, record_added}
