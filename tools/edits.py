@@ -1,6 +1,8 @@
 """What an edit is, which edits are tried together, and what a check's log says of them. `tests/edits` tries them.
 
-An edit has a comment, then lines `file: PATH`, `old: TEXT`, `new: TEXT`; the old text stands once in its file. Before `file:` one that
+An edit has a comment, then lines `file: PATH`, `old: TEXT`, `new: TEXT`; the old text stands once in its file. A test that is changed may have
+another name in the proof of its function, as if-n-eq0 and if-n-eq1; a line `names: FOLDER OLD NEW` says that OLD is NEW in the names that the
+proof in this folder cites, so that it is refused for what it says and not for a name that is missing. Before `file:` an edit that
 must be refused has a line `# refused at: PLACE NAME`, the first failure that the check reports there. Of a function PLACE is the folder of
 its proof, as proofs/name/copy_name, without the + of one that calls itself, and NAME the goal that is not proved, whether a file there answers
 it or `search` does; of a lemma PLACE is its file, as specs/Cases.antt, and NAME the lemma. What fails there must be a fact (FACT), and nowhere
@@ -41,6 +43,9 @@ class Edit:
         self.must_fail = self.by_rt or path.parents[1].name == "must-fail"
         self.said = re.findall(r"^# refused at: (\S+ \S+)\nfile: ", path.read_text(), re.M)
         self.root, self.base = root, f"crates/{self.crate}/" if self.by_rt else ""
+        self.names = collections.defaultdict(dict)
+        for folder, old, new in re.findall(r"^names: (\S+) (\S+) (\S+)$", path.read_text(), re.M):
+            self.names[folder][old] = new
 
     def judge(self, verdict, place):
         """Whether that is what the edit must come to, and what is printed of it."""
@@ -68,15 +73,26 @@ class Edit:
                 if text.count(old) != 1:
                     return texts, f"its old text stands {text.count(old)} times: {old}"
                 texts[path] = text.replace(old, line[4:].removeprefix(" "))
-        return texts, "" if texts else "it changes nothing"
+        renamed = self.renamed()
+        return {**texts, **renamed}, "" if texts and len(renamed) >= len(self.names) else "it changes nothing, or a name is nowhere"
+
+    def renamed(self):
+        """The files of proofs that cite other names, as they leave them."""
+        texts = {}
+        for folder, new in self.names.items():
+            old = re.compile(rf"(?<![\w'])({'|'.join(sorted(map(re.escape, new), key=len, reverse=True))})(?![\w']|-\d)")
+            for path in sorted((self.root / folder).glob("*.antt")):
+                if old.search(path.read_text()):
+                    texts[str(path.relative_to(self.root))] = old.sub(lambda name: new[name[0]], path.read_text())
+        return texts
 
 
 class Part:
     """An edit of one file of the code, as the part of it that changes: from `begin` to `end` comes `new`. `proof` is the folder of the proof
-    of the function in whose body the part lies, or None."""
+    of the function in whose body the part lies, or None; `renamed` are the files of that proof, where a test has another name."""
 
     def __init__(self, edit, path, text, changed):
-        self.edit, self.path = edit, path
+        self.edit, self.path, self.renamed = edit, path, edit.renamed()
         self.begin = len(os.path.commonprefix([text, changed]))
         after = len(os.path.commonprefix([text[self.begin :][::-1], changed[self.begin :][::-1]]))
         self.end, self.new = len(text) - after, changed[self.begin : len(changed) - after]
@@ -97,10 +113,11 @@ def parts(edits):
     for edit in edits:
         texts, wrong = edit.changed()
         path = next(iter(texts), "")
-        if wrong or len(texts) != 1 or not path.startswith(f"crates/{edit.crate}/src/"):
+        if wrong or len(texts) != 1 + len(edit.renamed()) or not path.startswith(f"crates/{edit.crate}/src/"):
             continue
         part = Part(edit, path, (edit.root / path).read_text(), texts[path])
-        if not edit.must_fail or (len(edit.said) == 1 and edit.said[0].split(" ")[0] == part.proof):
+        in_place = part.proof and all(folder.replace("/+", "/") == f"crates/{edit.crate}/{part.proof}" for folder in edit.names)
+        if not edit.must_fail or (in_place and len(edit.said) == 1 and edit.said[0].split(" ")[0] == part.proof):
             yield part
 
 
@@ -117,6 +134,8 @@ def batches(edits):
 def with_parts(batch):
     """The files that a batch changes, as it leaves them."""
     texts = {part.path: (part.edit.root / part.path).read_text() for part in batch}
+    for part in batch:
+        texts.update(part.renamed)
     for part in sorted(batch, key=lambda part: part.begin, reverse=True):
         text = texts[part.path]
         texts[part.path] = text[: part.begin] + part.new + text[part.end :]

@@ -58,5 +58,4 @@ returns c =
     let l = c.loop-n in
     let h : l.n ≤ length l.buffer = omega arith in
     let e = name_full _ 512 _ _ _ c.loop-n-test.false in
-    let some = c.if-address-eq0.false in
-    rw (name_some _ some) (all_laid _ _ _ h l.invariant.3 e l.invariant.4)
+    rw (name_some _ c.if-address-eq0.false) (all_laid _ _ _ h l.invariant.3 e l.invariant.4)
