@@ -1,7 +1,7 @@
 /* The linker of CRO modules: three calls over memory that the host lends; a service desk above it, two calls; and a writer of CRO images, two calls.
  *
  * target/lib/libfillqhano.a, which host/build makes, has the calls with the prefix fillqhano_: fillqhano_initialize and so on.
- * A host that links the library as it was proved, target/staticlib/libfillqhano.a, where they are `initialize`, `load`,
+ * A host that links the library with the plain names, target/staticlib/libfillqhano.a, where they are `initialize`, `load`,
  * `unload`, `write_image`, `read_image`, `send` and `turn`, defines FILLQHANO_PLAIN_NAMES before it includes this; all below then calls those.
  * `send` is also the name of a function of the C library's sockets: a host that uses sockets takes the library with the prefix.
  *
