@@ -22,9 +22,9 @@ FOLLOWS = re.compile(r"was not admitted|(?:was|were) not checked")  # what it sa
 ERROR = re.compile(r"^(?:\./)?(\S+?):\d+:\d+: error: (?:`([^`]+)`: )?(.*(?:\n  .*)*)", re.M)
 # a function with a goal that nothing answers and `search` did not prove
 OPEN = re.compile(r"^fn \S+: no proof: expected answers in (?:\./)?(\S+)/Answers\.antt; `search` did not prove (.*)", re.M)
-# such goals of a function with answers to others, before the line that says of the function that it is not proved
+# such a goal, where a function has answers to others too, before the line that says so of the function
 NOTE = re.compile(r"^note: src/\S+: it is not proved .*?\(`([^`]+)`\).*", re.M)
-NOT_PROVED = re.compile(r"^fn \w+::(\S+): not proved\b", re.M)
+NOT_PROVED = re.compile(r"^fn \w+::(\S+): (?:not proved|no proof: expected)\b", re.M)
 WALK = re.compile(r"^(proofs/.+)/(?:Answers|Invariants|Proof)\.antt$")
 # a function of the code: its head, whose last line ends with a brace, and its body
 FUNCTION = re.compile(
