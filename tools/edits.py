@@ -12,19 +12,22 @@ import collections
 import os
 import re
 
-# what the prover says of a fact that fails: two types or sides that differ, a goal that is not found, an equation that is left over
+# what the prover says of a fact that fails: two types or sides that differ, a goal that does not follow, an equation that is left over; a goal that
+# `search` did not prove is one too, unless all that is said of it is that `search` gave up at a limit
 FACT = re.compile(
-    r"expected type `|does not hold|`(?:omega|grind|cc)`: |`search`: no |what it leaves must be a path|the two types|give a proof of that as the last argument"
-    r"|not proved"
+    r"expected type `|does not hold|`omega`: (?:the (?:goal|part) |a listed rule )|`grind`: the goal does not follow|`cc`: the equations do not join"
+    r"|`search`: no proof of |what it leaves must be a path|allow values at which this goal is false"
+    r"|^note: src/\S+: it is not proved that (?!.*gave up at one of its limits)"
 )
-MISSING = re.compile(r"has no field|has no `|is not in scope(?! here, so what is shown)|is no name|operand is missing|expected the end|cannot continue|error\[")
+MISSING = re.compile(r"has no field|has no `|is not in scope(?! here, so what is shown)|is no name|operand is missing|expected the end|cannot continue")
+NOT_READ = re.compile(r"\berror\[[\w-]+\]")  # code that does not compile, of which nothing is proved or refused
 FOLLOWS = re.compile(r"was not admitted|(?:was|were) not checked")  # what it says where only something that is cited fails
 ERROR = re.compile(r"^(?:\./)?(\S+?):\d+:\d+: error: (?:`([^`]+)`: )?(.*(?:\n  .*)*)", re.M)
 # a function with a goal that nothing answers and `search` did not prove
 OPEN = re.compile(r"^fn \S+: no proof: expected answers in (?:\./)?(\S+)/Answers\.antt; `search` did not prove (.*)", re.M)
-# such a goal, where a function has answers to others too, before the line that says so of the function
+# what is said of each such goal, and of those of a function with answers to others, before the line that says how the function stands
 NOTE = re.compile(r"^note: src/\S+: it is not proved .*?\(`([^`]+)`\).*", re.M)
-NOT_PROVED = re.compile(r"^fn \w+::(\S+): (?:not proved|no proof: expected)\b", re.M)
+NOT_PROVED = re.compile(r"^fn \w+::(\S+): (not proved|no proof: expected)\b", re.M)
 WALK = re.compile(r"^(proofs/.+)/(?:Answers|Invariants|Proof)\.antt$")
 # a function of the code: its head, whose last line ends with a brace, and its body
 FUNCTION = re.compile(
@@ -74,16 +77,22 @@ class Edit:
                     return texts, f"its old text stands {text.count(old)} times: {old}"
                 texts[path] = text.replace(old, line[4:].removeprefix(" "))
         renamed = self.renamed()
-        return {**texts, **renamed}, "" if texts and len(renamed) >= len(self.names) else "it changes nothing, or a name is nowhere"
+        if self.by_rt and self.names:
+            return texts, "rt reads no line `names:`"
+        nowhere = [f"{folder} {old}" for folder, new in self.names.items() for old in new if not self.cited(folder, [old])]
+        return {**texts, **renamed}, f"no proof cites {nowhere[0]}" if nowhere else "" if texts else "it changes nothing"
+
+    def cited(self, folder, names):
+        """The files of a proof that cite one of these names, and how they cite them."""
+        name = re.compile(rf"(?<![\w'])({'|'.join(sorted(map(re.escape, names), key=len, reverse=True))})(?![\w']|-\d)")
+        return [(path, name) for path in sorted((self.root / folder).glob("*.antt")) if name.search(path.read_text())]
 
     def renamed(self):
         """The files of proofs that cite other names, as they leave them."""
         texts = {}
         for folder, new in self.names.items():
-            old = re.compile(rf"(?<![\w'])({'|'.join(sorted(map(re.escape, new), key=len, reverse=True))})(?![\w']|-\d)")
-            for path in sorted((self.root / folder).glob("*.antt")):
-                if old.search(path.read_text()):
-                    texts[str(path.relative_to(self.root))] = old.sub(lambda name: new[name[0]], path.read_text())
+            for path, old in self.cited(folder, new):
+                texts[str(path.relative_to(self.root))] = old.sub(lambda name: new[name[0]], path.read_text())
         return texts
 
 
@@ -157,19 +166,26 @@ def failures(log):
         if not FOLLOWS.search(error[3]):
             walk = WALK.match(error[1])
             found.append((error.start(), walk[1].replace("/+", "/") if walk else error[1], error[2] or "", error[3]))
-    for goal in OPEN.finditer(log):
-        found.append((goal.start(), goal[1].replace("/+", "/"), goal[2].split("`")[1], "it is not proved"))
+    notes = {}  # of each function that has no answers: what is said of its goals
     for goal in NOTE.finditer(log):
         function = NOT_PROVED.search(log, goal.end())
-        found.append((goal.start(), f"proofs/{function[1].replace('::', '/')}" if function else "", goal[1], goal[0]))
+        if function and function[2] != "not proved":
+            notes[function.start(), goal[1]] = goal[0]
+        else:
+            found.append((goal.start(), f"proofs/{function[1].replace('::', '/')}" if function else "", goal[1], goal[0]))
+    for goal in OPEN.finditer(log):
+        name = goal[2].split("`")[1]
+        found.append((goal.start(), goal[1].replace("/+", "/"), name, notes.get((goal.start(), name), "nothing is said of why")))
     return [it[1:] for it in sorted(found)]
 
 
-def verdict_of(found, said):
-    """What a failure comes to: the first in the place that is said, or else the first of all, unless a name is missing."""
-    missing = [it for it in found if MISSING.search(it[2])]
-    place, name, text = (missing or [it for it in found if said and it[0] == said[0].split(" ")[0]] or found)[0]
-    return ("refused at", f"{place} {name}") if not missing and FACT.search(text) else ("REFUSED BY NO FACT at", f"{place} {name}: {text}")
+def verdict_of(found, edit):
+    """What a failure comes to: the first in the place that is said, or else the first of all, unless a name is missing, a file does not read or
+    something that is no fact fails in a file that is edited."""
+    edited = {path.removeprefix(f"crates/{edit.crate}/") for path in edit.changed()[0]}
+    unfit = [it for it in found if MISSING.search(it[2]) or ((not it[1] or it[0] in edited) and not FACT.search(it[2]))]
+    place, name, text = (unfit or [it for it in found if edit.said and it[0] == edit.said[0].split(" ")[0]] or found)[0]
+    return ("refused at", f"{place} {name}") if not unfit and FACT.search(text) else ("REFUSED BY NO FACT at", f"{place} {name}: {text}")
 
 
 def read_log(log, edit):
@@ -178,7 +194,8 @@ def read_log(log, edit):
     found = failures(said)
     if logic == "proved" and not found:
         return "accepted", ""
-    return verdict_of(found, edit.said) if logic == "not-proved" and found else ("NO VERDICT:", log[-900:])
+    refused = logic == "not-proved" and found and not NOT_READ.search(log)
+    return verdict_of(found, edit) if refused else ("NO VERDICT:", log[-900:])
 
 
 def read_batch(log, batch):
@@ -186,13 +203,13 @@ def read_batch(log, batch):
     its function's proof, one that changes nothing is accepted if its function's proof has none. Nothing is clear where anything else fails."""
     logic, said = of_crate(log)
     found = failures(said)
-    if logic != "not-proved" or {place for place, _, _ in found} - {part.proof for part in batch}:
+    if logic != "not-proved" or NOT_READ.search(log) or {place for place, _, _ in found} - {part.proof for part in batch}:
         return [None] * len(batch)
     verdicts = []
     for part in batch:
         own = [it for it in found if it[0] == part.proof]
         if part.edit.must_fail:
-            verdict = verdict_of(own, part.edit.said) if own else None
+            verdict = verdict_of(own, part.edit) if own else None
             verdicts.append(verdict if verdict == ("refused at", *part.edit.said) else None)
         else:
             verdicts.append(None if own else ("accepted", "among others"))
