@@ -1,6 +1,6 @@
 -- What a module's record holds, whatever its image: names, ascending exports, at most 16 segments, 32-bit numbers. And that missing
 -- names are names, at most 64.
-use Rattle.std.specs.Prelude.{if◌then◌else◌, ℕ, ◌+◌, ◌^◌, ◌≤◌, ◌<◌, ◌≡◌, refl, Bool, true, false, length, take, ltb}
+use Rattle.std.specs.Prelude.{if◌then◌else◌, ℕ, ◌^◌, ◌≤◌, ◌<◌, ◌≡◌, refl, Bool, true, false, length, take, ltb}
 use mathlib.Core.List.{List, [], ◌∷◌, ◌++◌}
 use Rattle.std.proofs.Common.{arith, length-take, le-leb}
 use Rattle.window.specs.Memory.{◌⊕◌}

@@ -1,10 +1,8 @@
 -- The arguments and the segment of document 01's cases with Data size 16 and 17.
-use Prim.Native.Nat.{ℕ, ◌-◌}
-use Rattle.layout.specs.Segments.{segment}
+use Prim.Native.Nat.{ℕ}
 use Rattle.layout.specs.declared.format.Segment.{Segment}
 use Rattle.layout.specs.declared.format.SegmentType.TheVariants.{Data}
 use Rattle.linker_spec.specs.declared.rebase.LoadArguments.{LoadArguments}
-use Rattle.linker_spec.specs.Rebase.{place}
 
 -- "Data size 16 / 17, lent 16": the segment gets its place / is refused
 abbrev pub lent_16 : (base size data-segment bss-segment bss-segment-size : ℕ) → LoadArguments

@@ -1,16 +1,15 @@
 -- What the number of a load and of an `initialize` rests on: the record that is read after the rebase, and whether it fits.
-use Rattle.std.specs.Prelude.{if◌then◌else◌, ℕ, Bool, not, length}
+use Rattle.std.specs.Prelude.{if◌then◌else◌, ℕ, Bool, length}
 use mathlib.Core.List.{List}
 use Rattle.std.proofs.Math.Bool.{true}
 use Rattle.window.specs.Access.{run}
-use Rattle.layout.specs.Header.{magic}
 use Rattle.register.specs.Module.{Module}
 use Rattle.linker_spec.specs.declared.rebase.LoadArguments.{LoadArguments}
 use Rattle.linker_spec.specs.declared.rebase.Moved.{Moved}
 use Rattle.linker_spec.specs.declared.rebase.Moved.TheVariants.{Bad, OldPlace}
 use Rattle.linker_spec.specs.Relocation.{reset_external_relocations}
 use Rattle.linker_spec.specs.Exports.{read_module}
-use Rattle.linker_spec.specs.Calls.{number, rebase, rebase_static, fits, initialize, load}
+use Rattle.linker_spec.specs.Calls.{rebase, rebase_static, fits}
 use Rattle.linker_spec.specs.Outcome.{Buffers}
 use Rattle.linker_spec.specs.Refusals.{lent_register}
 

@@ -3,7 +3,7 @@ use Rattle.std.specs.Prelude.{if◌then◌else◌, ℕ, ◌+◌, ◌*◌, List, 
 use Rattle.window.specs.Memory.{◌⊕◌, ◌⊖◌}
 use Rattle.window.specs.Access.{Prog, ret, ◌>>=◌, ◌>>◌, get32, put32}
 use Rattle.window.specs.Loop.{loop}
-use Rattle.layout.specs.Header.{magic, name_offset, first_rebased, segment_num}
+use Rattle.layout.specs.Header.{name_offset, first_rebased, segment_num}
 use Rattle.layout.specs.Segments.{field, entry_at, segment, set_segment}
 use Rattle.layout.specs.declared.format.Segment.{Segment}
 use Rattle.layout.specs.declared.format.SegmentType.{SegmentType}

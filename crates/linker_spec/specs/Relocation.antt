@@ -1,5 +1,5 @@
 -- Relocation: internal relocations, the reset of external ones, and the batch walk.
-use Rattle.std.specs.Prelude.{if◌then◌else◌, ℕ, zero, suc, ◌+◌, Bool, true, false, eqb, ltb}
+use Rattle.std.specs.Prelude.{if◌then◌else◌, ℕ, zero, suc, Bool, true, false, eqb, ltb}
 use Rattle.window.specs.Memory.{◌⊕◌}
 use Rattle.window.specs.Access.{Prog, ret, ◌>>=◌, ◌>>◌, get8, get32, put8}
 use Rattle.window.specs.Loop.{loop}
@@ -7,7 +7,6 @@ use Rattle.layout.specs.Header.{internal_relocation_table_offset, internal_reloc
 use Rattle.layout.specs.Format.{relocation_type, tag_segment, tag_offset}
 use Rattle.layout.specs.Segments.{field, entry_at, segment, tag_to_address}
 use Rattle.layout.specs.Relocation.Relocation.{apply_relocation}
-use Rattle.layout.specs.declared.format.Segment.{Segment}
 use Rattle.layout.specs.declared.format.SegmentType.{SegmentType}
 use Rattle.layout.specs.declared.format.SegmentType.TheVariants.{Code, RoData, Data, Bss}
 use Rattle.layout.specs.declared.segments.FoundSegment.{FoundSegment}

@@ -1,4 +1,6 @@
 // What the linker does: the steps of cro/mod.rs, the three calls and their outcomes, defined in specs/, and the theorems about them.
 // There is no code; here stand the types that the steps hand on.
+#![tactic(auto)]
+
 pub mod call;
 pub mod rebase;

@@ -1,4 +1,6 @@
 // Number 4's test: whether the three buffers are an encoding of a register. It ends on any bytes and reads none outside.
+#![tactic(auto)]
+
 mod ascending;
 mod records;
 

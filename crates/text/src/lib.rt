@@ -1,4 +1,6 @@
 // Text in a lent buffer, put piece by piece; what does not fit is left out.
+#![tactic(auto)]
+
 ghost use Rattle.std.specs.Prelude.{◌≡◌, ◌^◌, ◌≤◌, ◌<◌};
 ghost use Rattle.text.specs.Text.{digit_of, digits_in, decimal_of, hex_of, pairs_of, put};
 

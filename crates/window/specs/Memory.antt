@@ -1,6 +1,6 @@
 -- Document 01, "memory/mod.rs: the window": "The window is a lent byte slice and its first address."
 -- Here `at` is the first address and `w` the list of the bytes. Every number is an address: the one that it is modulo 2 ^ 32.
-use Rattle.std.specs.Prelude.{if◌then◌else◌, ℕ, zero, suc, ◌+◌, ◌-◌, ◌*◌, ◌/◌, ◌%◌, ◌^◌, Bool, true, false, ◌&&◌, List, length, ◌==◌, nat_le, nat_lt, slice_index, slice_set}
+use Rattle.std.specs.Prelude.{if◌then◌else◌, ℕ, zero, suc, ◌+◌, ◌-◌, ◌*◌, ◌/◌, ◌%◌, ◌^◌, Bool, ◌&&◌, List, length, ◌==◌, nat_le, nat_lt, slice_index, slice_set}
 
 infixl 60 ◌⊕◌
 infixl 60 ◌⊖◌

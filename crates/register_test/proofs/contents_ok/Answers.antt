@@ -1,7 +1,6 @@
 use mathlib.Core.Path.{sym, ◌∙◌}
 use lib.Seq.{length-take-le}
 use borrow.Author.Tests.{not-true, not-false}
-use borrow.Author.Rules.{rules}
 use Rattle.register_test.proofs.Contents.{modules_are, slots_are, modules_wrong, slots-wrong, records-wrong, names-wrong, contents_right}
 use Rattle.register_test.proofs.contents_ok.Goals as goal
 

@@ -1,5 +1,4 @@
 use borrow.Author.Tests.{eq-eqb, ne_eqb, le-leb, lt-leb}
-use borrow.Author.Rules.{rules}
 use Rattle.register.specs.Check.{counts_ok}
 use Rattle.register_test.proofs.counts_ok.Goals as goal
 

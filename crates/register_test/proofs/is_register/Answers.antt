@@ -1,7 +1,6 @@
 use mathlib.Core.Path.{refl, sym, ◌∙◌}
 use native.Mathlib.Omega.{arith}
 use borrow.Author.Tests.{eq-eqb, ne_eqb, le-leb, lt-leb, not-true, not-false}
-use borrow.Author.Rules.{rules}
 use Rattle.register.specs.CheckIs.{counts, sizes}
 use Rattle.register_test.proofs.Laws.{in_steps}
 use Rattle.register_test.proofs.is_register.Goals as goal

@@ -1,7 +1,5 @@
 use mathlib.Core.Path.{refl}
 use native.Mathlib.Omega.{arith}
-use borrow.Author.Tests.{not-true, not-false}
-use borrow.Author.Rules.{rules}
 use Rattle.register.specs.Decode.{slot_length}
 use Rattle.register_test.proofs.Laws.{slot_long, slot-zero, slot-rest}
 use Rattle.register_test.proofs.slot_ok.Goals as goal

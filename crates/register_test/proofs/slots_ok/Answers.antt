@@ -1,10 +1,8 @@
-use Prim.Native.Nat.{◌≤◌, ◌+◌, ◌*◌, ◌-◌}
+use Prim.Native.Nat.{◌+◌, ◌-◌}
 use mathlib.Core.Path.{◌≡◌, refl, ◌∙◌}
 use native.Mathlib.Omega.{arith}
 use lib.Seq.{length-take-le}
 use lib.ListN.{length-drop, length, drop}
-use borrow.Author.Tests.{not-true, not-false}
-use Rattle.register.specs.Check.{slots_ok}
 use Rattle.register_test.proofs.Laws.{slot_bad, slot_on, slots_end}
 use Rattle.register_test.proofs.slots_ok.Goals as goal
 

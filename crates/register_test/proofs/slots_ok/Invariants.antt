@@ -1,11 +1,7 @@
-use Prim.Native.Nat.{◌≤◌, ◌+◌, ◌*◌, ◌-◌}
-use mathlib.Core.Path.{◌≡◌, refl, ◌∙◌}
-use native.Mathlib.Omega.{arith}
-use lib.Seq.{length-take-le}
-use lib.ListN.{length-drop, length, drop}
-use borrow.Author.Tests.{not-true, not-false}
+use Prim.Native.Nat.{◌≤◌, ◌*◌, ◌-◌}
+use mathlib.Core.Path.{◌≡◌}
+use lib.ListN.{drop}
 use Rattle.register.specs.Check.{slots_ok}
-use Rattle.register_test.proofs.Laws.{slot_bad, slot_on, slots_end}
 use Rattle.register_test.proofs.slots_ok.Given as goal
 
 abbrev pub invariant-loop-k : goal.invariant-loop-k

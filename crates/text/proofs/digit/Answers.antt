@@ -1,6 +1,5 @@
 -- The constant is the text of the definition.
 use mathlib.Core.Path.{refl}
-use borrow.Author.Rules.{rules}
 use Rattle.text.specs.Text.{digit_of, bytes}
 use Rattle.text.proofs.digit.Goals as goal
 

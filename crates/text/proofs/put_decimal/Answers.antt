@@ -1,5 +1,4 @@
 -- A word has at most ten decimal digits.
-use borrow.Author.Rules.{rules}
 use Rattle.text.specs.Text.{decimal_of}
 use Rattle.text.proofs.put_decimal.Goals as goal
 

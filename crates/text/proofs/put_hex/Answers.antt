@@ -1,7 +1,6 @@
 -- A word has at most eight hex digits.
 use mathlib.Core.Path.{ap, ◌∙◌}
 use native.Mathlib.Omega.{arith}
-use borrow.Author.Rules.{rules}
 use Rattle.text.specs.Text.{hex_of, put}
 use Rattle.text.specs.Laws.{digits_enough}
 use Rattle.text.proofs.put_hex.Goals as goal

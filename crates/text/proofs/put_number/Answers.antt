@@ -1,12 +1,11 @@
-use Prim.Native.Nat.{◌+◌, ◌-◌, ◌^◌, ◌≤◌, ◌<◌}
+use Prim.Native.Nat.{◌+◌, ◌-◌}
 use mathlib.Core.Path.{◌≡◌, refl, ap, ◌∙◌}
-use mathlib.Core.List.{◌++◌, append-nil}
+use mathlib.Core.List.{append-nil}
 use native.Mathlib.Omega.{arith}
 use native.Mathlib.Nat.{mod-lt}
 use native.Mathlib.Numerals.{add-one}
-use lib.ListN.{length, drop, length-set}
-use borrow.Author.Rules.{rules}
-use Rattle.text.specs.Text.{digits_in, put}
+use lib.ListN.{length-set}
+use Rattle.text.specs.Text.{put}
 use Rattle.text.specs.Laws.{shorter}
 use Rattle.text.proofs.Laws.{more_left, digit_more, digit_last}
 use Rattle.text.proofs.put_number.Goals as goal

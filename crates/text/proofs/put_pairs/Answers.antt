@@ -1,7 +1,5 @@
-use Prim.Native.Nat.{◌-◌, ◌≤◌}
-use mathlib.Core.Path.{◌≡◌, refl, ap, ◌∙◌}
+use mathlib.Core.Path.{refl, ap, ◌∙◌}
 use native.Mathlib.Omega.{arith}
-use lib.ListN.{length, drop}
 use Rattle.text.specs.Text.{pairs_of, put}
 use Rattle.text.proofs.Laws.{pair-more, pairs-done}
 use Rattle.text.proofs.put_pairs.Goals as goal

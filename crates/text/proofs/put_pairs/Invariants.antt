@@ -1,10 +1,8 @@
 -- The invariant: the pairs of the bytes that are left, put where the loop stands, give what the pairs of all give.
 use Prim.Native.Nat.{◌-◌, ◌≤◌}
-use mathlib.Core.Path.{◌≡◌, refl, ap, ◌∙◌}
-use native.Mathlib.Omega.{arith}
+use mathlib.Core.Path.{◌≡◌}
 use lib.ListN.{length, drop}
 use Rattle.text.specs.Text.{pairs_of, put}
-use Rattle.text.proofs.Laws.{pair-more, pairs-done}
 use Rattle.text.proofs.put_pairs.Given as goal
 
 abbrev pub invariant-loop-k : goal.invariant-loop-k

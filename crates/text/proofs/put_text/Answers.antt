@@ -1,9 +1,5 @@
-use Prim.Native.Nat.{◌-◌, ◌≤◌}
-use mathlib.Core.Path.{◌≡◌, refl, ◌∙◌}
-use mathlib.Core.Logic.{⊎_elim}
+use mathlib.Core.Path.{refl, ◌∙◌}
 use native.Mathlib.Omega.{arith}
-use lib.ListN.{length, drop}
-use Rattle.text.specs.Text.{put}
 use Rattle.text.proofs.Laws.{byte_in, byte_out, put-done}
 use Rattle.text.proofs.put_text.Goals as goal
 use Rattle.text.proofs.put_text.Goals.{then-i-out, else-i-out}

@@ -1,11 +1,8 @@
 -- The invariant: what is left of the text, put where the loop stands, gives what the whole text gives.
 use Prim.Native.Nat.{◌-◌, ◌≤◌}
-use mathlib.Core.Path.{◌≡◌, refl, ◌∙◌}
-use mathlib.Core.Logic.{⊎_elim}
-use native.Mathlib.Omega.{arith}
+use mathlib.Core.Path.{◌≡◌}
 use lib.ListN.{length, drop}
 use Rattle.text.specs.Text.{put}
-use Rattle.text.proofs.Laws.{byte_in, byte_out, put-done}
 use Rattle.text.proofs.put_text.Given as goal
 
 abbrev pub invariant-loop-k : goal.invariant-loop-k

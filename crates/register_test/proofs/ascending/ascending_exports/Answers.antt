@@ -1,12 +1,6 @@
-use Prim.Native.Nat.{◌-◌, ◌/◌, ◌≤◌}
-use mathlib.Core.Path.{◌≡◌, ap, ◌∙◌}
+use mathlib.Core.Path.{ap, ◌∙◌}
 use native.Mathlib.Omega.{arith}
-use lib.ListN.{length}
-use borrow.Author.Tests.{not-true, not-false}
-use borrow.Author.Rules.{rules}
-use Rattle.register.specs.Words.{words_in}
 use Rattle.register.specs.Module.{ascending}
-use Rattle.register.specs.Decode.{exports_from, exports_in}
 use Rattle.register.proofs.ExportLoops.{all_exports}
 use Rattle.register_test.proofs.ascending.Laws.{ascending-stop, ascending_goes, ascending_end}
 use Rattle.register_test.proofs.ascending.ascending_exports.Goals as goal

@@ -1,5 +1,4 @@
 use mathlib.Core.Path.{sym, ap, ◌∙◌}
-use borrow.Author.Rules.{rules}
 use Rattle.register.specs.Module.{is_before}
 use Rattle.register_test.proofs.ascending.is_before.Goals as goal
 

@@ -1,11 +1,5 @@
-use Prim.Native.Nat.{◌-◌, ◌/◌}
-use mathlib.Core.Path.{◌≡◌, ◌∙◌}
+use mathlib.Core.Path.{◌∙◌}
 use native.Mathlib.Omega.{arith}
-use lib.ListN.{length}
-use borrow.Author.Tests.{not-true, not-false}
-use borrow.Author.Rules.{rules}
-use Rattle.register.specs.Words.{words_in}
-use Rattle.register.specs.Check.{exports_end}
 use Rattle.register_test.proofs.records.Loops.{end_bad, end_on, end_done, end_all, name-inside}
 use Rattle.register_test.proofs.records.exports_end.Goals as goal
 

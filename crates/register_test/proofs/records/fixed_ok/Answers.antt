@@ -1,5 +1,4 @@
 use borrow.Author.Tests.{le-leb, lt-leb}
-use borrow.Author.Rules.{rules}
 use Rattle.register.specs.Words.{length-words}
 use Rattle.register.specs.Check.{fixed_ok}
 use Rattle.register_test.proofs.records.fixed_ok.Goals as goal

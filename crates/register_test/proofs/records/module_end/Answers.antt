@@ -1,7 +1,5 @@
 use mathlib.Core.Path.{refl}
 use native.Mathlib.Omega.{arith}
-use borrow.Author.Tests.{not-true, not-false}
-use borrow.Author.Rules.{rules}
 use Rattle.register.specs.Words.{words_in}
 use Rattle.register_test.proofs.records.Loops.{fixed_size_lem, fixed_name, size-bytes, export_words_lem, module_bad, module_disordered, module_end_lem}
 use Rattle.register_test.proofs.records.module_end.Goals as goal

@@ -1,10 +1,6 @@
-use Prim.Native.Nat.{◌-◌, ◌%◌, ◌≤◌}
+use Prim.Native.Nat.{◌-◌}
 use mathlib.Core.Path.{◌≡◌, ◌∙◌}
 use native.Mathlib.Omega.{arith}
-use lib.ListN.{length, drop}
-use borrow.Author.Rules.{rules}
-use Rattle.register.specs.Words.{words_in}
-use Rattle.register.specs.Check.{modules_ok}
 use Rattle.register_test.proofs.records.Loops.{place-fits, modules_more, modules_done, modules_bad, modules_on}
 use Rattle.register.proofs.Laws.{rest_of}
 use Rattle.register_test.proofs.records.modules_ok.Goals as goal

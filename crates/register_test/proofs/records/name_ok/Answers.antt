@@ -1,5 +1,4 @@
 use borrow.Author.Tests.{eq-eqb, ne_eqb, le-leb, lt-leb}
-use borrow.Author.Rules.{rules}
 use Rattle.register.specs.Check.{name_ok}
 use Rattle.register_test.proofs.records.Loops.{name_good}
 use Rattle.register_test.proofs.records.name_ok.Goals as goal

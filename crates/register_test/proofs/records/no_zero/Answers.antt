@@ -1,9 +1,7 @@
-use Prim.Native.Nat.{◌+◌, ◌-◌}
+use Prim.Native.Nat.{◌+◌}
 use mathlib.Core.Bool.{◌&&◌}
-use mathlib.Core.Logic.{⊎_elim}
-use mathlib.Core.Path.{◌≡◌, refl, ◌∙◌, ap}
-use native.Mathlib.Omega.{arith}
-use lib.ListN.{length, drop}
+use mathlib.Core.Path.{◌∙◌, ap}
+use lib.ListN.{drop}
 use Rattle.window.specs.Name.{no_zero}
 use Rattle.register_test.proofs.records.Laws.{no_zero-off, no_zero_on, no_zero-left}
 use Rattle.register_test.proofs.records.no_zero.Goals as goal

@@ -1,12 +1,9 @@
 -- The invariant: the flag, whether no byte so far is 0, and the bytes left say together what all bytes say.
-use Prim.Native.Nat.{◌+◌, ◌-◌}
+use Prim.Native.Nat.{◌-◌}
 use mathlib.Core.Bool.{◌&&◌}
-use mathlib.Core.Logic.{⊎_elim}
-use mathlib.Core.Path.{◌≡◌, refl, ◌∙◌, ap}
-use native.Mathlib.Omega.{arith}
+use mathlib.Core.Path.{◌≡◌}
 use lib.ListN.{length, drop}
 use Rattle.window.specs.Name.{no_zero}
-use Rattle.register_test.proofs.records.Laws.{no_zero-off, no_zero_on, no_zero-left}
 use Rattle.register_test.proofs.records.no_zero.Given as goal
 
 abbrev pub invariant-loop-i : goal.invariant-loop-i
