@@ -1,25 +1,23 @@
 -- What an append of a text leaves in a lent buffer.
-use Rattle.std.specs.Prelude.{if◌then◌else◌, ℕ, ◌+◌, ◌≤◌, ◌<◌, ◌≡◌, List, ◌++◌, take, drop, leb}
+use Rattle.std.specs.Prelude.{if◌then◌else◌, ℕ, ◌+◌, ◌≤◌, ◌<◌, ◌≡◌, List, ◌++◌, take, drop, leb, Option, Some, None}
 use Rattle.std.proofs.Common.{sym, ap, ◌∙◌, arith, length-append, length-take, length-drop, length-take-le, le-leb}
 use Rattle.std.proofs.Math.Decide.{dec_le}
 use Rattle.std.proofs.Math.ListN.{length}
 use Rattle.std.proofs.lemmas.Bool.{lt-leb}
-use Rattle.case_reader.specs.declared.append.NextPlace.{NextPlace}
-use Rattle.case_reader.specs.declared.append.NextPlace.TheVariants.{At, Full}
 
 -- s in a buffer from place i on, and the next place; a buffer too short for it stays as it is
-unfoldable pub appended : List ℕ → ℕ → List ℕ → NextPlace × List ℕ
+unfoldable pub appended : List ℕ → ℕ → List ℕ → Option ℕ × List ℕ
 appended s i l =
-    if leb (i + length s) (length l) then (At (i + length s), take i l ++ s ++ drop (i + length s) l) else (Full, l)
+    if leb (i + length s) (length l) then (Some (i + length s), take i l ++ s ++ drop (i + length s) l) else (None, l)
 
 -- what they give
 
 module _ (s : List ℕ) (i : ℕ) (l : List ℕ) where
-  pub appended-fits : i + length s ≤ length l → appended s i l ≡ (At (i + length s), take i l ++ s ++ drop (i + length s) l)
+  pub appended-fits : i + length s ≤ length l → appended s i l ≡ (Some (i + length s), take i l ++ s ++ drop (i + length s) l)
   unfolding appended
   appended-fits h = rw (le-leb (i + length s) (length l) h)
 
-  pub appended_full : length l < i + length s → appended s i l ≡ (Full, l)
+  pub appended_full : length l < i + length s → appended s i l ≡ (None, l)
   unfolding appended
   appended_full h = rw (lt-leb (i + length s) (length l) h)
 
@@ -33,19 +31,19 @@ module _ (s : List ℕ) (i : ℕ) (l : List ℕ) where
 
   -- the next place is within it, or at its end: what `&buffer[..e]` asks
   pub next-within
-      : {r : NextPlace} {e : ℕ} {b : List ℕ} → ◌≡◌ {A = NextPlace × List ℕ} (r, b) (appended s i l) → r ≡ At e
+      : {r : Option ℕ} {e : ℕ} {b : List ℕ} → ◌≡◌ {A = Option ℕ × List ℕ} (r, b) (appended s i l) → r ≡ Some e
       → (e ≤ length b) × (e ≡ length (take e b))
   next-within {r} {e} {b} f g = let h = go (dec_le (i + length s) (length l)) in (h, sym (length-take-le e b h))
     where
       kept : length b ≡ length l
-      kept = ap (λ (p : NextPlace × List ℕ). length p.1) f ∙ length-appended
+      kept = ap (λ (p : Option ℕ × List ℕ). length p.1) f ∙ length-appended
 
       go : Dec (i + length s ≤ length l) → e ≤ length b
       go (yes h) =
-          let n : At e ≡ At (i + length s) = sym g ∙ ap (λ (p : NextPlace × List ℕ). p.0) (f ∙ appended-fits h) in
+          let n : Some e ≡ Some (i + length s) = sym g ∙ ap (λ (p : Option ℕ × List ℕ). p.0) (f ∙ appended-fits h) in
           let m : e ≡ i + length s = cc in
           omega (arith, kept)
       go (no h) =
-          let n : At e ≡ Full = sym g ∙ ap (λ (p : NextPlace × List ℕ). p.0) (f ∙ appended_full (omega arith)) in
+          let n : Some e ≡ None = sym g ∙ ap (λ (p : Option ℕ × List ℕ). p.0) (f ∙ appended_full (omega arith)) in
           let z : ◌≡◌ {A = ℕ} 0 1 = cc in
           omega arith

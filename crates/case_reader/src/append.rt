@@ -2,13 +2,6 @@
 ghost use Rattle.std.specs.Prelude.{◌≡◌, ◌+◌, leb};
 ghost use Rattle.case_reader.specs.Append.{appended};
 
-// Where the next text goes, or that this one does not fit.
-#[derive(Clone, Copy)]
-pub enum NextPlace {
-    At(usize),
-    Full,
-}
-
 // Whether n bytes from place `at` on fit in `all`.
 fn has_room(at: usize, n: usize, all: usize) -> bool
     ensures { result ≡ leb (at + n) all }
@@ -19,18 +12,14 @@ fn has_room(at: usize, n: usize, all: usize) -> bool
     n <= all - at
 }
 
-// Puts the bytes of `text` at place `at`. A buffer too short for them stays as it is.
-pub(crate) fn put_bytes(buffer: &mut [u8], at: usize, text: &[u8]) -> NextPlace
+// Puts the bytes of `text` at place `at`, and gives the place after them. A buffer too short for them stays as it is.
+pub(crate) fn put_bytes(buffer: &mut [u8], at: usize, text: &[u8]) -> Option<usize>
     ensures { (result, buffer.new) ≡ appended text.now at buffer.old }
 {
     let n = text.len();
     if !has_room(at, n, buffer.len()) {
-        return NextPlace::Full;
+        return None;
     }
-    let mut i: usize = 0;
-    while i < n {
-        buffer[at + i] = text[i];
-        i += 1;
-    }
-    NextPlace::At(at + n)
+    buffer[at..at + n].copy_from_slice(text);
+    Some(at + n)
 }

@@ -1,5 +1,5 @@
 -- The calls that turns make: their arguments are 32-bit numbers, they answer neither 3 nor 4, and they gave what the definition gives.
-use Rattle.std.specs.Prelude.{if◌then◌else◌, ℕ, ◌*◌, ◌%◌, ◌^◌, ◌<◌, ◌≡◌, List, [], ◌∷◌, Bool, not, ◌||◌, ◌&&◌}
+use Rattle.std.specs.Prelude.{if◌then◌else◌, ℕ, ◌*◌, ◌%◌, ◌^◌, ◌<◌, ◌≡◌, List, [], ◌∷◌, Bool, not, ◌||◌, ◌&&◌, Option, Some, None}
 use Rattle.std.proofs.Math.Path.{refl, ap}
 use Rattle.std.proofs.Common.{sym, ◌∙◌, subst}
 use Rattle.std.proofs.Math.Bool.{true, false}
@@ -12,9 +12,7 @@ use Rattle.layout.specs.Header.{magic}
 use Rattle.register.specs.Decode.{is_register}
 use Rattle.linker_spec.specs.declared.call.Call.{Call}
 use Rattle.linker_spec.specs.declared.call.Call.TheVariants.{Initialize, Load, Unload}
-use Rattle.linker_spec.specs.declared.rebase.Moved.{Moved}
-use Rattle.linker_spec.specs.declared.rebase.Moved.TheVariants.{Bad, OldPlace}
-use Rattle.linker_spec.specs.Calls.{BadWindow, NoRegister, number, unload}
+use Rattle.linker_spec.specs.Calls.{number, unload}
 use Rattle.linker_spec.specs.Rebase.{is_magic, move_header, move_segments}
 use Rattle.linker_spec.specs.Outcome.{Buffers, outcome_of, unload_outcome, load_arguments}
 use Rattle.linker_spec.specs.Refusals.{lent_register}
@@ -24,6 +22,8 @@ use Rattle.linker_spec.proofs.Counts.{unload-0}
 use Rattle.linker_spec.specs.Numbers.{entry_number, loaded_module, initialized_module, fits_in}
 use Rattle.linker_spec.proofs.Numbers.{load-number, initialize-number}
 use Rattle.linker_spec.specs.Valid.{Valid}
+use Rattle.linker_spec.specs.declared.refusal.Refusal.TheVariants.{BadWindow, NoRegister}
+use Rattle.linker_spec.specs.Refusal.{refusal_number}
 use Rattle.history.specs.Below.{Each}
 use Rattle.history.specs.Steps.Asking.{true_false}
 use Rattle.history.specs.Sessions.{given, CallRecord, unfit, own, WordArguments}
@@ -37,7 +37,7 @@ use Rattle.desk_history.specs.Turns.{command_in, TurnDid, idles, replies, makes,
 
 -- 3 or 4
 abbrev refuses : ℕ → Bool
-refuses n = eqb n (number BadWindow) || eqb n (number NoRegister)
+refuses n = eqb n (refusal_number BadWindow) || eqb n (refusal_number NoRegister)
 
 -- a call lent a window and a register that keep their rules answers neither
 module _ (at : ℕ) (b : Buffers) (g : good_window at b.window ≡ true) (v : Valid b) where
@@ -63,10 +63,10 @@ module _ (at : ℕ) (b : Buffers) (g : good_window at b.window ≡ true) (v : Va
       (go (is_magic (word_at at b.window (l.base ⊕ magic))) (run at (move_segments l) (run at (move_header true l.base) b.window).1).0
       (fits_in at b (loaded_module at l (not (eqb auto 0)) b.window)))
     where
-      go : (m : Bool) (x : Moved) (f : Bool) → refuses (if m then entry_number x f else 1) ≡ false
-      go true Bad f = refl
-      go true (OldPlace old) true = refl
-      go true (OldPlace old) false = refl
+      go : (m : Bool) (x : Option ℕ) (f : Bool) → refuses (if m then entry_number x f else 1) ≡ false
+      go true None f = refl
+      go true (Some old) true = refl
+      go true (Some old) false = refl
       go false x f = refl
   given-fit (Unload base) = rw (unload-number base) refl
 

@@ -1,5 +1,5 @@
 -- An import holds its address in the bytes of its module's areas alone: bytes that agree there hold the same.
-use Rattle.std.specs.Prelude.{ℕ, ◌+◌, ◌<◌, ◌≡◌, List, [], ◌∷◌}
+use Rattle.std.specs.Prelude.{ℕ, ◌+◌, ◌<◌, ◌≡◌, List, [], ◌∷◌, Some}
 use Rattle.std.proofs.Math.Path.{sym}
 use Rattle.std.proofs.Common.{◌∙◌}
 use native.Mathlib.Omega.{arith}
@@ -7,8 +7,6 @@ use Rattle.window.specs.Within.{Agree}
 use Rattle.window.specs.Mirror.{word_same}
 use Rattle.layout.specs.Format.{relocation_type}
 use Rattle.layout.specs.Relocation.Relocation.{relocated_word}
-use Rattle.layout.specs.declared.relocation.Patch.TheVariants.{Word}
-use Rattle.layout.specs.declared.segments.Address.TheVariants.{At}
 use Rattle.history.specs.Below.{Each}
 use Rattle.history.specs.Image.{externals, count, tag, kind}
 use Rattle.history.specs.LoadedModule.{Image, address, handler, Area}
@@ -27,8 +25,8 @@ Each-both P Q R (x ∷ xs) f h g = (f x h.0 g.0, Each-both P Q R xs f h.1 g.1)
 
 -- where an external entry gives a word, one of the image's relocated words stands
 word-there
-    : (m : Image) (j p d a v : ℕ) → j < count m.file externals → address m (tag m.file externals j) ≡ At p
-    → relocated_word (relocation_type (kind m.file externals j)) d a p ≡ Word v → WordAt m (external j) p
+    : (m : Image) (j p d a v : ℕ) → j < count m.file externals → address m (tag m.file externals j) ≡ Some p
+    → relocated_word (relocation_type (kind m.file externals j)) d a p ≡ Some v → WordAt m (external j) p
 unfolding WordAt
 word-there m j p d a v l e r = go (sort (relocation_type (kind m.file externals j)))
   where

@@ -1,12 +1,10 @@
 -- A session through the desk: turns, what each was lent, and the linker's calls that they made. As in history, the last one comes first.
-use Rattle.std.specs.Prelude.{if◌then◌else◌, ℕ, ◌%◌, ◌^◌, ◌<◌, ◌≡◌, ◌≢◌, List, [], ◌∷◌, ◌++◌, Bool, true, ◌&&◌}
+use Rattle.std.specs.Prelude.{if◌then◌else◌, ℕ, ◌%◌, ◌^◌, ◌<◌, ◌≡◌, ◌≢◌, List, [], ◌∷◌, ◌++◌, Bool, true, ◌&&◌, Option, Some, None}
 use Rattle.window.specs.Memory.{good_window, byte_at, ◌⊕◌}
 use Rattle.register.specs.Decode.{is_register}
 use Rattle.linker_spec.specs.Outcome.{Buffers}
 use Rattle.linker_spec.specs.Valid.{AreBytes}
 use Rattle.history.specs.Sessions.{CallRecord, call_record, given, loaded_modules, Areas, Fresh, Between}
-use Rattle.desk_spec.specs.declared.place.Turn.{Turn}
-use Rattle.desk_spec.specs.declared.place.Turn.TheVariants.{Nobody, Of}
 use Rattle.desk_spec.specs.declared.command.Command.{Command}
 use Rattle.desk_spec.specs.declared.command.Command.TheVariants.{Elsewhere, Acknowledged, Unknown}
 use Rattle.desk_spec.specs.Command.{command_at}
@@ -37,9 +35,9 @@ call_of Elsewhere at b = []
 call_of Acknowledged at b = []
 call_of Unknown at b = []
 
-unfoldable pub call_at : Turn → TurnRecord → List CallRecord
-call_at Nobody t = []
-call_at (Of i) t = call_of (command_at t.at t.before.window (buffer_of t)) t.at t.before
+unfoldable pub call_at : Option ℕ → TurnRecord → List CallRecord
+call_at None t = []
+call_at (Some i) t = call_of (command_at t.at t.before.window (buffer_of t)) t.at t.before
 
 unfoldable pub calls_of : TurnRecord → List CallRecord
 calls_of t = if fit t then call_at (turn_at t.desk) t else []
@@ -58,7 +56,7 @@ own_turns (t ∷ ts) = if fit t then t ∷ own_turns ts else own_turns ts
 -- same if they are so modulo 2 ^ 32
 unfoldable pub BufferApart : TurnRecord → List CallRecord → Type 0
 BufferApart t cs =
-    (i : ℕ) → turn_at t.desk ≡ Of i → (q k : ℕ) → Areas (loaded_modules cs) q → k < 12 → q % 2 ^ 32 ≢ buffer_of t ⊕ k
+    (i : ℕ) → turn_at t.desk ≡ Some i → (q k : ℕ) → Areas (loaded_modules cs) q → k < 12 → q % 2 ^ 32 ≢ buffer_of t ⊕ k
 
 module _ (at : ℕ) where
   -- what the next turn may be lent after the session's own turns: as in history, "window and register as the last left them, save window bytes

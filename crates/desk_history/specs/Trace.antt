@@ -1,10 +1,9 @@
 -- The calls of a session through the desk are a session in the sense of demand 3.
-use Rattle.std.specs.Prelude.{if◌then◌else◌, ℕ, ◌≡◌, Bool}
+use Rattle.std.specs.Prelude.{if◌then◌else◌, ℕ, ◌≡◌, Bool, None}
 use Rattle.std.proofs.Math.Path.{refl, subst}
 use Rattle.std.proofs.Common.{sym, ap, ◌∙◌}
 use mathlib.Core.List.{List, [], ◌∷◌, ◌++◌}
 use Rattle.std.proofs.Math.Bool.{true, false}
-use Rattle.register.specs.declared.words.Crs.TheVariants.{Unknown}
 use Rattle.linker_spec.specs.Outcome.{Buffers}
 use Rattle.linker_spec.specs.Refusals.{lent_register}
 use Rattle.history.specs.Sessions.{CallRecord, after, Fresh, SameBytes, Between, Lends, Next, Trace}
@@ -17,7 +16,7 @@ same-register b c s = rw (s.0, s.1, s.2)
 
 same-fresh : (b c : Buffers) → SameBytes b c → Fresh b → Fresh c
 unfolding Fresh
-same-fresh b c s h = subst (λ r. (r.modules ≡ []) × (r.crs ≡ Unknown)) (same-register b c s) h
+same-fresh b c s h = subst (λ r. (r.modules ≡ []) × (r.crs ≡ None)) (same-register b c s) h
 
 -- turns lent what breaks a rule make no call
 calls-own : (ts : List TurnRecord) → calls (own_turns ts) ≡ calls ts

@@ -1,5 +1,5 @@
 -- What a turn leaves: its call's outcome with the reply over it, or what it was lent with a reply over it.
-use Rattle.std.specs.Prelude.{if◌then◌else◌, ℕ, ◌≤◌, ◌%◌, ◌^◌, ◌<◌, ◌≡◌, ◌≢◌, List, [], ◌∷◌, Bool, ◌&&◌, length}
+use Rattle.std.specs.Prelude.{if◌then◌else◌, ℕ, ◌≤◌, ◌%◌, ◌^◌, ◌<◌, ◌≡◌, ◌≢◌, List, [], ◌∷◌, Bool, ◌&&◌, length, Option, Some, None}
 use Rattle.std.proofs.Math.Path.{refl, ap, subst}
 use Rattle.std.proofs.Common.{sym, ◌∙◌, arith}
 use Rattle.std.proofs.Math.Bool.{true, false}
@@ -7,13 +7,12 @@ use Rattle.std.proofs.Math.Decide.{dec_le}
 use Rattle.window.specs.Memory.{◌⊕◌, place, good_window}
 use Rattle.register.specs.Decode.{is_register}
 use Rattle.linker_spec.specs.declared.call.Call.{Call}
-use Rattle.linker_spec.specs.Calls.{BadWindow, NoRegister, number}
 use Rattle.linker_spec.specs.Outcome.{Buffers}
 use Rattle.linker_spec.specs.Touches.{touches_of}
+use Rattle.linker_spec.specs.declared.refusal.Refusal.TheVariants.{BadWindow, NoRegister}
+use Rattle.linker_spec.specs.Refusal.{refusal_number}
 use Rattle.history.specs.Sessions.{given, CallRecord, call_record, after, loaded_modules, Areas, Between}
 use Rattle.history.specs.Steps.Asking.{true_false}
-use Rattle.desk_spec.specs.declared.place.Turn.{Turn}
-use Rattle.desk_spec.specs.declared.place.Turn.TheVariants.{Nobody, Of}
 use Rattle.desk_spec.specs.declared.command.Command.{Command}
 use Rattle.desk_spec.specs.declared.command.Command.TheVariants.{Elsewhere, Acknowledged, Unknown}
 use Rattle.desk_spec.specs.Command.{id_at, command_at, done_reply, error_reply, reply_to}
@@ -28,8 +27,8 @@ module _ (t : TurnRecord) where
   -- the chain of its tests
   abbrev chained : (good_window is_register : Bool) → TurnOutcome
   chained g v =
-      if g then (if v then serve (turn_at t.desk) t.at t.desk t.before else idle (number NoRegister) t.desk t.before)
-      else idle (number BadWindow) t.desk t.before
+      if g then (if v then serve (turn_at t.desk) t.at t.desk t.before else idle (refusal_number NoRegister) t.desk t.before)
+      else idle (refusal_number BadWindow) t.desk t.before
 
   -- what it did, the command in its buffer, and the id there
   abbrev pub did : Handled
@@ -61,18 +60,18 @@ module _ (t : TurnRecord) where
       go false v e = absurd (true_false (sym e))
 
   module _ (f : fit t ≡ true) where
-    served : (s : Turn) → turn_at t.desk ≡ s → outcome ≡ serve s t.at t.desk t.before
+    served : (s : Option ℕ) → turn_at t.desk ≡ s → outcome ≡ serve s t.at t.desk t.before
     served s e = fit-served f ∙ ap (λ x. serve x t.at t.desk t.before) e
 
-    pub nobody_served : turn_at t.desk ≡ Nobody → left t ≡ t.before
+    pub nobody_served : turn_at t.desk ≡ None → left t ≡ t.before
     unfolding serve
-    nobody_served n = ap (λ o. o.did.left) (served Nobody n)
+    nobody_served n = ap (λ o. o.did.left) (served None n)
 
-    module _ (i : ℕ) (s : turn_at t.desk ≡ Of i) where
+    module _ (i : ℕ) (s : turn_at t.desk ≡ Some i) where
       -- the served buffer is handled
       buffer_handled : did ≡ handle t.at (buffer_of t) t.before
       unfolding serve buffer_of
-      buffer_handled = subst (λ o. o.did ≡ handle t.at o.buffer t.before) (sym (served (Of i) s)) refl
+      buffer_handled = subst (λ o. o.did ≡ handle t.at o.buffer t.before) (sym (served (Some i) s)) refl
 
       command_handled : (c : Command) → command_in ≡ c → did ≡ handle_command c id_in t.at (buffer_of t) t.before
       unfolding handle
@@ -103,10 +102,10 @@ module _ (t : TurnRecord) where
 pub data TurnDid (t : TurnRecord) : Type 0 where
   idles : calls_of t ≡ [] → left t ≡ t.before → TurnDid t
   replies
-      : (i : ℕ) → turn_at t.desk ≡ Of i → calls_of t ≡ [] → (words : List ℕ) → length words ≤ 3
+      : (i : ℕ) → turn_at t.desk ≡ Some i → calls_of t ≡ [] → (words : List ℕ) → length words ≤ 3
       → left t ≡ reply t.at (buffer_of t) words t.before → TurnDid t
   makes
-      : fit t ≡ true → (i : ℕ) → turn_at t.desk ≡ Of i → (c : Call) → command_in t ≡ Command.Call c
+      : fit t ≡ true → (i : ℕ) → turn_at t.desk ≡ Some i → (c : Call) → command_in t ≡ Command.Call c
       → calls_of t ≡ call_record c t.at t.before (given c t.at t.before) ∷ [] → (words : List ℕ) → length words ≤ 3
       → left t ≡ reply t.at (buffer_of t) words (given c t.at t.before).left → TurnDid t
 
@@ -115,15 +114,15 @@ module _ (t : TurnRecord) where
   unfolding calls_of
   unfit_makes_none f = rw f
 
-  nobody_makes_none : fit t ≡ true → turn_at t.desk ≡ Nobody → calls_of t ≡ []
+  nobody_makes_none : fit t ≡ true → turn_at t.desk ≡ None → calls_of t ≡ []
   unfolding calls_of call_at
   nobody_makes_none f n = rw (f, n)
 
-  command_makes : fit t ≡ true → (i : ℕ) → turn_at t.desk ≡ Of i → (c : Command) → command_in t ≡ c → calls_of t ≡ call_of c t.at t.before
+  command_makes : fit t ≡ true → (i : ℕ) → turn_at t.desk ≡ Some i → (c : Command) → command_in t ≡ c → calls_of t ≡ call_of c t.at t.before
   unfolding calls_of call_at
   command_makes f i s c e = rw (f, s, e)
 
-  served-did : fit t ≡ true → (i : ℕ) → turn_at t.desk ≡ Of i → (c : Command) → command_in t ≡ c → TurnDid t
+  served-did : fit t ≡ true → (i : ℕ) → turn_at t.desk ≡ Some i → (c : Command) → command_in t ≡ c → TurnDid t
   unfolding call_of
   served-did f i s (Command.Call c) e =
       let o = given c t.at t.before in
@@ -138,10 +137,10 @@ module _ (t : TurnRecord) where
   pub turn-did : TurnDid t
   turn-did = tested (fit t) refl (turn_at t.desk) refl
     where
-      tested : (f : Bool) → fit t ≡ f → (s : Turn) → turn_at t.desk ≡ s → TurnDid t
+      tested : (f : Bool) → fit t ≡ f → (s : Option ℕ) → turn_at t.desk ≡ s → TurnDid t
       tested false f s e = idles (unfit_makes_none f) (unfit_unchanged t f)
-      tested true f Nobody e = idles (nobody_makes_none f e) (nobody_served t f e)
-      tested true f (Of i) e = served-did f i e (command_in t) refl
+      tested true f None e = idles (nobody_makes_none f e) (nobody_served t f e)
+      tested true f (Some i) e = served-did f i e (command_in t) refl
 
 -- what the turn's call left, and where it made none what it was lent
 unfoldable pub left_by : List CallRecord → Buffers → Buffers

@@ -1,7 +1,6 @@
 -- What is claimed of every desk reached from an empty one; the theorems stand in the files after it.
-use Rattle.std.specs.Prelude.{ℕ, ◌<◌, ◌≤◌, ◌≡◌, List, ◌∷◌, ◌++◌, map, length}
+use Rattle.std.specs.Prelude.{ℕ, ◌<◌, ◌≤◌, ◌≡◌, List, ◌∷◌, ◌++◌, map, length, Some}
 use Rattle.history.specs.Below.{Each, Pairs}
-use Rattle.desk_spec.specs.declared.place.Turn.TheVariants.{Of}
 use Rattle.desk_spec.specs.Desk.{Place, Desk, most_places, most_waiting, place_at, oldest, turn_of}
 use Rattle.desk_order.specs.Ops.{Op, turns, after_all, turns_in}
 
@@ -22,6 +21,6 @@ pub record ServedWithin (n caller buffer : ℕ) (ops : List Op) (d : Desk) : Typ
   pub split : ops ≡ before ++ turns ∷ rest
   pub soon : turns_in before < n
   pub place : ℕ
-  pub its_turn : turn_of (after_all before d) ≡ Of place
+  pub its_turn : turn_of (after_all before d) ≡ Some place
   pub its_caller : (place_at (after_all before d).places place).caller ≡ caller
   pub its_buffer : oldest (place_at (after_all before d).places place) ≡ buffer

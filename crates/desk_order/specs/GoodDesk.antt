@@ -1,5 +1,5 @@
 -- A desk in lent bytes, and that the exported calls do there what is done at the desk.
-use Rattle.std.specs.Prelude.{if◌then◌else◌, ℕ, suc, ◌+◌, ◌-◌, ◌^◌, ◌≤◌, ◌<◌, Bool, ◌&&◌, length, drop, replicate, ltb}
+use Rattle.std.specs.Prelude.{if◌then◌else◌, ℕ, suc, ◌+◌, ◌-◌, ◌^◌, ◌≤◌, ◌<◌, Bool, ◌&&◌, length, drop, replicate, ltb, Option, Some, None}
 use Rattle.std.proofs.Math.Path.{◌≡◌, refl}
 use Rattle.std.proofs.Common.{sym, ap, ◌∙◌, arith, get_or-drop, le-ltb}
 use mathlib.Core.List.{List, [], ◌∷◌, ◌++◌}
@@ -13,8 +13,6 @@ use Rattle.register.specs.Buffers.{Below}
 use Rattle.register.specs.Append.Laid.{below_append, below_one}
 use Rattle.linker_spec.specs.Outcome.{Buffers}
 use Rattle.history.specs.Below.{Each}
-use Rattle.desk_spec.specs.declared.place.Turn.{Turn}
-use Rattle.desk_spec.specs.declared.place.Turn.TheVariants.{Nobody, Of}
 use Rattle.desk_spec.specs.declared.place.Change.TheVariants.{Sent, Served}
 use Rattle.desk_spec.specs.Desk.{place, Desk, place_at, place_of, no_room_for, place_after, changed, turn_of}
 use Rattle.desk_spec.specs.Bytes.{desk_length, desk_words, desk_of, desk_in, places_in, with_desk, words_from}
@@ -129,10 +127,10 @@ module _ (bytes : List ℕ) (s : GoodDesk bytes) where
         go true good false valid f = (4, keeps_4 at lent bytes good valid)
         go false good r valid f = (3, keeps_3 at lent bytes good)
 
-    serve_does : (t : Turn) → turn_of (desk_of bytes) ≡ t → DeskLeft (serve_at t (desk_of bytes)) (length bytes) (serve t at bytes lent).desk
+    serve_does : (t : Option ℕ) → turn_of (desk_of bytes) ≡ t → DeskLeft (serve_at t (desk_of bytes)) (length bytes) (serve t at bytes lent).desk
     unfolding serve_at serve
-    serve_does Nobody e = unchanged
-    serve_does (Of i) e =
+    serve_does None e = unchanged
+    serve_does (Some i) e =
         stores (changed (Served i) (desk_of bytes)) (limits-served i (desk_of bytes) (turn_serves (desk_of bytes) i e).0 s.limits)
         (words-served i (desk_of bytes) s.words)
 

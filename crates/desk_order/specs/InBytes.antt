@@ -1,6 +1,6 @@
 -- The desk's order, said of the exported calls and their bytes.
 use Prim.Native.Nat.{ℕ, zero, suc, ◌*◌, ◌≤◌}
-use Rattle.std.specs.Prelude.{if◌then◌else◌, ◌≡◌, Bool, not, ◌&&◌, replicate, length, drop, get_or, eqb}
+use Rattle.std.specs.Prelude.{if◌then◌else◌, ◌≡◌, Bool, not, ◌&&◌, replicate, length, drop, get_or, eqb, Option, Some, None}
 use Rattle.std.proofs.Math.Path.{refl, sym, ap}
 use Rattle.std.proofs.Common.{◌∙◌, ne_eqb}
 use mathlib.Core.List.{List, [], ◌∷◌, ◌++◌, append_assoc, append-nil}
@@ -9,8 +9,6 @@ use native.Mathlib.Omega.{arith}
 use Rattle.linker_spec.specs.Outcome.{Buffers}
 use Rattle.history.specs.Below.{Each}
 use Rattle.history.specs.Sessions.Lists.{each_left}
-use Rattle.desk_spec.specs.declared.place.Turn.{Turn}
-use Rattle.desk_spec.specs.declared.place.Turn.TheVariants.{Nobody, Of}
 use Rattle.desk_spec.specs.declared.place.Change.TheVariants.{Sent}
 use Rattle.desk_spec.specs.declared.command.Command.{Command}
 use Rattle.desk_spec.specs.declared.command.Command.TheVariants.{Elsewhere, Acknowledged, Unknown}
@@ -70,10 +68,10 @@ module _ (c : ℕ) (bytes : List ℕ) (s : GoodDesk bytes) where
       go false true = refl
       go false false = refl
 
-  gave-served : (at : ℕ) (lent : Buffers) (t : Turn) → gave_in c (serve t at bytes lent) ≡ served_at c t (desk_of bytes)
+  gave-served : (at : ℕ) (lent : Buffers) (t : Option ℕ) → gave_in c (serve t at bytes lent) ≡ served_at c t (desk_of bytes)
   unfolding serve served_at
-  gave-served at lent Nobody = refl
-  gave-served at lent (Of i) =
+  gave-served at lent None = refl
+  gave-served at lent (Some i) =
       let p = oldest (place_at (desk_of bytes).places i) in
       rw (ne_eqb (handle at p lent).served 0 (handle_serves at p lent))
 
@@ -235,7 +233,7 @@ module _ (bytes : List ℕ) (s : GoodDesk bytes) (calls : List DeskCall) (w : Wo
   reads_then : desk_of bytes_then ≡ after_all r.before (desk_of bytes)
   reads_then = follows t.before bytes s words_before ∙ ap (λ ops. after_all ops (desk_of bytes)) t.its_ops
 
-  turn-then : turn_outcome t.at bytes_then t.lent ≡ serve (Of r.place) t.at bytes_then t.lent
+  turn-then : turn_outcome t.at bytes_then t.lent ≡ serve (Some r.place) t.at bytes_then t.lent
   turn-then =
       free-turn bytes_then (stands_after t.before bytes s words_before) t.at t.lent t.its_free
       ∙ ap (λ k. serve k t.at bytes_then t.lent) (ap turn_of reads_then ∙ r.its_turn)

@@ -1,11 +1,9 @@
 -- Whatever is done, at most 8 callers have places, each one place, with at most 16 buffers waiting.
-use Rattle.std.specs.Prelude.{if◌then◌else◌, ℕ, zero, suc, ◌≤◌, ◌<◌, ◌≡◌, refl, List, [], ◌∷◌, ◌++◌, Bool, true, false, length, drop}
+use Rattle.std.specs.Prelude.{if◌then◌else◌, ℕ, zero, suc, ◌≤◌, ◌<◌, ◌≡◌, refl, List, [], ◌∷◌, ◌++◌, Bool, true, false, length, drop, Option, Some, None}
 use Rattle.std.proofs.Common.{◌∙◌, arith, length-append, length-drop}
 use Rattle.std.proofs.Math.Decide.{ℕ_discrete, dec_lt}
 use Rattle.history.specs.Below.{Each, Pairs}
 use Rattle.history.specs.Sessions.Lists.{each_at, each_mono}
-use Rattle.desk_spec.specs.declared.place.Turn.{Turn}
-use Rattle.desk_spec.specs.declared.place.Turn.TheVariants.{Nobody, Of}
 use Rattle.desk_spec.specs.declared.place.Change.TheVariants.{Sent, Served}
 use Rattle.desk_spec.specs.Desk.{Place, place, Desk, most_waiting, place_at, with_place, place_of, no_room_for, place_after, next_after, changed, turn_of}
 use Rattle.desk_spec.specs.Places.{HasWaiting, each_with, length-with, length-behind, found-at_once, found_later, room_for, waits-within, turn_serves}
@@ -81,10 +79,10 @@ limits-served i d w h =
       next_fits = omega arith;
     }
 
-limits-turn : (d : Desk) (t : Turn) → turn_of d ≡ t → Limits d → Limits (serve_at t d)
+limits-turn : (d : Desk) (t : Option ℕ) → turn_of d ≡ t → Limits d → Limits (serve_at t d)
 unfolding serve_at
-limits-turn d Nobody e h = h
-limits-turn d (Of i) e h = limits-served i d (turn_serves d i e).0 h
+limits-turn d None e h = h
+limits-turn d (Some i) e h = limits-served i d (turn_serves d i e).0 h
 
 pub limits_kept : (op : Op) (d : Desk) → Limits d → Limits (after op d)
 unfolding after send_to

@@ -1,7 +1,5 @@
 -- What is done at a desk, one after another: sendings, and turns free of 3 and 4; and what a caller sees of it.
-use Rattle.std.specs.Prelude.{if◌then◌else◌, ℕ, suc, List, [], ◌∷◌, ◌++◌, not, ◌&&◌, eqb}
-use Rattle.desk_spec.specs.declared.place.Turn.{Turn}
-use Rattle.desk_spec.specs.declared.place.Turn.TheVariants.{Nobody, Of}
+use Rattle.std.specs.Prelude.{if◌then◌else◌, ℕ, suc, List, [], ◌∷◌, ◌++◌, not, ◌&&◌, eqb, Option, Some, None}
 use Rattle.desk_spec.specs.declared.place.Change.TheVariants.{Sent, Served}
 use Rattle.desk_spec.specs.Desk.{Desk, desk, place_at, place_of, oldest, no_room_for, changed, turn_of}
 
@@ -14,9 +12,9 @@ unfoldable pub send_to : (caller buffer : ℕ) → Desk → Desk
 send_to caller buffer d =
     if no_room_for caller d.places then d else changed (Sent (place_of caller d.places) caller buffer) d
 
-unfoldable pub serve_at : Turn → Desk → Desk
-serve_at Nobody d = d
-serve_at (Of i) d = changed (Served i) d
+unfoldable pub serve_at : Option ℕ → Desk → Desk
+serve_at None d = d
+serve_at (Some i) d = changed (Served i) d
 
 unfoldable pub after : Op → Desk → Desk
 after (sends caller buffer) d = send_to caller buffer d
@@ -40,9 +38,9 @@ accepted c (sends caller buffer) d = if eqb caller c && not (no_room_for caller 
 accepted c turns d = []
 
 -- what is served to a caller
-unfoldable pub served_at : ℕ → Turn → Desk → List ℕ
-served_at c Nobody d = []
-served_at c (Of i) d = if eqb (place_at d.places i).caller c then oldest (place_at d.places i) ∷ [] else []
+unfoldable pub served_at : ℕ → Option ℕ → Desk → List ℕ
+served_at c None d = []
+served_at c (Some i) d = if eqb (place_at d.places i).caller c then oldest (place_at d.places i) ∷ [] else []
 
 unfoldable pub served : ℕ → Op → Desk → List ℕ
 served c (sends caller buffer) d = []

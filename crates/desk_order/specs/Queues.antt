@@ -1,13 +1,11 @@
 -- A caller is served what it sent, in order, none lost and none twice; and it keeps its place.
-use Rattle.std.specs.Prelude.{if◌then◌else◌, ℕ, zero, suc, ◌<◌, ◌≡◌, refl, List, [], ◌∷◌, ◌++◌, map, Bool, true, false, not, ◌&&◌, length, get_or, drop, eqb}
+use Rattle.std.specs.Prelude.{if◌then◌else◌, ℕ, zero, suc, ◌<◌, ◌≡◌, refl, List, [], ◌∷◌, ◌++◌, map, Bool, true, false, not, ◌&&◌, length, get_or, drop, eqb, Option, Some, None}
 use Rattle.std.proofs.Common.{sym, ◌∙◌, append_assoc, append-nil, arith, eqb-true}
 use Rattle.std.proofs.Math.Path.{ap}
 use Rattle.std.proofs.Math.Decide.{ℕ_discrete}
 use Rattle.std.proofs.lemmas.Bool.{eqb-false}
 use Rattle.history.specs.Below.{Pairs}
 use Rattle.history.specs.Sessions.Lists.{each_at}
-use Rattle.desk_spec.specs.declared.place.Turn.{Turn}
-use Rattle.desk_spec.specs.declared.place.Turn.TheVariants.{Nobody, Of}
 use Rattle.desk_spec.specs.declared.place.Change.TheVariants.{Sent, Served}
 use Rattle.desk_spec.specs.Desk.{Place, place, Desk, place_at, with_place, place_of, no_room_for, oldest, place_after, changed, turn_of}
 use Rattle.desk_spec.specs.Places.{HasWaiting, at-changed, at_other, found-at_once, found_later, found_within, own_caller, own_kept, own_sent, waits-within, turn_serves}
@@ -89,7 +87,7 @@ first-and-rest [] h = absurd (omega arith)
 first-and-rest (x ∷ xs) h = refl
 
 pub queue_served
-    : (c i : ℕ) (d : Desk) → Limits d → HasWaiting d.places i → queue_of c d ≡ served_at c (Of i) d ++ queue_of c (changed (Served i) d)
+    : (c i : ℕ) (d : Desk) → Limits d → HasWaiting d.places i → queue_of c d ≡ served_at c (Some i) d ++ queue_of c (changed (Served i) d)
 unfolding queue_of changed place_after served_at oldest
 queue_served c i d h w = go (eqb q.caller c) refl
   where
@@ -123,10 +121,10 @@ queue_served c i d h w = go (eqb q.caller c) refl
         ap (λ p. p.waiting) (sym (at_other left ps i (place_of c ps) (omega (arith, l)) n))
         ∙ ap (λ k. (place_at (with_place ps i left) k).waiting) (sym kept)
 
-turn_order : (c : ℕ) (d : Desk) (t : Turn) → turn_of d ≡ t → Limits d → queue_of c d ++ [] ≡ served_at c t d ++ queue_of c (serve_at t d)
+turn_order : (c : ℕ) (d : Desk) (t : Option ℕ) → turn_of d ≡ t → Limits d → queue_of c d ++ [] ≡ served_at c t d ++ queue_of c (serve_at t d)
 unfolding served_at serve_at
-turn_order c d Nobody e h = append-nil (queue_of c d)
-turn_order c d (Of i) e h = append-nil (queue_of c d) ∙ queue_served c i d h (turn_serves d i e).0
+turn_order c d None e h = append-nil (queue_of c d)
+turn_order c d (Some i) e h = append-nil (queue_of c d) ∙ queue_served c i d h (turn_serves d i e).0
 
 step_order : (c : ℕ) (op : Op) (d : Desk) → Limits d → queue_of c d ++ accepted c op d ≡ served c op d ++ queue_of c (after op d)
 unfolding accepted served after send_to
@@ -191,10 +189,10 @@ Behind d later = (more : List ℕ) × (callers later ≡ callers d ++ more)
 behind_none : (d : Desk) → Behind d d
 behind_none d = ([], sym (append-nil (callers d)))
 
-turn-behind : (d : Desk) (t : Turn) → turn_of d ≡ t → Behind d (serve_at t d)
+turn-behind : (d : Desk) (t : Option ℕ) → turn_of d ≡ t → Behind d (serve_at t d)
 unfolding serve_at changed place_after
-turn-behind d Nobody e = behind_none d
-turn-behind d (Of i) e =
+turn-behind d None e = behind_none d
+turn-behind d (Some i) e =
     let l = waits-within d.places i (turn_serves d i e).0 in
     ([], callers-served d.places i (drop 1 (place_at d.places i).waiting) l ∙ sym (append-nil (callers d)))
 

@@ -1,5 +1,5 @@
 -- What a refused sending or turn leaves: "one that meets them changes nothing", "each without other changes".
-use Rattle.std.specs.Prelude.{if◌then◌else◌, ℕ, ◌≤◌, ◌≡◌, List, Bool, ◌||◌, length, ltb}
+use Rattle.std.specs.Prelude.{if◌then◌else◌, ℕ, ◌≤◌, ◌≡◌, List, Bool, ◌||◌, length, ltb, Option, Some, None}
 use Rattle.std.proofs.Math.Path.{refl}
 use Rattle.std.proofs.Math.Bool.{true, false}
 use Rattle.std.proofs.Common.{arith}
@@ -7,13 +7,13 @@ use Rattle.window.specs.Memory.{good_window}
 use Rattle.window.specs.Access.{run}
 use Rattle.register.specs.Decode.{is_register}
 use Rattle.linker_spec.specs.declared.call.Call.{Call}
-use Rattle.linker_spec.specs.Calls.{Answer, NotACro, BadSegment, BadWindow, NoRegister, NoRoom, NotLoaded, Done, number}
+use Rattle.linker_spec.specs.Calls.{Answer, NotLoaded, Done, number, Refused}
 use Rattle.linker_spec.specs.Outcome.{Buffers, refusal_order, outcome_of, call_outcome}
 use Rattle.linker_spec.specs.Refusals.{lent_register}
+use Rattle.linker_spec.specs.declared.refusal.Refusal.TheVariants.{BadWindow, NoRegister}
+use Rattle.linker_spec.specs.Refusal.{refusal_number, refusal_from_1}
 use Rattle.history.specs.Sessions.{given}
 use Rattle.history.specs.Windows.{program, given-program}
-use Rattle.desk_spec.specs.declared.place.Turn.{Turn}
-use Rattle.desk_spec.specs.declared.place.Turn.TheVariants.{Nobody, Of}
 use Rattle.desk_spec.specs.declared.place.Change.TheVariants.{Sent}
 use Rattle.desk_spec.specs.declared.command.Command.{Command}
 use Rattle.desk_spec.specs.declared.command.Command.TheVariants.{Elsewhere, Acknowledged, Unknown}
@@ -49,18 +49,14 @@ module _ (caller buffer : ℕ) (bytes : List ℕ) where
 
 number_fits : (a : Answer) → number a ≤ 5
 unfolding number
-number_fits NotACro = omega arith
-number_fits BadSegment = omega arith
-number_fits BadWindow = omega arith
-number_fits NoRegister = omega arith
-number_fits NoRoom = omega arith
+number_fits (Refused refusal) = (refusal_from_1 refusal).1
 number_fits NotLoaded = omega arith
 number_fits (Done v r) = omega arith
 
 ordered_fits : (g v : Bool) (b : Buffers) (x : Answer × List ℕ) → (refusal_order g v b (outcome_of b x)).number ≤ 5
 unfolding outcome_of
-ordered_fits false v b x = number_fits BadWindow
-ordered_fits true false b x = number_fits NoRegister
+ordered_fits false v b x = (refusal_from_1 BadWindow).1
+ordered_fits true false b x = (refusal_from_1 NoRegister).1
 ordered_fits true true b (a, w) = number_fits a
 
 given-fits : (c : Call) (at : ℕ) (b : Buffers) → (given c at b).number ≤ 5
@@ -103,22 +99,22 @@ module _ (at : ℕ) (b : Buffers) where
     unfolding turn_outcome number
     keeps_4 g r = rw (g, r)
 
-    serve_9 : (t : Turn) → (serve t at bytes b).did.number ≡ 9 → (serve t at bytes b).did ≡ elsewhere at (serve t at bytes b).buffer b
+    serve_9 : (t : Option ℕ) → (serve t at bytes b).did.number ≡ 9 → (serve t at bytes b).did ≡ elsewhere at (serve t at bytes b).buffer b
     unfolding serve handle
-    serve_9 Nobody e = absurd (omega arith)
-    serve_9 (Of i) e =
+    serve_9 None e = absurd (omega arith)
+    serve_9 (Some i) e =
         let p = oldest (place_at (desk_of bytes).places i) in
         command_9 (command_at at b.window p) (id_at at b.window p) p e
 
-    serve_2 : (t : Turn) → (serve t at bytes b).did.served ≡ 2 → (serve t at bytes b).did.left ≡ b
+    serve_2 : (t : Option ℕ) → (serve t at bytes b).did.served ≡ 2 → (serve t at bytes b).did.left ≡ b
     unfolding serve handle
-    serve_2 Nobody e = refl
-    serve_2 (Of i) e =
+    serve_2 None e = refl
+    serve_2 (Some i) e =
         let p = oldest (place_at (desk_of bytes).places i) in
         command_2 (command_at at b.window p) (id_at at b.window p) p e
 
     abbrev tested : (g r : Bool) → TurnOutcome
-    tested g r = if g then (if r then serve (turn_at bytes) at bytes b else idle (number NoRegister) bytes b) else idle (number BadWindow) bytes b
+    tested g r = if g then (if r then serve (turn_at bytes) at bytes b else idle (refusal_number NoRegister) bytes b) else idle (refusal_number BadWindow) bytes b
 
     -- 9: no call is made, and of all that is lent only the reply's words change
     pub keeps_9 : (turn_outcome at bytes b).did.number ≡ 9 → (turn_outcome at bytes b).did ≡ elsewhere at (turn_outcome at bytes b).buffer b

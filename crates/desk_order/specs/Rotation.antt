@@ -1,13 +1,11 @@
 -- "a waiting one is served within 8 turns": whatever is sent in between.
-use Rattle.std.specs.Prelude.{if◌then◌else◌, ℕ, suc, ◌+◌, ◌-◌, ◌*◌, ◌%◌, ◌≤◌, ◌<◌, ◌≡◌, Bool, true, false, length, drop, replicate, eqb}
+use Rattle.std.specs.Prelude.{if◌then◌else◌, ℕ, suc, ◌+◌, ◌-◌, ◌*◌, ◌%◌, ◌≤◌, ◌<◌, ◌≡◌, Bool, true, false, length, drop, replicate, eqb, Option, Some, None}
 use Rattle.std.proofs.Math.Path.{refl, ap}
 use Rattle.std.proofs.Common.{sym, ◌∙◌, length-append, eq-eqb, ne_eqb}
 use mathlib.Core.List.{List, [], ◌∷◌, ◌++◌, append_assoc, append-nil}
 use native.Mathlib.Omega.{arith}
 use Rattle.std.proofs.Math.Decide.{ℕ_discrete, dec_lt}
 use Rattle.std.proofs.Math.ListN.{get_or}
-use Rattle.desk_spec.specs.declared.place.Turn.{Turn}
-use Rattle.desk_spec.specs.declared.place.Turn.TheVariants.{Nobody, Of}
 use Rattle.desk_spec.specs.declared.place.Change.TheVariants.{Sent, Served}
 use Rattle.desk_spec.specs.Desk.{Place, place, Desk, most_places, place_at, with_place, place_of, no_room_for, oldest, place_after, next_after, changed, first_waiting, turn_of}
 use Rattle.desk_spec.specs.Places.{HasWaiting, Way, ahead, round, own_caller, own_kept, own_stays, waits-within, turn_serves, nobody_waits}
@@ -41,7 +39,7 @@ nearer d i k h w v way n =
 -- what a turn is to a caller that waits: its own, or one that comes nearer to it
 data TurnFor (caller : ℕ) (d : Desk) : Type 0 where
   its_own
-      : turn_of d ≡ Of (place_of caller d.places) → served caller turns d ≡ get_or (queue_of caller d) 0 0 ∷ []
+      : turn_of d ≡ Some (place_of caller d.places) → served caller turns d ≡ get_or (queue_of caller d) 0 0 ∷ []
       → queue_of caller (after turns d) ≡ drop 1 (queue_of caller d) → way_to caller (after turns d) < most_places → TurnFor caller d
   anothers
       : served caller turns d ≡ [] → queue_of caller (after turns d) ≡ queue_of caller d → way_to caller (after turns d) < way_to caller d
@@ -62,33 +60,33 @@ module _ (caller : ℕ) (d : Desk) (h : Limits d) (w : 0 < length (queue_of call
   unfolding changed place_after
   stays_there k v = own_kept caller d.places k (left_at k) (waits-within d.places k v) refl
 
-  gives_it : served_at caller (Of own_place) d ≡ get_or (queue_of caller d) 0 0 ∷ []
+  gives_it : served_at caller (Some own_place) d ≡ get_or (queue_of caller d) 0 0 ∷ []
   unfolding served_at queue_of oldest
   gives_it =
       let c = own_caller caller d.places (waits-within d.places own_place waits_there) in
       rw (eq-eqb (place_at d.places own_place).caller caller c)
 
-  gives_none : (k : ℕ) → HasWaiting d.places k → (k ≡ own_place → ⊥) → served_at caller (Of k) d ≡ []
+  gives_none : (k : ℕ) → HasWaiting d.places k → (k ≡ own_place → ⊥) → served_at caller (Some k) d ≡ []
   unfolding served_at
   gives_none k v n =
       let c : (place_at d.places k).caller ≡ caller → ⊥ =
       λ f. n (sym (own-place caller d.places k (waits-within d.places k v) h.callers_once f)) in
       rw (ne_eqb (place_at d.places k).caller caller c)
 
-  turn_for : (t : Turn) → turn_of d ≡ t → TurnFor caller d
+  turn_for : (t : Option ℕ) → turn_of d ≡ t → TurnFor caller d
   unfolding after serve_at changed next_after served
-  turn_for Nobody e = absurd (nobody_waits d e own_place waits_there)
-  turn_for (Of k) e =
+  turn_for None e = absurd (nobody_waits d e own_place waits_there)
+  turn_for (Some k) e =
       let (v, way) = turn_serves d k e in
       let s : after turns d ≡ changed (Served k) d = ap (λ t. serve_at t d) e in
-      let g : served caller turns d ≡ served_at caller (Of k) d = ap (λ t. served_at caller t d) e in
-      let q : queue_of caller d ≡ served_at caller (Of k) d ++ queue_of caller (after turns d) =
-      queue_served caller k d h v ∙ ap (λ x. served_at caller (Of k) d ++ queue_of caller x) (sym s) in
+      let g : served caller turns d ≡ served_at caller (Some k) d = ap (λ t. served_at caller t d) e in
+      let q : queue_of caller d ≡ served_at caller (Some k) d ++ queue_of caller (after turns d) =
+      queue_served caller k d h v ∙ ap (λ x. served_at caller (Some k) d ++ queue_of caller x) (sym s) in
       elim (ℕ_discrete k own_place) [
         | yes z ↦
-            let o : served_at caller (Of k) d ≡ get_or (queue_of caller d) 0 0 ∷ [] = ap (λ i. served_at caller (Of i) d) z ∙ gives_it in
+            let o : served_at caller (Some k) d ≡ get_or (queue_of caller d) 0 0 ∷ [] = ap (λ i. served_at caller (Some i) d) z ∙ gives_it in
             let m : way_to caller (changed (Served k) d) < most_places = omega arith in
-            its_own (e ∙ ap Of z) (g ∙ o) (sym (ap (drop 1) (q ∙ ap (λ l. l ++ queue_of caller (after turns d)) o))) (rw s m)
+            its_own (e ∙ ap Some z) (g ∙ o) (sym (ap (drop 1) (q ∙ ap (λ l. l ++ queue_of caller (after turns d)) o))) (rw s m)
         | no n ↦
             let o = gives_none k v n in
             let m : on_the_way (suc k) own_place < way_to caller d = nearer d own_place k h waits_there v way n in
@@ -131,7 +129,7 @@ abbrev InTurn : (m caller : ℕ) → List ℕ → ℕ → List Op → Desk → T
 InTurn m caller earlier buffer ops d = (r : ServedWithin m caller buffer ops d) × (all_served caller r.before d ≡ earlier)
 
 served_now
-    : (m caller buffer : ℕ) (later : List ℕ) (ops : List Op) (d : Desk) → turn_of d ≡ Of (place_of caller d.places)
+    : (m caller buffer : ℕ) (later : List ℕ) (ops : List Op) (d : Desk) → turn_of d ≡ Some (place_of caller d.places)
     → queue_of caller d ≡ buffer ∷ later → 0 < m → InTurn m caller [] buffer (turns ∷ ops) d
 unfolding turns_in after_all queue_of oldest all_served
 served_now m caller buffer later ops d e q l =

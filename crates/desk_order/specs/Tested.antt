@@ -1,5 +1,5 @@
 -- A turn that gives 3 or 4 has changed nothing: no call behind the two tests gives them.
-use Rattle.std.specs.Prelude.{ℕ, ◌≤◌, ◌≡◌, refl, List, Bool, true, false, not, length, eqb}
+use Rattle.std.specs.Prelude.{ℕ, ◌≤◌, ◌≡◌, refl, List, Bool, true, false, not, length, eqb, Option, Some, None, Ok, Err}
 use Rattle.std.proofs.Common.{sym, ap, ◌∙◌}
 use native.Mathlib.Omega.{arith}
 use Rattle.window.specs.Memory.{good_window}
@@ -9,17 +9,16 @@ use Rattle.register.specs.Decode.{is_register}
 use Rattle.linker_spec.specs.declared.call.Call.{Call}
 use Rattle.linker_spec.specs.declared.call.Call.TheVariants.{Initialize, Load, Unload}
 use Rattle.linker_spec.specs.declared.rebase.LoadArguments.{LoadArguments}
-use Rattle.linker_spec.specs.declared.rebase.Rebased.{Rebased}
+use Rattle.linker_spec.specs.Refusal.{Rebased}
 use Rattle.linker_spec.specs.Calls as calls
 use Rattle.linker_spec.specs.Calls.{Answer, number, fits, add_record, initialized, linked, FirstWithBase, unknown, stands, first_with_base, leave}
 use Rattle.linker_spec.specs.Outcome.{Buffers, outcome_of}
 use Rattle.linker_spec.specs.Refusals.{lent_register}
 use Rattle.linker_spec.proofs.Refusals.{answers}
 use Rattle.linker_spec.specs.AnyResult.{AnyResult, gives_run, gives_then, gives_if}
+use Rattle.linker_spec.specs.declared.refusal.RebaseError.{RebaseError}
 use Rattle.history.specs.Sessions.{given}
 use Rattle.history.specs.Windows.{program, given-program}
-use Rattle.desk_spec.specs.declared.place.Turn.{Turn}
-use Rattle.desk_spec.specs.declared.place.Turn.TheVariants.{Nobody, Of}
 use Rattle.desk_spec.specs.declared.command.Command.{Command}
 use Rattle.desk_spec.specs.declared.command.Command.TheVariants.{Elsewhere, Acknowledged, Unknown}
 use Rattle.desk_spec.specs.Desk.{place_at, oldest}
@@ -39,9 +38,9 @@ enter_own
     : (records names : ℕ) (r : Register) (base size : ℕ) (auto : Bool) (next : Module → Prog Answer) → ((m : Module) → AnyResult OwnAnswer (next m))
     → (x : Rebased) → AnyResult OwnAnswer (add_record records names r base size auto next x)
 unfolding add_record AnyResult number
-enter_own records names r base size auto next h Rebased.NotACro = omega arith
-enter_own records names r base size auto next h Rebased.BadSegment = omega arith
-enter_own records names r base size auto next h Rebased.Done =
+enter_own records names r base size auto next h (Err RebaseError.NotACro) = omega arith
+enter_own records names r base size auto next h (Err RebaseError.BadSegment) = omega arith
+enter_own records names r base size auto next h (Ok _) =
     gives_then OwnAnswer _ _ (λ _. gives_then OwnAnswer _ _ (λ m. gives_if OwnAnswer (fits records names r m) _ _ (h m) (omega arith)))
 
 initialize-own : (base size records names : ℕ) (r : Register) → AnyResult OwnAnswer (calls.initialize base size records names r)
@@ -86,10 +85,10 @@ module _ (at : ℕ) (b : Buffers) (good : good_window at b.window ≡ true) (val
   command_own Acknowledged id p = omega arith
   command_own Unknown id p = omega arith
 
-  serve-own : (t : Turn) (bytes : List ℕ) → OwnNumber (serve t at bytes b).did.number
+  serve-own : (t : Option ℕ) (bytes : List ℕ) → OwnNumber (serve t at bytes b).did.number
   unfolding serve handle
-  serve-own Nobody bytes = omega arith
-  serve-own (Of i) bytes =
+  serve-own None bytes = omega arith
+  serve-own (Some i) bytes =
       let p = oldest (place_at (desk_of bytes).places i) in
       command_own (command_at at b.window p) (id_at at b.window p) p
 

@@ -1,8 +1,6 @@
 -- Document 02, Ask 3: "a dispatcher for up to 8 callers, each with at most 16 waiting buffers, one served a turn, oldest first, callers in
 -- rotation by first sending. A caller keeps its place."
-use Rattle.std.specs.Prelude.{if◌then◌else◌, ℕ, zero, suc, List, [], ◌∷◌, ◌++◌, Bool, ◌||◌, length, get_or, drop, eqb, leb}
-use Rattle.desk_spec.specs.declared.place.Turn.{Turn}
-use Rattle.desk_spec.specs.declared.place.Turn.TheVariants.{Nobody, Of}
+use Rattle.std.specs.Prelude.{if◌then◌else◌, ℕ, zero, suc, List, [], ◌∷◌, ◌++◌, Bool, ◌||◌, length, get_or, drop, eqb, leb, Option, Some, None}
 use Rattle.desk_spec.specs.declared.place.Change.{Change}
 use Rattle.desk_spec.specs.declared.place.Change.TheVariants.{Sent, Served}
 
@@ -72,14 +70,14 @@ changed c d =
     desk (with_place d.places (changed_place c) (place_after c (place_at d.places (changed_place c)))) (next_after c d.next)
 
 -- the first of these places at which a buffer waits, where their numbers begin at i: "Callers with nothing waiting are skipped"
-unfoldable pub first_waiting : ℕ → List Place → Turn
-first_waiting i [] = Nobody
-first_waiting i (q ∷ qs) = if eqb (length q.waiting) 0 then first_waiting (suc i) qs else Of i
+unfoldable pub first_waiting : ℕ → List Place → Option ℕ
+first_waiting i [] = None
+first_waiting i (q ∷ qs) = if eqb (length q.waiting) 0 then first_waiting (suc i) qs else Some i
 
-abbrev pub or_else : Turn → Turn → Turn
-or_else Nobody t = t
-or_else (Of i) t = Of i
+abbrev pub or_else : Option ℕ → Option ℕ → Option ℕ
+or_else None t = t
+or_else (Some i) t = Some i
 
 -- whom a turn serves: looked for from `next` on, then round from the start
-unfoldable pub turn_of : Desk → Turn
+unfoldable pub turn_of : Desk → Option ℕ
 turn_of d = or_else (first_waiting d.next (drop d.next d.places)) (first_waiting 0 d.places)

@@ -1,14 +1,14 @@
 -- What the desk's two calls leave, for all lent bytes.
-use Rattle.std.specs.Prelude.{if◌then◌else◌, ℕ, List, ◌||◌, length, ltb}
+use Rattle.std.specs.Prelude.{if◌then◌else◌, ℕ, List, ◌||◌, length, ltb, Option, Some, None}
 use Rattle.window.specs.Memory.{good_window}
 use Rattle.register.specs.Decode.{is_register}
 use Rattle.linker_spec.specs.declared.call.Call.{Call}
-use Rattle.linker_spec.specs.Calls.{BadWindow, NoRegister, number}
+use Rattle.linker_spec.specs.Calls.{number}
 use Rattle.linker_spec.specs.Outcome.{Buffers, Outcome, buffers}
 use Rattle.linker_spec.specs.Touches.{touches_of}
+use Rattle.linker_spec.specs.declared.refusal.Refusal.TheVariants.{BadWindow, NoRegister}
+use Rattle.linker_spec.specs.Refusal.{refusal_number}
 use Rattle.history.specs.Sessions.{given}
-use Rattle.desk_spec.specs.declared.place.Turn.{Turn}
-use Rattle.desk_spec.specs.declared.place.Turn.TheVariants.{Nobody, Of}
 use Rattle.desk_spec.specs.declared.place.Change.TheVariants.{Sent, Served}
 use Rattle.desk_spec.specs.declared.command.Command.{Command}
 use Rattle.desk_spec.specs.declared.command.Command.TheVariants.{Elsewhere, Acknowledged, Unknown}
@@ -67,12 +67,12 @@ turn_outcome_of did caller buffer desk = record { did = did; caller = caller; bu
 abbrev pub idle : ℕ → List ℕ → Buffers → TurnOutcome
 idle number bytes b = turn_outcome_of (handled number 0 0 (0, 0) b) 0 0 bytes
 
-unfoldable pub turn_at : List ℕ → Turn
-turn_at bytes = if ltb (length bytes) desk_length then Nobody else turn_of (desk_of bytes)
+unfoldable pub turn_at : List ℕ → Option ℕ
+turn_at bytes = if ltb (length bytes) desk_length then None else turn_of (desk_of bytes)
 
-unfoldable pub serve : Turn → (at : ℕ) → List ℕ → Buffers → TurnOutcome
-serve Nobody at bytes b = idle 0 bytes b
-serve (Of i) at bytes b =
+unfoldable pub serve : Option ℕ → (at : ℕ) → List ℕ → Buffers → TurnOutcome
+serve None at bytes b = idle 0 bytes b
+serve (Some i) at bytes b =
     let p = place_at (desk_of bytes).places i in
     turn_outcome_of (handle at (oldest p) b) p.caller (oldest p) (with_desk (changed (Served i) (desk_of bytes)) bytes)
 
@@ -80,5 +80,5 @@ serve (Of i) at bytes b =
 unfoldable pub turn_outcome : (at : ℕ) → List ℕ → Buffers → TurnOutcome
 turn_outcome at bytes b =
     if good_window at b.window
-    then (if is_register b.records b.names b.missing then serve (turn_at bytes) at bytes b else idle (number NoRegister) bytes b)
-    else idle (number BadWindow) bytes b
+    then (if is_register b.records b.names b.missing then serve (turn_at bytes) at bytes b else idle (refusal_number NoRegister) bytes b)
+    else idle (refusal_number BadWindow) bytes b

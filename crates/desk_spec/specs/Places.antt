@@ -1,14 +1,12 @@
 -- Laws of places: one that changes, a caller's own, and the one that a turn serves.
 use Prim.Native.Nat.{ℕ, zero, suc, ◌+◌, ◌-◌, ◌≤◌, ◌<◌}
-use Rattle.std.specs.Prelude.{◌≡◌, Bool, true, false, ◌||◌, length, drop, leb}
+use Rattle.std.specs.Prelude.{◌≡◌, Bool, true, false, ◌||◌, length, drop, leb, Option, Some, None}
 use Rattle.std.proofs.Math.Path.{refl, sym, ap}
 use Rattle.std.proofs.Common.{◌∙◌, get_or-drop, leb-false, eq-eqb, ne_eqb}
 use mathlib.Core.List.{List, [], ◌∷◌}
 use native.Mathlib.Omega.{arith}
 use Rattle.std.proofs.Math.Decide.{ℕ_discrete, dec_lt}
 use Rattle.history.specs.Below.{Each}
-use Rattle.desk_spec.specs.declared.place.Turn.{Turn}
-use Rattle.desk_spec.specs.declared.place.Turn.TheVariants.{Nobody, Of}
 use Rattle.desk_spec.specs.Desk.{Place, place, Desk, most_places, most_waiting, place_at, with_place, place_of, no_room_for, first_waiting, or_else, turn_of}
 
 -- a place changes, or a new one comes
@@ -158,7 +156,7 @@ record First (ps : List Place) (j : ℕ) : Type 0 where
   waits : HasWaiting ps j
   first : (k : ℕ) → HasWaiting ps k → j ≤ k
 
-first_of : (i : ℕ) (ps : List Place) {n : ℕ} → first_waiting i ps ≡ Of n → (j : ℕ) × (n ≡ i + j) × First ps j
+first_of : (i : ℕ) (ps : List Place) {n : ℕ} → first_waiting i ps ≡ Some n → (j : ℕ) × (n ≡ i + j) × First ps j
 unfolding first_waiting place_at
 first_of i [] {n} e = let z : ◌≡◌ {A = ℕ} 0 1 = cc in absurd (omega arith)
 first_of i (q ∷ qs) {n} e =
@@ -169,18 +167,18 @@ first_of i (q ∷ qs) {n} e =
           λ k. elim k as (λ k. HasWaiting (q ∷ qs) k → suc j ≤ k) [ zero ↦ λ w. absurd (omega arith) | suc m ↦ λ w. let g = f.first m w in omega arith ] in
           (suc j, omega arith, record { waits = f.waits; first = least })
       | no z ↦
-          let e₁ : Of i ≡ Of n = rw (ne_eqb (length q.waiting) 0 z) at e in
+          let e₁ : Some i ≡ Some n = rw (ne_eqb (length q.waiting) 0 z) at e in
           let e₂ : n ≡ i = cc in
           (0, omega arith, record { waits = omega arith; first = λ k w. omega arith })
     ]
 
-none_waits : (i : ℕ) (ps : List Place) → first_waiting i ps ≡ Nobody → (k : ℕ) → HasWaiting ps k → ⊥
+none_waits : (i : ℕ) (ps : List Place) → first_waiting i ps ≡ None → (k : ℕ) → HasWaiting ps k → ⊥
 unfolding first_waiting place_at
 none_waits i [] e k w = omega arith
 none_waits i (q ∷ qs) e k w =
     elim (ℕ_discrete (length q.waiting) 0) [
       | yes z ↦ go (none_waits (suc i) qs (rw (eq-eqb (length q.waiting) 0 z) at e)) z k w
-      | no z ↦ let e₁ : Of i ≡ Nobody = rw (ne_eqb (length q.waiting) 0 z) at e in let o : ◌≡◌ {A = ℕ} 0 1 = cc in omega arith
+      | no z ↦ let e₁ : Some i ≡ None = rw (ne_eqb (length q.waiting) 0 z) at e in let o : ◌≡◌ {A = ℕ} 0 1 = cc in omega arith
     ]
   where
     go : ((m : ℕ) → HasWaiting qs m → ⊥) → length q.waiting ≡ 0 → (m : ℕ) → HasWaiting (q ∷ qs) m → ⊥
@@ -200,7 +198,7 @@ dropped ps n j = get_or-drop n ps j (place 0 [])
 from-there : (ps : List Place) (n k : ℕ) → n ≤ k → HasWaiting ps k → HasWaiting (drop n ps) (k - n)
 from-there ps n k h w = let z : n + (k - n) ≡ k = omega arith in rw (dropped ps n (k - n), z) w
 
-pub turn_serves : (d : Desk) (i : ℕ) → turn_of d ≡ Of i → HasWaiting d.places i × Way d i
+pub turn_serves : (d : Desk) (i : ℕ) → turn_of d ≡ Some i → HasWaiting d.places i × Way d i
 unfolding turn_of
 turn_serves d i e = go (first_waiting d.next (drop d.next d.places)) refl e
   where
@@ -208,9 +206,9 @@ turn_serves d i e = go (first_waiting d.next (drop d.next d.places)) refl e
     there = drop d.next d.places
 
     go
-        : (t : Turn) → first_waiting d.next there ≡ t → or_else t (first_waiting 0 d.places) ≡ Of i
+        : (t : Option ℕ) → first_waiting d.next there ≡ t → or_else t (first_waiting 0 d.places) ≡ Some i
         → HasWaiting d.places i × Way d i
-    go Nobody f g =
+    go None f g =
         let (j, s, m) = first_of 0 d.places g in
         let z : i ≡ j = omega arith in
         let before : (k : ℕ) → HasWaiting d.places k → k < d.next =
@@ -219,7 +217,7 @@ turn_serves d i e = go (first_waiting d.next (drop d.next d.places)) refl e
           | no l ↦ absurd (none_waits d.next there f (k - d.next) (from-there d.places d.next k (omega arith) w))
         ] in
         rw z (m.waits, round before m.first)
-    go (Of n) f g =
+    go (Some n) f g =
         let (j, s, m) = first_of d.next there f in
         let o : i ≡ n = cc in
         let z : i ≡ d.next + j = omega arith in
@@ -228,10 +226,10 @@ turn_serves d i e = go (first_waiting d.next (drop d.next d.places)) refl e
         λ k v h. let l = m.first (k - d.next) (from-there d.places d.next k h v) in omega arith in
         rw z (w, ahead (omega arith) least)
 
-pub nobody_waits : (d : Desk) → turn_of d ≡ Nobody → (k : ℕ) → HasWaiting d.places k → ⊥
+pub nobody_waits : (d : Desk) → turn_of d ≡ None → (k : ℕ) → HasWaiting d.places k → ⊥
 unfolding turn_of
 nobody_waits d e k w = go (first_waiting d.next (drop d.next d.places)) e k w
   where
-    go : (t : Turn) → or_else t (first_waiting 0 d.places) ≡ Nobody → (k : ℕ) → HasWaiting d.places k → ⊥
-    go Nobody g k w = none_waits 0 d.places g k w
-    go (Of n) g k w = let o : ◌≡◌ {A = ℕ} 0 1 = cc in omega arith
+    go : (t : Option ℕ) → or_else t (first_waiting 0 d.places) ≡ None → (k : ℕ) → HasWaiting d.places k → ⊥
+    go None g k w = none_waits 0 d.places g k w
+    go (Some n) g k w = let o : ◌≡◌ {A = ℕ} 0 1 = cc in omega arith

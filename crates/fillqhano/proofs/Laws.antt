@@ -1,5 +1,5 @@
 -- The two tests, and what an exported call makes of a call over a trace.
-use Rattle.std.specs.Prelude.{if◌then◌else◌}
+use Rattle.std.specs.Prelude.{if◌then◌else◌, Result, Ok, Err, IfOk, IfErr}
 use Prim.Native.Nat.{ℕ}
 use mathlib.Core.Path.{◌≡◌, refl, sym, ap, ◌∙◌}
 use mathlib.Core.List.{List}
@@ -12,10 +12,13 @@ use Rattle.window.specs.Trace.{run_t, touch_of}
 use Rattle.window.specs.Silent.{erase}
 use Rattle.register.specs.Module.{Register}
 use Rattle.register.specs.Decode.{is_register}
-use Rattle.linker_spec.specs.Calls.{Answer, NoRoom, number, value}
+use Rattle.linker_spec.specs.Calls.{Answer, number, value}
 use Rattle.linker_spec.specs.Outcome.{Buffers, Outcome, outcome, outcome_of, call_outcome}
 use Rattle.linker_spec.specs.Touches.{no_touch, no_log, touch_in, counted, touches}
 use Rattle.linker_spec.proofs.Refusals.{answers, refuses_3, refuses_4}
+use Rattle.linker_spec.specs.declared.refusal.Refusal.TheVariants.{NoRoom}
+use Rattle.linker_spec.specs.declared.refusal.Refusal.{Refusal}
+use Rattle.linker_spec.specs.Refusal.{refusal_number, number_of, value_of}
 use Rattle.linker.specs.Calls.Traced.{call_of, traced}
 use Rattle.fillqhano.specs.Refusal.{refusal_of_buffers}
 
@@ -55,7 +58,7 @@ tests_refuse call at b {n} e k =
 
 counted_ap : {A B : Type 0} (f : A → B) (a : Answer) (x y : A) → f (counted a x y) ≡ counted a (f x) (f y)
 unfolding counted
-counted_ap f a x y = go (eqb (number a) (number NoRoom))
+counted_ap f a x y = go (eqb (number a) (refusal_number NoRoom))
   where
     go : (t : Bool) → f (if t then x else y) ≡ (if t then f x else f y)
     go true = refl
@@ -117,3 +120,10 @@ module _ (call : ℕ → ℕ → Register → Prog Answer) (beginning : Prog (Un
   call-answered z h g =
       let passed = tests_pass _ _ e z in
       (exported-outcome call beginning at b passed.0 passed.1 h, exported-touches call beginning at b passed.0 passed.1 h g)
+
+-- what C is told of an answer
+pub answer_number
+    : (r : Result ℕ Refusal) {n v : ℕ} → IfOk r (λ given. (n ≡ 0) × (v ≡ given)) → IfErr r (λ error. (n ≡ refusal_number error) × (v ≡ 0))
+    → (n ≡ number_of r) × (v ≡ value_of r)
+answer_number (Ok given) done refused = done
+answer_number (Err error) done refused = refused

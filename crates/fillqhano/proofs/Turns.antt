@@ -1,15 +1,14 @@
 -- What a turn of the desk is: refused by the two tests, idle, or a command buffer's handling.
-use Rattle.std.specs.Prelude.{if◌then◌else◌}
+use Rattle.std.specs.Prelude.{if◌then◌else◌, Option, Some, None}
 use Prim.Native.Nat.{ℕ}
 use mathlib.Core.Path.{◌≡◌, sym, ap, ◌∙◌}
 use mathlib.Core.List.{List}
 use mathlib.Core.Bool.{Bool, true, false}
 use Rattle.window.specs.Memory.{good_window}
 use Rattle.register.specs.Decode.{is_register}
-use Rattle.linker_spec.specs.Calls.{BadWindow, NoRegister, number}
 use Rattle.linker_spec.specs.Outcome.{Buffers}
-use Rattle.desk_spec.specs.declared.place.Turn.{Turn}
-use Rattle.desk_spec.specs.declared.place.Turn.TheVariants.{Nobody, Of}
+use Rattle.linker_spec.specs.declared.refusal.Refusal.TheVariants.{BadWindow, NoRegister}
+use Rattle.linker_spec.specs.Refusal.{refusal_number}
 use Rattle.desk_spec.specs.declared.place.Change.TheVariants.{Served}
 use Rattle.desk_spec.specs.Desk.{place_at, oldest, changed}
 use Rattle.desk_spec.specs.Bytes.{desk_of, with_desk}
@@ -35,18 +34,18 @@ module _ (at : ℕ) (desk : List ℕ) (b : Buffers) {n : ℕ}
         go
             : (g v : Bool) → n ≡ refusal_of_buffers g v
             → idle n desk b
-            ≡ (if g then (if v then serve (turn_at desk) at desk b else idle (number NoRegister) desk b) else idle (number BadWindow) desk b)
+            ≡ (if g then (if v then serve (turn_at desk) at desk b else idle (refusal_number NoRegister) desk b) else idle (refusal_number BadWindow) desk b)
         go true true z = absurd (k z)
         go true false z = rw z
         go false v z = rw z
 
     pub turn-idle
-        : n ≡ 0 → {t : Turn} → t ≡ turn_at desk → t ≡ Nobody → turn_outcome_of (handled 0 value served (touched, first) b) caller buffer desk ≡ turn_outcome at desk b
+        : n ≡ 0 → {t : Option ℕ} → t ≡ turn_at desk → t ≡ None → turn_outcome_of (handled 0 value served (touched, first) b) caller buffer desk ≡ turn_outcome at desk b
     unfolding serve
     turn-idle z f nobody = unchanged 0 ∙ ap (λ t. serve t at desk b) (sym nobody ∙ f) ∙ served_by z
 
   pub turn-served
-      : n ≡ 0 → {t : Turn} → t ≡ turn_at desk → {i : ℕ} → t ≡ Of i → {caller buffer : ℕ} → caller ≡ (place_at (desk_of desk).places i).caller
+      : n ≡ 0 → {t : Option ℕ} → t ≡ turn_at desk → {i : ℕ} → t ≡ Some i → {caller buffer : ℕ} → caller ≡ (place_at (desk_of desk).places i).caller
       → buffer ≡ oldest (place_at (desk_of desk).places i) → {did : Handled} → did ≡ handle at buffer b → {desk' : List ℕ}
       → desk' ≡ with_desk (changed (Served i) (desk_of desk)) desk → turn_outcome_of did caller buffer desk' ≡ turn_outcome at desk b
   unfolding serve

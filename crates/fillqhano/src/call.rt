@@ -6,7 +6,7 @@ ghost use Rattle.history.specs.Sessions.{given, WordArguments};
 
 use linker_spec::call::Call;
 
-// Makes the call. Whatever it is, its arguments are 32-bit numbers.
+// Makes the call. Whatever it is, its arguments are 32-bit numbers. It answers as the three do, in C's form.
 pub fn make_call(
     call: Call,
     at: u32,

@@ -1,39 +1,63 @@
 // The calls that a host makes, by the library `fillqhano_c`: `initialize`, `load` and `unload` of the title's loader, for any bytes lent, the writer's
 // `write_image` and `read_image`, and the service desk's `send` and `turn`. Each answers a number, and lends its value through `value`; a call of
 // the loader that answers 1 to 5 leaves the register as it was. `touched` becomes 1 where an access had a byte outside the window, and `first`
-// where the first such access started.
+// where the first such access started. Numbers, and places for what is given beside them, are C's form: `fillqhano_c` exports each as it is.
 #![tactic(auto)]
 
 pub mod call;
 mod serve;
 
-ghost use Rattle.std.specs.Prelude.{◌≡◌};
+ghost use Rattle.std.specs.Prelude.{◌≡◌, ℕ, List, IfOk, IfErr};
 ghost use Rattle.window.specs.Memory.{good_window};
 ghost use Rattle.window.specs.Trace.{touch_of};
 ghost use Rattle.register.specs.Decode.{is_register};
 ghost use Rattle.linker_spec.specs.Outcome.{buffers, outcome, load_arguments, initialize_outcome, load_outcome, unload_outcome};
+ghost use Rattle.linker_spec.specs.Refusal.{number_of};
 ghost use Rattle.linker_spec.specs.Touches.{initialize_touches, load_touches, unload_touches};
 ghost use Rattle.writer_spec.specs.Outcome.{left, write_outcome, read_outcome};
 ghost use Rattle.desk_spec.specs.Outcome.{send_outcome, handled, turn_outcome_of, turn_outcome};
 ghost use Rattle.fillqhano.specs.Refusal.{refusal_of_buffers};
 
 use desk::places;
-use desk_spec::place::Turn;
 use linker::calls;
 use linker_spec::rebase::LoadArguments;
+use linker_spec::refusal::Refusal;
 use register_test::is_register;
 
-// The tests that come first: 3 where the window breaks its rule, then 4 where the buffers are no register.
-fn refusal_of_buffers(at: u32, w: &[u8], records: &[u8], names: &[u8], missing: &[u8]) -> u32
-    ensures { result ≡ refusal_of_buffers (good_window at w.now) (is_register records.now names.now missing.now) }
+// The tests that come first: the window's rule, then whether the buffers are a register.
+fn check_buffers(
+    at: u32,
+    w: &[u8],
+    records: &[u8],
+    names: &[u8],
+    missing: &[u8],
+) -> Result<(), Refusal>
+    ensures { number_of result ≡ refusal_of_buffers (good_window at w.now) (is_register records.now names.now missing.now) }
 {
     if !window::good_window(at, w) {
-        return 3;
+        return Err(Refusal::BadWindow);
     }
     if !is_register(records, names, missing) {
-        return 4;
+        return Err(Refusal::NoRegister);
     }
-    0
+    Ok(())
+}
+
+// What C gets of an answer: 0 and the value, or the error's number and the value 0.
+fn answer<E: Into<u32>>(answered: Result<u32, E>, value: &mut u32) -> u32
+    ensures done { IfOk answered (λ given. (result ≡ 0) × (value.new ≡ given)) }
+    ensures refused { IfErr answered (λ error. E.converts error result × (value.new ≡ 0)) }
+{
+    match answered {
+        Ok(given) => {
+            *value = given;
+            0
+        }
+        Err(error) => {
+            *value = 0;
+            error.into()
+        }
+    }
 }
 
 // No value and no touch, whatever the call before left in their places; or none that a turn served.
@@ -74,9 +98,8 @@ pub fn initialize(
         (buffers window.old records.old names.old missing.old) }
 {
     clear(value, touched, first);
-    let refused = refusal_of_buffers(at, window, records, names, missing);
-    if refused != 0 {
-        return refused;
+    if let Err(refusal) = check_buffers(at, window, records, names, missing) {
+        return u32::from(refusal);
     }
     let mut trace = [0u8; 16];
     let initialized = calls::initialize(
@@ -88,10 +111,9 @@ pub fn initialize(
         missing,
         base,
         size,
-        value,
     );
     tell(&trace[..], touched, first);
-    initialized
+    answer(initialized, value)
 }
 
 // Loads a module: links it, and gives as value how much of it is left.
@@ -121,9 +143,8 @@ pub fn load(
         (buffers window.old records.old names.old missing.old) }
 {
     clear(value, touched, first);
-    let refused = refusal_of_buffers(at, window, records, names, missing);
-    if refused != 0 {
-        return refused;
+    if let Err(refusal) = check_buffers(at, window, records, names, missing) {
+        return u32::from(refusal);
     }
     let mut trace = [0u8; 16];
     let given = LoadArguments {
@@ -144,10 +165,9 @@ pub fn load(
         given,
         auto_link,
         fix_level,
-        value,
     );
     tell(&trace[..], touched, first);
-    loaded
+    answer(loaded, value)
 }
 
 // Unloads the first module with that base: the modules that linked on their own no longer use it, and its record is gone.
@@ -171,37 +191,27 @@ pub fn unload(
         (buffers window.old records.old names.old missing.old) }
 {
     clear(value, touched, first);
-    let refused = refusal_of_buffers(at, window, records, names, missing);
-    if refused != 0 {
-        return refused;
+    if let Err(refusal) = check_buffers(at, window, records, names, missing) {
+        return u32::from(refusal);
     }
     let mut trace = [0u8; 16];
-    let unloaded = calls::unload(
-        at,
-        window,
-        &mut trace[..],
-        records,
-        names,
-        missing,
-        base,
-        value,
-    );
+    let unloaded = calls::unload(at, window, &mut trace[..], records, names, missing, base);
     tell(&trace[..], touched, first);
-    unloaded
+    answer::<Refusal>(Ok(unloaded), value)
 }
 
 // Writes the CRO image of a description, and gives as value its length: 6 where it would not be well laid in each place, then 7 where it does not fit.
 pub fn write_image(description: &[u8], image: &mut [u8], value: &mut u32) -> u32
     ensures { left result value.new image.new ≡ write_outcome description.now image.old }
 {
-    writer::image::write_image(description, image, value)
+    answer(writer::image::write_image(description, image), value)
 }
 
 // Gives the description of an image that was written so back, and as value its length.
 pub fn read_image(image: &[u8], description: &mut [u8], value: &mut u32) -> u32
     ensures { left result value.new description.new ≡ read_outcome image.now description.old }
 {
-    writer::image::read_image(image, description, value)
+    answer(writer::image::read_image(image, description), value)
 }
 
 // Puts a command buffer at the end of its caller's queue: 8 for a ninth caller or a seventeenth buffer.
@@ -237,11 +247,10 @@ pub fn turn(
 {
     clear(value, touched, first);
     clear(served, caller, buffer);
-    let refused = refusal_of_buffers(at, window, records, names, missing);
-    if refused != 0 {
-        return refused;
+    if let Err(refusal) = check_buffers(at, window, records, names, missing) {
+        return u32::from(refusal);
     }
-    let Turn::Of(place) = places::turn_at(desk) else {
+    let Some(place) = places::turn_at(desk) else {
         return 0;
     };
     *caller = places::caller_at(desk, place);

@@ -7,7 +7,7 @@ use crate::call::make_call;
 use desk::command::{command_at, id_at, reply_done, reply_error, reply_to};
 use desk_spec::command::Command;
 
-// Answers the command buffer at p: `served` becomes 1, or 2 where its id is outside 1 to 9.
+// Answers the command buffer at p: `served` becomes 1, or 2 where its id is outside 1 to 9. Numbers and places, as `turn` gives C.
 pub(crate) fn handle(
     at: u32,
     window: &mut [u8],

@@ -3,11 +3,10 @@ ghost use Rattle.std.specs.Prelude.{◌≡◌, ◌++◌, ◌<◌};
 ghost use Rattle.window.specs.Access.{run};
 ghost use Rattle.layout.specs.Header.{magic};
 ghost use Rattle.layout.specs.Segments.{field};
-ghost use Rattle.text.specs.Text.{bytes, put};
+ghost use Rattle.text.specs.Text.{bytes};
 ghost use Rattle.header.specs.Lines.{is_module, line_at, words_length};
 
 use layout::header;
-use text::put_text;
 
 // The two magics, as words.
 const CRO0: u32 = 0x304F_5243;
@@ -64,27 +63,25 @@ const NAMES: [u8; 912] = *b"magic name_offset next_cro previous_cro file_size bs
 fn words_length(text: &[u8], k: u32) -> usize
     ensures { result ≡ words_length k text.now }
 {
-    let mut i: usize = 0;
     let mut left = k;
-    while i < text.len() {
+    for (i, c) in text.iter().enumerate() {
         if left == 0 {
             return i;
         }
-        if text[i] == b' ' {
+        if *c == b' ' {
             left -= 1;
         }
-        i += 1;
     }
-    i
+    text.len()
 }
 
-// Puts the name of the field that line k shows, and a space.
-pub fn put_name(out: &mut [u8], at: usize, k: u32) -> usize
+// The name of the field that line k shows, and a space.
+pub fn name(k: u32) -> &'static [u8]
     requires { k < 42 }
-    ensures { (result, out.new) ≡ put (bytes (line_at k).0 ++ bytes " ") (at, out.old) }
+    ensures { result.now ≡ bytes (line_at k).0 ++ bytes " " }
 {
-    let names: &[u8] = &NAMES;
+    let names: &'static [u8] = &NAMES;
     let from = words_length(names, k);
     let to = words_length(names, k + 1);
-    put_text(out, at, &names[from..to])
+    &names[from..to]
 }

@@ -7,7 +7,6 @@ mod lines;
 ghost use Rattle.std.specs.Prelude.{◌<◌};
 
 use layout::peek;
-use layout::segments::FoundSegment;
 use reading::read_full;
 use std::io;
 use std::io::Write;
@@ -37,14 +36,9 @@ fn print_fields<W: Write>(out: &mut W, w: &[u8]) -> io::Result<()> {
 fn print_field<W: Write>(out: &mut W, w: &[u8], k: u32) -> io::Result<()>
     requires { k < 42 }
 {
-    let mut name = [0u8; 40];
-    let n = lines::put_name(&mut name, 0, k);
-    out.write_all(&name[..n])?;
-    print_hex(
-        out,
-        peek::field(BASE, w, BASE, lines::line_offset(k)),
-        b"\n",
-    )
+    out.write_all(lines::name(k))?;
+    let word = peek::field(BASE, w, BASE, lines::line_offset(k));
+    writeln!(out, "{word:x}")
 }
 
 fn print_segments<W: Write>(out: &mut W, w: &[u8]) -> io::Result<()> {
@@ -58,22 +52,10 @@ fn print_segments<W: Write>(out: &mut W, w: &[u8]) -> io::Result<()> {
 
 // Prints segment i, if there is one, and answers whether.
 fn print_segment<W: Write>(out: &mut W, w: &[u8], i: u32) -> io::Result<bool> {
-    let FoundSegment::Found(s) = peek::segment(BASE, w, BASE, i) else {
+    let Some(s) = peek::segment(BASE, w, BASE, i) else {
         return Ok(false);
     };
-    let kind = s.kind;
-    out.write_all(b"segment ")?;
-    print_hex(out, i, b" ")?;
-    print_hex(out, s.offset, b" ")?;
-    print_hex(out, s.size, b" ")?;
-    print_hex(out, kind.raw(), b"\n")?;
+    let kind = u32::from(s.kind);
+    writeln!(out, "segment {i:x} {:x} {:x} {kind:x}", s.offset, s.size)?;
     Ok(true)
-}
-
-// Prints v and what comes after it.
-fn print_hex<W: Write>(out: &mut W, v: u32, after: &[u8]) -> io::Result<()> {
-    let mut digits = [0u8; 8];
-    let n = text::put_hex(&mut digits, 0, v);
-    out.write_all(&digits[..n])?;
-    out.write_all(after)
 }

@@ -1,8 +1,7 @@
 -- Demand 3: history must not show. The premises, each under its own name, and the claim about a linker and any two whole sessions.
-use Rattle.std.specs.Prelude.{ℕ, ◌<◌, ◌≡◌, ◌≢◌, List, [], ◌∷◌, map, true, false, length}
+use Rattle.std.specs.Prelude.{ℕ, ◌<◌, ◌≡◌, ◌≢◌, List, [], ◌∷◌, map, true, false, length, Some}
 use Rattle.window.specs.Memory.{byte_at}
 use Rattle.window.specs.Within.{In, Agree}
-use Rattle.layout.specs.declared.segments.Address.TheVariants.{At}
 use Rattle.linker_spec.specs.declared.call.Call.{Call}
 use Rattle.linker_spec.specs.declared.call.Call.TheVariants.{Initialize, Load, Unload}
 use Rattle.history.specs.Below.{Each, Pairs}
@@ -40,12 +39,12 @@ unfoldable pub OtherName : Image → Image → Type 0
 OtherName a b = module_name a.file ≢ module_name b.file
 
 unfoldable pub OtherExports : Image → Image → Type 0
-OtherExports a b = (name : List ℕ) (p q : ℕ) → export_of a name ≡ At p → export_of b name ≡ At q → ⊥
+OtherExports a b = (name : List ℕ) (p q : ℕ) → export_of a name ≡ Some p → export_of b name ≡ Some q → ⊥
 
 unfoldable pub ExportsOnce : Image → Type 0
 ExportsOnce a =
     (i j : ℕ) → i < count a.file named_exports → j < count a.file named_exports → export_name a i ≡ export_name a j
-    → (p q : ℕ) → export_address a i ≡ At p → export_address a j ≡ At q → i ≡ j
+    → (p q : ℕ) → export_address a i ≡ Some p → export_address a j ≡ Some q → i ≡ j
 
 -- "A refused call that leaves all unchanged .. may come anywhere ..; no other call is refused"
 unfoldable pub Harmless : CallRecord → Type 0

@@ -1,10 +1,8 @@
 -- Imports: their batches and runs, who exports what they ask for, and what it is for an import to hold an address.
-use Rattle.std.specs.Prelude.{ℕ, suc, ◌+◌, ◌*◌, ◌≤◌, ◌<◌, ◌≡◌, List, ◌≢◌, ◌⊎◌, true}
+use Rattle.std.specs.Prelude.{ℕ, suc, ◌+◌, ◌*◌, ◌≤◌, ◌<◌, ◌≡◌, List, ◌≢◌, ◌⊎◌, true, Some}
 use Rattle.window.specs.Mirror.{word}
 use Rattle.layout.specs.Format.{relocation_type}
 use Rattle.layout.specs.Relocation.Relocation.{relocated_word}
-use Rattle.layout.specs.declared.relocation.Patch.TheVariants.{Word}
-use Rattle.layout.specs.declared.segments.Address.TheVariants.{At}
 use Rattle.linker_spec.specs.Relocation.{batch_limit}
 use Rattle.history.specs.Image.{Table, named_imports, indexed_imports, anonymous_imports, module_entries, externals, count, entry, name_of, module_name, tag, kind, end_mark, addend}
 use Rattle.history.specs.LoadedModule.{Image, is_crs, address, export_of, indexed_of, anonymous_of}
@@ -75,11 +73,11 @@ module _ (F : ℕ → ℕ) where
 
 -- x has the export that import i of m asks for, at the address p
 unfoldable pub Exports : Image → Image → Import → ℕ → Type 0
-Exports x m (named i) p = export_of x (name_of m.file (wanted m.file (named i))) ≡ At p
+Exports x m (named i) p = export_of x (name_of m.file (wanted m.file (named i))) ≡ Some p
 Exports x m (indexed i) p =
-    From m.file (indexed i) (module_name x.file) × (indexed_of x (wanted m.file (indexed i)) ≡ At p)
+    From m.file (indexed i) (module_name x.file) × (indexed_of x (wanted m.file (indexed i)) ≡ Some p)
 Exports x m (anonymous i) p =
-    From m.file (anonymous i) (module_name x.file) × (anonymous_of x (wanted m.file (anonymous i)) ≡ At p)
+    From m.file (anonymous i) (module_name x.file) × (anonymous_of x (wanted m.file (anonymous i)) ≡ Some p)
 
 -- x is the exporter; the CRS never is of its own imports
 unfoldable pub Exporter : Image → Image → Import → ℕ → Type 0
@@ -88,6 +86,6 @@ Exporter x m i p = Exports x m i p × (is_crs m.load_call ≡ true → is_crs x.
 -- "An import holds an address if each batch entry of kind 2, 3 or 10 with a usable tag has the word that this address as symbol gives."
 unfoldable pub Holds : (ℕ → ℕ) → Image → Import → ℕ → Type 0
 Holds M m i symbol =
-    (e f j : ℕ) → BatchOf m.file i e f → e ≤ j → j ≤ f → (p v : ℕ) → address m (tag m.file externals j) ≡ At p
-    → relocated_word (relocation_type (kind m.file externals j)) (addend m.file externals j) symbol p ≡ Word v
+    (e f j : ℕ) → BatchOf m.file i e f → e ≤ j → j ≤ f → (p v : ℕ) → address m (tag m.file externals j) ≡ Some p
+    → relocated_word (relocation_type (kind m.file externals j)) (addend m.file externals j) symbol p ≡ Some v
     → word M p ≡ v

@@ -1,5 +1,5 @@
 -- An image in its place: the call that brought it and its own bytes; where its segments, exports and areas are.
-use Rattle.std.specs.Prelude.{if◌then◌else◌, ℕ, zero, suc, ◌+◌, ◌<◌, List, Bool, true, false, ◌⊎◌, eqb, ltb}
+use Rattle.std.specs.Prelude.{if◌then◌else◌, ℕ, zero, suc, ◌+◌, ◌<◌, List, Bool, true, false, ◌⊎◌, eqb, ltb, Option, Some, None}
 use Rattle.window.specs.Memory.{◌⊕◌}
 use Rattle.window.specs.Within.{In}
 use Rattle.window.specs.Mirror.{word}
@@ -9,10 +9,6 @@ use Rattle.layout.specs.Segments.{address_in}
 use Rattle.layout.specs.declared.format.Segment.{Segment}
 use Rattle.layout.specs.declared.format.SegmentType.{SegmentType}
 use Rattle.layout.specs.declared.format.SegmentType.TheVariants.{Code, RoData, Data, Bss}
-use Rattle.layout.specs.declared.segments.FoundSegment.{FoundSegment}
-use Rattle.layout.specs.declared.segments.FoundSegment.TheVariants.{Found, Missing}
-use Rattle.layout.specs.declared.segments.Address.{Address}
-use Rattle.layout.specs.declared.segments.Address.TheVariants.{At, Nowhere}
 use Rattle.register.specs.Words.{same}
 use Rattle.linker_spec.specs.Rebase.{at_offset}
 use Rattle.linker_spec.specs.declared.rebase.LoadArguments.{LoadArguments}
@@ -71,9 +67,9 @@ old_among zero (loaded l auto level) s = 0
 old_among (suc n) (loaded l auto level) s = old_for (s n) (s n).kind l.base (old_among n (loaded l auto level) s)
 
 -- "A later export of the same name replaces an earlier one; an unusable tag replaces nothing."
-unfoldable pub later_export : Bool → Address → Address → Address
-later_export true (At p) earlier = At p
-later_export true Nowhere earlier = earlier
+unfoldable pub later_export : Bool → Option ℕ → Option ℕ → Option ℕ
+later_export true (Some p) earlier = Some p
+later_export true None earlier = earlier
 later_export false x earlier = earlier
 
 module _ (m : Image) where
@@ -87,11 +83,11 @@ module _ (m : Image) where
   old_place = old_among (count F segments) m.load_call (file_segment F)
 
   -- segment i in its place
-  unfoldable pub placed_segment : ℕ → FoundSegment
-  placed_segment i = if ltb i (count F segments) then Found (at_offset (file_segment F i) (segment_place i)) else Missing
+  unfoldable pub placed_segment : ℕ → Option Segment
+  placed_segment i = if ltb i (count F segments) then Some (at_offset (file_segment F i) (segment_place i)) else None
 
   -- the address that a tag gives
-  unfoldable pub address : ℕ → Address
+  unfoldable pub address : ℕ → Option ℕ
   address t = address_in (placed_segment (tag_segment t)) (tag_offset t)
 
   unfoldable pub handler : ℕ
@@ -110,25 +106,25 @@ module _ (m : Image) where
   unfoldable pub export_name : ℕ → List ℕ
   export_name i = name_of F (word F (entry F named_exports i))
 
-  unfoldable pub export_address : ℕ → Address
+  unfoldable pub export_address : ℕ → Option ℕ
   export_address i = address (word F (entry F named_exports i + 4))
 
   -- the export of that name among the first n
-  unfoldable pub export_among : ℕ → List ℕ → Address
-  export_among zero name = Nowhere
+  unfoldable pub export_among : ℕ → List ℕ → Option ℕ
+  export_among zero name = None
   export_among (suc n) name = later_export (same name (export_name n)) (export_address n) (export_among n name)
 
   -- "A named export with an unusable tag does not exist"
-  unfoldable pub export_of : List ℕ → Address
+  unfoldable pub export_of : List ℕ → Option ℕ
   export_of name = export_among (count F named_exports) name
 
   -- "An indexed export exists if the index is below the count"; with an unusable tag "an indexed one has address 0"
-  unfoldable pub indexed_of : ℕ → Address
-  indexed_of i = if ltb i (count F indexed_exports) then At (address_or0 (address (word F (entry F indexed_exports i)))) else Nowhere
+  unfoldable pub indexed_of : ℕ → Option ℕ
+  indexed_of i = if ltb i (count F indexed_exports) then Some (address_or0 (address (word F (entry F indexed_exports i)))) else None
 
   -- "An anonymous export exists if its segment does, and is that segment's address + offset, size untested."
-  unfoldable pub anonymous_of : ℕ → Address
-  anonymous_of t = if ltb (tag_segment t) (count F segments) then At (segment_place (tag_segment t) ⊕ tag_offset t) else Nowhere
+  unfoldable pub anonymous_of : ℕ → Option ℕ
+  anonymous_of t = if ltb (tag_segment t) (count F segments) then Some (segment_place (tag_segment t) ⊕ tag_offset t) else None
 
 -- "Bytes when loaded are those just before that call .."
 pub record LoadedModule : Type 0 where

@@ -5,16 +5,16 @@ pub mod Unique
 pub mod Registers
 pub mod Answers
 pub mod Conclude
-use Rattle.std.specs.Prelude.{if◌then◌else◌, ℕ, ◌^◌, ◌<◌, ◌≡◌, ◌⊎◌, List, [], ◌∷◌, ◌++◌, Bool, false, not, ◌||◌, length, eqb}
+use Rattle.std.specs.Prelude.{if◌then◌else◌, ℕ, ◌^◌, ◌<◌, ◌≡◌, ◌⊎◌, List, [], ◌∷◌, ◌++◌, Bool, false, not, ◌||◌, length, eqb, None}
 use Rattle.window.specs.Memory.{byte_at}
 use Rattle.window.specs.Within.{Agree}
-use Rattle.register.specs.declared.words.Crs.TheVariants.{Unknown}
 use Rattle.linker_spec.specs.declared.call.Call.{Call}
 use Rattle.linker_spec.specs.declared.call.Call.TheVariants.{Initialize, Load, Unload}
-use Rattle.linker_spec.specs.Calls.{BadWindow, NoRegister, number}
 use Rattle.linker_spec.specs.Outcome.{Buffers, Outcome, initialize_outcome, load_outcome, unload_outcome}
 use Rattle.linker_spec.specs.Refusals.{lent_register}
 use Rattle.linker_spec.specs.Valid.{AreBytes}
+use Rattle.linker_spec.specs.declared.refusal.Refusal.TheVariants.{BadWindow, NoRegister}
+use Rattle.linker_spec.specs.Refusal.{refusal_number}
 use Rattle.history.specs.LoadedModule.{initialized, loaded, LoadedModule, image_of, base_of, is_crs, Area}
 
 -- what the definition gives
@@ -45,7 +45,7 @@ done t = eqb (expected t).number 0
 
 -- lent a window or a register that breaks its rule: 3 or 4
 unfoldable pub unfit : CallRecord → Bool
-unfit t = eqb (expected t).number (number BadWindow) || eqb (expected t).number (number NoRegister)
+unfit t = eqb (expected t).number (refusal_number BadWindow) || eqb (expected t).number (refusal_number NoRegister)
 
 -- the calls lent a window and a register that keep their rules: these are the session's own
 unfoldable pub own : List CallRecord → List CallRecord
@@ -89,7 +89,7 @@ Areas (a ∷ S) q = Area (image_of a) q ⊎ Areas S q
 
 -- "The register starts with no module and no CRS."
 unfoldable pub Fresh : Buffers → Type 0
-Fresh b = ((lent_register b).modules ≡ []) × ((lent_register b).crs ≡ Unknown)
+Fresh b = ((lent_register b).modules ≡ []) × ((lent_register b).crs ≡ None)
 
 -- arguments are 32-bit numbers
 unfoldable pub WordArguments : Call → Type 0

@@ -1,12 +1,10 @@
 -- "A well-laid image": first what depends on the image alone, then what depends on its place.
-use Rattle.std.specs.Prelude.{ℕ, ◌+◌, ◌*◌, ◌≤◌, ◌<◌, ◌≡◌, ◌≢◌, ◌⊎◌, length, get_or}
+use Rattle.std.specs.Prelude.{ℕ, ◌+◌, ◌*◌, ◌≤◌, ◌<◌, ◌≡◌, ◌≢◌, ◌⊎◌, length, get_or, Some}
 use Rattle.window.specs.Within.{In}
 use Rattle.window.specs.Mirror.{word}
 use Rattle.layout.specs.Header.{header_size, next_cro, previous_cro, module_name_offset}
 use Rattle.layout.specs.Format.{relocation_type, tag_segment, tag_offset}
 use Rattle.layout.specs.Relocation.Relocation.{relocated_word}
-use Rattle.layout.specs.declared.relocation.Patch.TheVariants.{Word}
-use Rattle.layout.specs.declared.segments.Address.TheVariants.{At}
 use Rattle.linker_spec.specs.Relocation.{write_place}
 use Rattle.history.specs.Image.{Table, tables, segments, named_exports, export_tree, module_entries, externals, named_imports, static_anonymous, internals, static_relocations, start, count, entry, file_segment, tag, kind, symbol_segment}
 use Rattle.history.specs.LoadedModule.{LoadCall, initialized, loaded, Image, base_of, size_of, old_place, address, handler, Area}
@@ -88,15 +86,15 @@ pub data Relocated : Type 0 where
 module _ (a : Image) where
   -- kinds 2, 3 and 10 write a word, whatever the addend, symbol and place
   abbrev pub Writes : ℕ → Type 0
-  Writes k = (v : ℕ) × (relocated_word (relocation_type k) 0 0 0 ≡ Word v)
+  Writes k = (v : ℕ) × (relocated_word (relocation_type k) 0 0 0 ≡ Some v)
 
   -- where a relocated word stands: "every relocated word"; an internal one into Data "at the old place"
   unfoldable pub WordAt : Relocated → ℕ → Type 0
   WordAt (external i) p =
-      (i < count a.file externals) × Writes (kind a.file externals i) × (address a (tag a.file externals i) ≡ At p)
+      (i < count a.file externals) × Writes (kind a.file externals i) × (address a (tag a.file externals i) ≡ Some p)
   WordAt (internal i) p =
       (i < count a.file internals) × Writes (kind a.file internals i) × (symbol_segment a.file i < count a.file segments)
-      × (q : ℕ) × (address a (tag a.file internals i) ≡ At q)
+      × (q : ℕ) × (address a (tag a.file internals i) ≡ Some q)
       × (p
       ≡ write_place (file_segment a.file (tag_segment (tag a.file internals i))).kind (old_place a) (tag_offset (tag a.file internals i)) q)
 

@@ -5,13 +5,14 @@ use Rattle.window.specs.Access.{Prog, ret, run, length_run}
 use Rattle.register.specs.Module.{Register}
 use Rattle.register.specs.Decode.{is_register}
 use Rattle.linker_spec.specs.Calls as calls
-use Rattle.linker_spec.specs.Calls.{Answer, NotACro, BadSegment, BadWindow, NoRegister, NoRoom, NotLoaded, Done}
+use Rattle.linker_spec.specs.Calls.{Answer, NotLoaded, Done, Refused}
 use Rattle.linker_spec.specs.Outcome.{Buffers, register_after, outcome_of, refusal_order, call_outcome, initialize_outcome, load_outcome, unload_outcome}
 use Rattle.linker_spec.specs.Refusals.{lent_register}
 use Rattle.linker_spec.specs.Valid.{Valid, AreBytes}
 use Rattle.linker_spec.proofs.Valid.{initialize_valid, load_valid, unload_valid}
 use Rattle.linker_spec.specs.declared.call.Call.{Call}
 use Rattle.linker_spec.specs.declared.call.Call.TheVariants.{Initialize, Load, Unload}
+use Rattle.linker_spec.specs.declared.refusal.Refusal.TheVariants.{NotACro}
 use Rattle.history.specs.Sessions.{given, WordArguments}
 
 -- a run that leaves such a window
@@ -20,17 +21,13 @@ RunLeaves at w v = (m : Prog Answer) × (v ≡ (run at m w).1)
 
 after_window : (b : Buffers) (w : List ℕ) (a : Answer) → (register_after b w a).window ≡ w
 unfolding register_after
-after_window b w NotACro = refl
-after_window b w BadSegment = refl
-after_window b w BadWindow = refl
-after_window b w NoRegister = refl
-after_window b w NoRoom = refl
+after_window b w (Refused refusal) = refl
 after_window b w NotLoaded = refl
 after_window b w (Done v r) = refl
 
 unchanged : (at : ℕ) (w : List ℕ) → RunLeaves at w w
 unfolding run
-unchanged at w = (ret NotACro, refl)
+unchanged at w = (ret (Refused NotACro), refl)
 
 settled : (at : ℕ) (b : Buffers) (m : Prog Answer) → RunLeaves at b.window (outcome_of b (run at m b.window)).left.window
 unfolding outcome_of

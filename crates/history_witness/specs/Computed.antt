@@ -1,6 +1,5 @@
 -- The calls of two sessions, written out, and what each gives: number, value and every byte left.
-use Rattle.std.specs.Prelude.{ℕ, ◌≡◌, refl, List, [], ◌∷◌, true}
-use Rattle.register.specs.declared.words.Crs.TheVariants.{Known}
+use Rattle.std.specs.Prelude.{ℕ, ◌≡◌, refl, List, [], ◌∷◌, true, Some}
 use Rattle.register.specs.Module.{Module, Register}
 use Rattle.linker_spec.specs.declared.rebase.LoadArguments.{LoadArguments}
 use Rattle.linker_spec.specs.declared.call.Call.TheVariants.{Initialize, Load, Unload}
@@ -63,7 +62,7 @@ n_module =
 
 -- `g` is noted as missing when `m` comes
 abbrev pub register : List Module → List (List ℕ) → Register
-register ms missing = record { modules = ms; crs = Known 0x100000; missing = missing }
+register ms missing = record { modules = ms; crs = Some 0x100000; missing = missing }
 
 -- a window, and a zeroed register in so many bytes of records and names
 abbrev pub fresh : ℕ → ℕ → List ℕ → Buffers

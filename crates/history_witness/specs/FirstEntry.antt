@@ -1,7 +1,6 @@
 -- A load that patches the first entry of each batch alone and marks the batch as resolved: the definition's steps, by their own names,
 -- but for the walk of one entry in `resolve`.
-use Rattle.std.specs.Prelude.{if◌then◌else◌, ℕ, List, [], ◌∷◌, Bool, not, eqb}
-use Rattle.std.proofs.Math.Option.{Option, some, none}
+use Rattle.std.specs.Prelude.{if◌then◌else◌, ℕ, List, [], ◌∷◌, Bool, not, eqb, Option, Some, None}
 use Rattle.window.specs.Memory.{◌⊕◌}
 use Rattle.window.specs.Access.{Prog, ret, ◌>>=◌, ◌>>◌, get32, put8}
 use Rattle.window.specs.Loop.{loop}
@@ -12,8 +11,6 @@ use Rattle.register.specs.Module.{Module, Register}
 use Rattle.register.specs.Change.{appended}
 use Rattle.register.specs.Words.{same}
 use Rattle.register.specs.Read.Read.{lookup_in, export_of, entry_of}
-use Rattle.register.specs.declared.read.Symbol.{Symbol}
-use Rattle.register.specs.declared.read.Symbol.TheVariants.{At, Nothing}
 use Rattle.linker_spec.specs.declared.rebase.LoadArguments.{LoadArguments}
 use Rattle.linker_spec.specs.declared.call.Call.{Call}
 use Rattle.linker_spec.specs.declared.call.Call.TheVariants.{Initialize, Load, Unload}
@@ -25,11 +22,11 @@ use Rattle.linker_spec.specs.Outcome.{Buffers, Outcome, call_outcome}
 use Rattle.history.specs.Sessions.{given}
 
 -- one entry, and the mark
-unfoldable pub resolve : ℕ → ℕ → Symbol → Prog (Unit {0})
-resolve base batch (At a) = do
+unfoldable pub resolve : ℕ → ℕ → Option ℕ → Prog (Unit {0})
+resolve base batch (Some a) = do
   n ← walk 1 base a batch 0
   put8 (batch ⊕ 6) 1
-resolve base batch Nothing = ret tt
+resolve base batch None = ret tt
 
 unfoldable pub import_named : List Module → ℕ → ℕ → List (List ℕ) → Prog (List (List ℕ))
 import_named ms base entry missing = do
@@ -47,7 +44,7 @@ apply_import_named_symbols ms base missing = do
   count ← field base import_named_symbol_num
   loop (λ i xs. import_named ms base (entry_at table i import_named_symbol_entry_size) xs) 0 count missing
 
-unfoldable pub import_from : (ℕ → Symbol) → ℕ → ℕ → Prog (Unit {0})
+unfoldable pub import_from : (ℕ → Option ℕ) → ℕ → ℕ → Prog (Unit {0})
 import_from symbol base entry = do
   x ← get32 entry
   batch ← get32 (entry ⊕ 4)
@@ -55,8 +52,8 @@ import_from symbol base entry = do
   if unresolved then resolve base batch (symbol x) else ret tt
 
 unfoldable pub link_from : Option Module → (base indexed n anonymous m : ℕ) → Prog (Unit {0})
-link_from none base indexed n anonymous m = ret tt
-link_from (some source) base indexed n anonymous m = do
+link_from None base indexed n anonymous m = ret tt
+link_from (Some source) base indexed n anonymous m = do
   loop (λ i _. import_from (entry_of source.indexed) base (entry_at indexed i import_indexed_symbol_entry_size)) 0 n tt
   loop (λ i _. import_from (anonymous_of source) base (entry_at anonymous i import_anonymous_symbol_entry_size)) 0 m tt
 
@@ -93,7 +90,7 @@ unfoldable pub serve_module : Module → ℕ → ℕ → Prog (Unit {0})
 serve_module new base entry = do
   p ← get32 entry
   name ← name_at p
-  if same name new.name then imports_of (some new) base entry else ret tt
+  if same name new.name then imports_of (Some new) base entry else ret tt
 
 unfoldable pub serve : Module → ℕ → Prog (Unit {0})
 serve new base = do

@@ -1,11 +1,9 @@
 -- What the two sessions reach, as ten numbered items; every word named is one that antt computes.
-use Rattle.std.specs.Prelude.{ℕ, ◌+◌, ◌≡◌, refl, ◌≢◌, [], ◌∷◌, true, ◌||◌, eqb}
+use Rattle.std.specs.Prelude.{ℕ, ◌+◌, ◌≡◌, refl, ◌≢◌, [], ◌∷◌, true, ◌||◌, eqb, Some, None}
 use Rattle.std.proofs.Common.{ap, arith}
 use Rattle.window.specs.Memory.{◌⊕◌, ◌⊖◌, word_at}
 use Rattle.window.specs.Mirror.{word}
 use Rattle.layout.specs.declared.format.SegmentType.TheVariants.{Data, Bss}
-use Rattle.layout.specs.declared.segments.FoundSegment.TheVariants.{Found}
-use Rattle.layout.specs.declared.segments.Address.TheVariants.{At, Nowhere}
 use Rattle.linker_spec.specs.Calls.{number}
 use Rattle.linker_spec.specs.declared.call.Call.TheVariants.{Load}
 use Rattle.history.specs.Image.{indexed_exports, externals, entry, module_name, tag, kind}
@@ -58,9 +56,9 @@ LinkedThenReset x handled linked = LeavesWord t₅ x handled × LeavesWord t₆ 
 pub record Items : Type 0 where
   -- the handler of `m`, and what `n` exports by name, by index and by a tag
   pub handled : handler M ≡ 0x100400
-  pub by_name : export_of N (0x67 ∷ []) ≡ At 0x10057c
-  pub by_index : indexed_of N 1 ≡ At 0x100584
-  pub by_tag : anonymous_of N 0x80 ≡ At 0x100580
+  pub by_name : export_of N (0x67 ∷ []) ≡ Some 0x10057c
+  pub by_index : indexed_of N 1 ≡ Some 0x100584
+  pub by_tag : anonymous_of N 0x80 ≡ Some 0x100580
   -- the import `s` of `m` and the import `f` of the CRS are patched by the load of `m`
   pub own_import : LeavesWord t₅ 0x100400 (0x100170 ⊕ 4)
   pub crs_import : LeavesWord t₄ 0x100168 (0x100168 ⊕ 4) × LeavesWord t₅ 0x100168 (0x100408 ⊕ 4)
@@ -75,14 +73,14 @@ pub record Items : Type 0 where
   pub kinds : (kind M.file externals 1 ≡ 3) × (kind M.file externals 2 ≡ 10)
   pub both_words : LinkedThenReset 0x100404 (0x100400 ⊖ 0x100404) (0x10057c ⊖ 0x100404) × LinkedThenReset 0x100408 (0x100400 ⊕ 8) (0x10057c ⊕ 8)
   -- item 4: an external entry and an indexed export whose tags give no address; where the first points nothing is written
-  pub unusable : (address M (tag M.file externals 4) ≡ Nowhere) × (address N (word N.file (entry N.file indexed_exports 0)) ≡ Nowhere) × (indexed_of N 0 ≡ At 0)
+  pub unusable : (address M (tag M.file externals 4) ≡ None) × (address N (word N.file (entry N.file indexed_exports 0)) ≡ None) × (indexed_of N 0 ≡ Some 0)
   pub not_written : LinkedThenReset 0x1005a8 0 0
   -- item 5: Data in a lent area; the internal word is written at the old place in the image, and not in the lent area
-  pub data_placed : placed_segment M 1 ≡ Found (record { offset = 0x1005a0; size = 8; kind = Data })
+  pub data_placed : placed_segment M 1 ≡ Some (record { offset = 0x1005a0; size = 8; kind = Data })
   pub old-place : old_place M ≡ 0x1003f8
   pub internal_word_lem : LeavesWord t₅ (0x1003f8 + 4) (0x100400 ⊕ 4) × LeavesWord t₅ (0x1005a0 + 4) 0
   -- item 6: Bss in a lent area, which holds the word of the anonymous import
-  pub bss_placed : placed_segment M 2 ≡ Found (record { offset = 0x1005b0; size = 8; kind = Bss })
+  pub bss_placed : placed_segment M 2 ≡ Some (record { offset = 0x1005b0; size = 8; kind = Bss })
   -- item 7: refused calls before the CRS, one with number 1 on the session's own bytes and two that are lent what breaks a rule
   pub none_yet : loaded_modules (t₃ ∷ t₂ ∷ t₁ ∷ []) ≡ []
   pub refused_1 : (expected t₁).number ≡ 1

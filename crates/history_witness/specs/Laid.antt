@@ -1,6 +1,6 @@
 -- Whether an image is well laid, as a test that antt computes, and that an image which passes is. The test asks for a little more.
 use Prim.Native.Nat.{ℕ, zero, suc, ◌+◌, ◌-◌, ◌*◌, ◌/◌, ◌≤◌, ◌<◌}
-use Rattle.std.specs.Prelude.{if◌then◌else◌, ◌≡◌, ◌≢◌, ◌⊎◌, List, [], ◌∷◌, Bool, not, ◌&&◌, ◌||◌, length, ltb, leb}
+use Rattle.std.specs.Prelude.{if◌then◌else◌, ◌≡◌, ◌≢◌, ◌⊎◌, List, [], ◌∷◌, Bool, not, ◌&&◌, ◌||◌, length, ltb, leb, Option, Some, None}
 use Rattle.std.proofs.Math.Path.{refl}
 use Rattle.std.proofs.Math.Logic.{inl, inr}
 use Rattle.std.proofs.Math.Bool.{true}
@@ -13,8 +13,6 @@ use Rattle.window.specs.Mirror.{word}
 use Rattle.window.specs.Tests.{both}
 use Rattle.layout.specs.Header.{header_size, next_cro, previous_cro, module_name_offset}
 use Rattle.layout.specs.Format.{tag_segment, tag_offset}
-use Rattle.layout.specs.declared.segments.Address.{Address}
-use Rattle.layout.specs.declared.segments.Address.TheVariants.{At, Nowhere}
 use Rattle.linker_spec.specs.Relocation.{batch_limit, write_place}
 use Rattle.history.specs.Image.{Table, tables, named_exports, module_entries, externals, named_imports, indexed_imports, anonymous_imports, internals, start, count, entry, file_segment, tag, end_mark}
 use Rattle.history.specs.LoadedModule.{LoadCall, initialized, loaded, Image, base_of, size_of, old_place, address, handler, Area, LentArea}
@@ -355,9 +353,9 @@ module _ (a : Image) where
   abbrev F : ℕ → ℕ
   F = a.file
 
-  unfoldable pub usable : (ℕ → Bool) → Address → Bool
-  usable f (At p) = f p
-  usable f Nowhere = true
+  unfoldable pub usable : (ℕ → Bool) → Option ℕ → Bool
+  usable f (Some p) = f p
+  usable f None = true
 
   -- where entry i of the internal table writes
   unfoldable pub target : ℕ → ℕ → ℕ

@@ -37,7 +37,7 @@ unfolding
     layoutSegments.set_field layoutSegments.segment_entry layoutSegments.set_segment_entry layoutSegments.segment layoutSegments.set_segment
     layoutSegments.address_in layoutSegments.tag_to_address layoutFormat.segment_type layoutFormat.relocation_type layoutRelocation.patch
     layoutRelocation.apply_relocation registerWords.part registerWords.same registerWords.all_zero registerWords.holds registerWords.bytes_of
-    registerWords.flat registerWords.words_in registerModule.named_ok registerModule.find_from registerModule.find_export registerModule.is_before
+    registerWords.flat registerWords.words_in registerModule.named_ok registerModule.find_from registerModule.find_export
     registerModule.ascending registerModule.proper_module registerModule.proper_modules registerModule.proper_names registerModule.proper
     registerEncode.export_words registerEncode.export_names registerEncode.module_names registerEncode.flag registerEncode.module_words
     registerEncode.record_words registerEncode.record_names registerEncode.crs_known registerEncode.crs_base registerEncode.encode_words

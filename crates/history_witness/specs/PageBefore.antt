@@ -1,7 +1,6 @@
 -- A window with a page of zeros in front of it: a call that writes nothing in that page gives the same.
-use Rattle.std.specs.Prelude.{if◌then◌else◌, ℕ, zero, suc, ◌+◌, ◌-◌, ◌/◌, ◌%◌, ◌^◌, ◌<◌, ◌≡◌, refl, List, [], ◌∷◌, ◌++◌, Bool, true, false, ◌&&◌, length, set, ltb}
+use Rattle.std.specs.Prelude.{if◌then◌else◌, ℕ, zero, suc, ◌+◌, ◌-◌, ◌/◌, ◌%◌, ◌^◌, ◌<◌, ◌≡◌, refl, List, [], ◌∷◌, ◌++◌, Bool, true, false, ◌&&◌, length, set, ltb, Option, Some, None}
 use Rattle.std.proofs.Common.{sym, ap, ◌∙◌, arith, suc-add, zero-add, length-append, get_or-append-add, ltb-true, lt-ltb}
-use Rattle.std.proofs.Math.Option.{Option, some, none}
 use Rattle.std.proofs.Math.Decide.{dec_lt}
 use Rattle.std.proofs.lemmas.List.{get_or-replicate}
 use Rattle.std.proofs.Math.ListN.{get_or-append, get_or-eq_default}
@@ -94,19 +93,19 @@ upward_page_before (suc n) w x v e h =
 
 -- a run in the page, if every write lies in it
 unfoldable pub tried : {A : Type 0} → Prog A → List ℕ → Option (A × List ℕ)
-tried (ret a) w = some (a, w)
+tried (ret a) w = Some (a, w)
 tried (read8 p k) w = tried (k (byte_at at w p)) w
 tried (read32 p k) w = tried (k (word_at at w p)) w
-tried (write8 p v k) w = let r = tried k (put_byte at w p v) in if ltb (place at p) 4096 then r else none
-tried (write32 p v k) w = let r = tried k (put_word at w p v) in if lies 4 p then r else none
-tried (write_privileged p v k) w = let r = tried k (put_privileged at w p v) in if lies 4 p then r else none
+tried (write8 p v k) w = let r = tried k (put_byte at w p v) in if ltb (place at p) 4096 then r else None
+tried (write32 p v k) w = let r = tried k (put_word at w p v) in if lies 4 p then r else None
+tried (write_privileged p v k) w = let r = tried k (put_privileged at w p v) in if lies 4 p then r else None
 
-chosen : {B : Type 0} {r : B} (b : Bool) (o : Option B) → (if b then o else none) ≡ some r → (b ≡ true) × (o ≡ some r)
+chosen : {B : Type 0} {r : B} (b : Bool) (o : Option B) → (if b then o else None) ≡ Some r → (b ≡ true) × (o ≡ Some r)
 chosen true o h = (refl, h)
 chosen false o h = let z : ◌≡◌ {A = ℕ} 0 1 = cc in absurd (omega arith)
 
 run-page_before
-    : {A : Type 0} (m : Prog A) (w : List ℕ) {r : A × List ℕ} → length w ≡ 4096 → tried m w ≡ some r → run bt m (page_before w) ≡ (r.0, page_before r.1)
+    : {A : Type 0} (m : Prog A) (w : List ℕ) {r : A × List ℕ} → length w ≡ 4096 → tried m w ≡ Some r → run bt m (page_before w) ≡ (r.0, page_before r.1)
 unfolding run tried put_word put_privileged
 run-page_before (ret a) w {r} e h = let y : (a, w) ≡ r = cc in rw (← y) refl
 run-page_before (read8 p k) w e h = rw (byte_page_before w p e) (run-page_before (k (byte_at at w p)) w e h)
@@ -134,7 +133,7 @@ pub record Tried (c : Call) (b : Buffers) (records names v : ℕ) (r : Register)
   pub records_are : length b.records ≡ records
   pub names_are : length b.names ≡ names
   pub valid : is_register b.records b.names b.missing ≡ true
-  pub leads : tried (program c records names (lent_register b)) b.window ≡ some (Done v r, w)
+  pub leads : tried (program c records names (lent_register b)) b.window ≡ Some (Done v r, w)
 
 -- a window, and the encoding of a register in so many bytes of records and names
 abbrev pub stored : ℕ → ℕ → Register → List ℕ → Buffers

@@ -1,6 +1,6 @@
 -- "Which sham linkers come closest?": document 01's six, none of which meets demand 3. Four are refuted by the outcomes, two by the
 -- import clause alone, each in a session of the witness whose last call the sham makes in its own way.
-use Rattle.std.specs.Prelude.{if◌then◌else◌, ℕ, ◌≡◌, Bool, ◌||◌, eqb}
+use Rattle.std.specs.Prelude.{if◌then◌else◌, ℕ, ◌≡◌, Bool, ◌||◌, eqb, Some, None}
 use Rattle.std.proofs.Math.Path.{refl}
 use Rattle.std.proofs.Common.{sym, ap, ◌∙◌, arith}
 use mathlib.Core.List.{List, [], ◌∷◌, map}
@@ -18,8 +18,6 @@ use Rattle.window.specs.Memory.{◌⊕◌}
 use Rattle.window.specs.Mirror.{word}
 use Rattle.layout.specs.Format.{relocation_type}
 use Rattle.layout.specs.Relocation.Relocation.{relocated_word}
-use Rattle.layout.specs.declared.relocation.Patch.TheVariants.{Word}
-use Rattle.layout.specs.declared.segments.Address.TheVariants.{At, Nowhere}
 use Rattle.history.specs.Image.{externals, name_of, tag, kind, addend}
 use Rattle.history.specs.Imports.{named, IsImport, wanted, Exports, Exporter, Holds}
 use Rattle.history.specs.LoadedModule.{Image, image_of, address, handler, export_of}
@@ -286,11 +284,11 @@ g-name : name_of M.file (wanted M.file (named 1)) ≡ 0x67 ∷ []
 unfolding opened shown tested
 g-name = refl
 
-g-address : address M (tag M.file externals 2) ≡ At 0x100408
+g-address : address M (tag M.file externals 2) ≡ Some 0x100408
 unfolding opened shown tested
 g-address = refl
 
-g-word : (symbol : ℕ) → relocated_word (relocation_type (kind M.file externals 2)) (addend M.file externals 2) symbol 0x100408 ≡ Word (symbol ⊕ 8)
+g-word : (symbol : ℕ) → relocated_word (relocation_type (kind M.file externals 2)) (addend M.file externals 2) symbol 0x100408 ≡ Some (symbol ⊕ 8)
 unfolding opened shown tested
 g-word symbol = refl
 
@@ -299,14 +297,14 @@ unfolding Holds
 g-holds B symbol h = h 1 2 2 items.batch (omega arith) (omega arith) 0x100408 (symbol ⊕ 8) g-address (g-word symbol)
 
 -- without `n` nobody exports it
-g_nowhere : (export_of C (0x67 ∷ []) ≡ Nowhere) × (export_of M (0x67 ∷ []) ≡ Nowhere)
+g_nowhere : (export_of C (0x67 ∷ []) ≡ None) × (export_of M (0x67 ∷ []) ≡ None)
 unfolding opened shown tested
 g_nowhere = (refl, refl)
 
-no_exporter : (x : Image) → export_of x (0x67 ∷ []) ≡ Nowhere → (p : ℕ) → Exporter x M (named 1) p → ⊥
+no_exporter : (x : Image) → export_of x (0x67 ∷ []) ≡ None → (p : ℕ) → Exporter x M (named 1) p → ⊥
 unfolding Exporter Exports
 no_exporter x h p e =
-    let y : export_of x (0x67 ∷ []) ≡ At p = rw g-name at e.0 in
+    let y : export_of x (0x67 ∷ []) ≡ Some p = rw g-name at e.0 in
     let z : ◌≡◌ {A = ℕ} 0 1 = cc in
     omega arith
 

@@ -2,14 +2,13 @@
 use Prim.Native.Nat.{ℕ, zero, suc, ◌+◌, ◌<◌}
 use Rattle.std.proofs.Math.Path.{◌≡◌, refl}
 use Rattle.std.proofs.Common.{sym, ◌∙◌, inl, inr}
-use Rattle.std.specs.Prelude.{◌≢◌, ◌⊎◌, List, [], ◌∷◌, map, Bool, ◌&&◌, ◌||◌}
+use Rattle.std.specs.Prelude.{◌≢◌, ◌⊎◌, List, [], ◌∷◌, map, Bool, ◌&&◌, ◌||◌, Some}
 use Rattle.std.proofs.Math.Bool.{true, false, not}
 use native.Mathlib.Omega.{arith}
 use Rattle.std.proofs.Math.Dec.{eqb, leb}
 use borrow.Author.Tests.{leb-true, eqb-true, not-true}
 use Rattle.window.specs.Within.{In}
 use Rattle.window.specs.Tests.{both}
-use Rattle.layout.specs.declared.segments.Address.TheVariants.{At}
 use Rattle.register.specs.Words.{same}
 use Rattle.register.specs.Lists.{same_true, same_refl}
 use Rattle.history.specs.Image.{segments, named_exports, count, module_name, file_segment}
@@ -95,13 +94,13 @@ module _ (a : Image) where
   more : (n : ℕ) (name : List ℕ) → ExportNamed n name → ExportNamed (suc n) name
   more n name (i, l, e) = (i, omega arith, e)
 
-  export_named : (n : ℕ) (name : List ℕ) (p : ℕ) → export_among a n name ≡ At p → ExportNamed n name
+  export_named : (n : ℕ) (name : List ℕ) (p : ℕ) → export_among a n name ≡ Some p → ExportNamed n name
   unfolding export_among later_export
   export_named zero name p h = let z : ◌≡◌ {A = ℕ} 0 1 = cc in absurd (omega arith)
   export_named (suc n) name p h = go (λ g. export_named n name p g) (same name (export_name a n)) refl h
     where
-      go : (export_among a n name ≡ At p → ExportNamed n name) → (b : Bool) → same name (export_name a n) ≡ b
-          → later_export b (export_address a n) (export_among a n name) ≡ At p → ExportNamed (suc n) name
+      go : (export_among a n name ≡ Some p → ExportNamed n name) → (b : Bool) → same name (export_name a n) ≡ b
+          → later_export b (export_address a n) (export_among a n name) ≡ Some p → ExportNamed (suc n) name
       go f true s g = (n, omega arith, same_true name (export_name a n) s)
       go f false s g = more n name (f g)
 

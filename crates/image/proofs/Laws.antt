@@ -1,4 +1,4 @@
--- Beside 0 the value is a length within the buffer.
+-- The length of an image that was written is within the buffer.
 use Rattle.std.specs.Prelude.{if◌then◌else◌}
 use Prim.Native.Nat.{ℕ, ◌≤◌}
 use mathlib.Core.Path.{◌≡◌, refl, ap}
@@ -19,14 +19,18 @@ module _ (d b : List ℕ) where
   unfolding image_of
   over-length room = simp (length-append, length-drop, first-length) (omega arith)
 
-  pub value-fits : (o : Left) → o ≡ write_outcome d b → o.number ≡ 0 → o.value ≤ length o.buffer
+  pub length-fits : {size : ℕ} (after : List ℕ) → left 0 size after ≡ write_outcome d b → size ≤ length after
   unfolding write_outcome
-  value-fits o said zero_number = go (accepts d) (ltb (length b) (image_size d)) refl said
+  length-fits {size} after said = go (accepts d) (ltb (length b) (image_size d)) refl said
     where
       go
           : (taken short : Bool) → ltb (length b) (image_size d) ≡ short
-          → o ≡ (if taken then (if short then left 7 0 b else left 0 (image_size d) (over (image_of d) b)) else left 6 0 b)
-          → o.value ≤ length o.buffer
+          → left 0 size after ≡ (if taken then (if short then left 7 0 b else left 0 (image_size d) (over (image_of d) b)) else left 6 0 b)
+          → size ≤ length after
       go false short is e = absurd (omega (arith, ap (λ (x : Left). x.number) e))
       go true true is e = absurd (omega (arith, ap (λ (x : Left). x.number) e))
-      go true false is e = rw e (omega (arith, over-length (ltb-false (length b) (image_size d) is), ltb-false (length b) (image_size d) is))
+      go true false is e =
+          let value : size ≡ image_size d = ap (λ (x : Left). x.value) e in
+          let buffer : after ≡ over (image_of d) b = ap (λ (x : Left). x.buffer) e in
+          let room : image_size d ≤ length b = ltb-false (length b) (image_size d) is in
+          rw (value, buffer) (omega (arith, over-length room))

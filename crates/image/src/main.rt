@@ -5,7 +5,7 @@ use reading::read_full;
 use std::io;
 use std::io::Write;
 
-// One byte more than the largest image has is read, so that a longer input is noticed.
+// One byte more than the largest image has is read, so that a longer input is noticed. Nothing here is on the heap.
 fn main(rt: HostRuntime) -> io::Result<()> {
     let mut description = [0u8; 262145];
     let n = read_full(&mut rt.reader(), &mut description)?;
@@ -19,10 +19,8 @@ fn main(rt: HostRuntime) -> io::Result<()> {
 
 // Writes the image to the buffer lent, and prints it. A buffer that is too short is told as a description that makes no image is.
 fn print_image<W: Write>(out: &mut W, description: &[u8], image: &mut [u8]) -> io::Result<()> {
-    let mut size: u32 = 0;
-    if fillqhano::write_image(description, image, &mut size) != 0 {
-        return out.write_all(b"this makes no image that is well laid in every place\n");
+    match writer::image::write_image(description, image) {
+        Ok(size) => out.write_all(&image[..size as usize]),
+        Err(_) => out.write_all(b"this makes no image that is well laid in every place\n"),
     }
-    let end = size as usize;
-    out.write_all(&image[..end])
 }

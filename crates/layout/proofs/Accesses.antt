@@ -1,5 +1,5 @@
 -- From the code's accesses to the programs of `Segments`.
-use Rattle.std.proofs.Common.{◌≡◌, ℕ, ◌<◌, ◌≤◌, ap, ◌∙◌, le-ltb, lt-ltb}
+use Rattle.std.proofs.Common.{◌≡◌, ℕ, ◌<◌, ◌≤◌, ap, ◌∙◌, le-ltb, lt-ltb, Option, Some, None}
 use Rattle.window.specs.Memory.{◌⊕◌}
 use Rattle.window.specs.Access.{ret, get32, put32}
 use Rattle.window.specs.Trace.{State, run_t}
@@ -9,9 +9,6 @@ use Rattle.layout.specs.Format.{segment_type, segment_type_number, tag_segment, 
 use Rattle.layout.specs.Segments.{field, set_field, entry_at, segment_entry, set_segment_entry, segment, set_segment, address_in, tag_to_address}
 use Rattle.layout.specs.declared.format.Segment.{Segment}
 use Rattle.layout.specs.declared.format.SegmentType.{SegmentType}
-use Rattle.layout.specs.declared.segments.FoundSegment.{FoundSegment}
-use Rattle.layout.specs.declared.segments.FoundSegment.TheVariants.{Found, Missing}
-use Rattle.layout.specs.declared.segments.Address.TheVariants.{At, Nowhere}
 
 -- an access at a sum that the code made first
 module _ (at : ℕ) (s : State) {p q : ℕ} (e : p ≡ q) where
@@ -44,19 +41,19 @@ entry_read at e s {offset} {size} {word} {s₁ = s₁} {s₂} {s₃} h e₄ h₄
     ∙ gives at (get32 e) s _ h
 
 module _ (at base i : ℕ) (s : State) {count : ℕ} {s₁ : State} (h : (count, s₁) ≡ run_t at (field base segment_num) s) where
-  pub segment-past : count ≤ i → (Missing, s₁) ≡ run_t at (segment base i) s
+  pub segment-past : count ≤ i → (None, s₁) ≡ run_t at (segment base i) s
   unfolding segment
   segment-past l =
-      on_false at s₁ _ (ret Missing) (le-ltb i count l) (given at Missing s₁) ∙ gives at (field base segment_num) s _ h
+      on_false at s₁ _ (ret None) (le-ltb i count l) (given at None s₁) ∙ gives at (field base segment_num) s _ h
 
   pub segment-there
       : i < count → {table entry : ℕ} {d : Segment} {s₂ s₃ : State} → (table, s₂) ≡ run_t at (field base segment_table_offset) s₁
-      → entry ≡ entry_at table i segment_entry_size → (d, s₃) ≡ run_t at (segment_entry entry) s₂ → (Found d, s₃) ≡ run_t at (segment base i) s
+      → entry ≡ entry_at table i segment_entry_size → (d, s₃) ≡ run_t at (segment_entry entry) s₂ → (Some d, s₃) ≡ run_t at (segment base i) s
   unfolding segment
   segment-there l {d = d} {s₂} {s₃} t e g =
-      on_true at s₁ _ (ret Missing) (lt-ltb i count l)
-      (given at (Found d) s₃
-      ∙ gives at (segment_entry _) s₂ (λ d. ret (Found d)) (g ∙ ap (λ e. run_t at (segment_entry e) s₂) e)
+      on_true at s₁ _ (ret None) (lt-ltb i count l)
+      (given at (Some d) s₃
+      ∙ gives at (segment_entry _) s₂ (λ d. ret (Some d)) (g ∙ ap (λ e. run_t at (segment_entry e) s₂) e)
       ∙ gives at (field base segment_table_offset) s₁ _ t)
       ∙ gives at (field base segment_num) s _ h
 
@@ -76,7 +73,7 @@ segment-set at base i d s {entry = entry} {s₁ = s₁} {s₂} {s₃} t e h₂ e
 
 -- the address of a tag
 
-module _ (at base tag : ℕ) (s : State) {j : ℕ} {r : FoundSegment} {s₁ : State} (ej : j ≡ tag_segment tag)
+module _ (at base tag : ℕ) (s : State) {j : ℕ} {r : Option Segment} {s₁ : State} (ej : j ≡ tag_segment tag)
     (h : (r, s₁) ≡ run_t at (segment base j) s) where
   tag_in : (address_in r (tag_offset tag), s₁) ≡ run_t at (tag_to_address base tag) s
   unfolding tag_to_address
@@ -85,15 +82,15 @@ module _ (at base tag : ℕ) (s : State) {j : ℕ} {r : FoundSegment} {s₁ : St
       ∙ gives at (segment base (tag_segment tag)) s (λ r. ret (address_in r (tag_offset tag)))
       (h ∙ ap (λ j. run_t at (segment base j) s) ej)
 
-  pub tag_nowhere : r ≡ Missing → (Nowhere, s₁) ≡ run_t at (tag_to_address base tag) s
+  pub tag_nowhere : r ≡ None → (None, s₁) ≡ run_t at (tag_to_address base tag) s
   unfolding address_in
   tag_nowhere e = rw (e, address_in) at tag_in
 
-  module _ (d : Segment) (e : r ≡ Found d) {x : ℕ} (ex : x ≡ tag_offset tag) where
-    pub tag-past_end : d.size ≤ x → (Nowhere, s₁) ≡ run_t at (tag_to_address base tag) s
+  module _ (d : Segment) (e : r ≡ Some d) {x : ℕ} (ex : x ≡ tag_offset tag) where
+    pub tag-past_end : d.size ≤ x → (None, s₁) ≡ run_t at (tag_to_address base tag) s
     unfolding address_in
     tag-past_end l = rw (e, address_in, ← ex, le-ltb x d.size l) at tag_in
 
-    pub tag-there : {a : ℕ} → x < d.size → a ≡ d.offset ⊕ x → (At a, s₁) ≡ run_t at (tag_to_address base tag) s
+    pub tag-there : {a : ℕ} → x < d.size → a ≡ d.offset ⊕ x → (Some a, s₁) ≡ run_t at (tag_to_address base tag) s
     unfolding address_in
     tag-there l ea = rw ea (rw (e, address_in, ← ex, lt-ltb x d.size l) at tag_in)

@@ -1,5 +1,5 @@
 -- Document 01, "Proved cases, one table": those of the layout.
-use Rattle.std.specs.Prelude.{◌≡◌, ℕ, List, refl}
+use Rattle.std.specs.Prelude.{◌≡◌, ℕ, List, refl, Some, None}
 use Rattle.std.proofs.Common.{arith}
 use Rattle.window.specs.Memory.{◌⊕◌}
 use Rattle.window.specs.Access.{run}
@@ -7,19 +7,17 @@ use Rattle.layout.specs.Format.{segment_type, segment_type_number, tag_segment, 
 use Rattle.layout.specs.Segments.{segment, tag_to_address, tag_at, tag-past}
 use Rattle.layout.specs.declared.format.Segment.{Segment}
 use Rattle.layout.specs.declared.format.SegmentType.TheVariants.{Bss}
-use Rattle.layout.specs.declared.segments.FoundSegment.TheVariants.{Found}
-use Rattle.layout.specs.declared.segments.Address.TheVariants.{At, Nowhere}
 
 -- "tag 0x123": "segment 3, offset 0x12"
 pub tag_0x123 : (tag_segment 0x123 ≡ 3) × (tag_offset 0x123 ≡ 0x12)
 tag_0x123 = (refl, refl)
 
 -- "offset 15 / 16, size 16": "address / none"
-module _ (at base tag : ℕ) (w : List ℕ) (s : Segment) (found : (run at (segment base (tag_segment tag)) w).0 ≡ Found s) (sixteen : s.size ≡ 16) where
-  pub offset_15 : tag_offset tag ≡ 15 → (run at (tag_to_address base tag) w).0 ≡ At (s.offset ⊕ 15)
+module _ (at base tag : ℕ) (w : List ℕ) (s : Segment) (found : (run at (segment base (tag_segment tag)) w).0 ≡ Some s) (sixteen : s.size ≡ 16) where
+  pub offset_15 : tag_offset tag ≡ 15 → (run at (tag_to_address base tag) w).0 ≡ Some (s.offset ⊕ 15)
   offset_15 e = rw (← e) (tag_at at base tag w found (omega arith))
 
-  pub offset_16 : tag_offset tag ≡ 16 → (run at (tag_to_address base tag) w).0 ≡ Nowhere
+  pub offset_16 : tag_offset tag ≡ 16 → (run at (tag_to_address base tag) w).0 ≡ None
   offset_16 e = tag-past at base tag w found (omega arith)
 
 -- "segment kind 7": "Bss, 3"

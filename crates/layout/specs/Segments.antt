@@ -1,5 +1,5 @@
 -- Header fields, segments and the addresses that tags give, as programs of accesses in the order of cro/mod.rs.
-use Rattle.std.specs.Prelude.{if◌then◌else◌, ◌≡◌, ℕ, ◌+◌, ◌*◌, ◌%◌, ◌^◌, ◌<◌, ◌≤◌, Bool, true, false, List, nat_lt}
+use Rattle.std.specs.Prelude.{if◌then◌else◌, ◌≡◌, ℕ, ◌+◌, ◌*◌, ◌%◌, ◌^◌, ◌<◌, ◌≤◌, Bool, true, false, List, nat_lt, Option, Some, None}
 use Rattle.std.proofs.Math.Path.{refl, ap}
 use Rattle.std.proofs.Common.{◌∙◌}
 use borrow.Author.Tests.{lt-ltb, le-ltb}
@@ -8,10 +8,6 @@ use Rattle.window.specs.Access.{Prog, ret, ◌>>=◌, ◌>>◌, get32, put32, ru
 use Rattle.layout.specs.Header.{segment_num, segment_table_offset, segment_entry_size}
 use Rattle.layout.specs.Format.{segment_type, segment_type_number, tag_segment, tag_offset}
 use Rattle.layout.specs.declared.format.Segment.{Segment}
-use Rattle.layout.specs.declared.segments.FoundSegment.{FoundSegment}
-use Rattle.layout.specs.declared.segments.FoundSegment.TheVariants.{Found, Missing}
-use Rattle.layout.specs.declared.segments.Address.{Address}
-use Rattle.layout.specs.declared.segments.Address.TheVariants.{At, Nowhere}
 
 -- "Header and entry sizes are that file's constants": the word at x of the header of the module at base
 unfoldable pub field : ℕ → ℕ → Prog ℕ
@@ -39,13 +35,13 @@ set_segment_entry e s = do
   put32 (e ⊕ 8) (segment_type_number s.kind)
 
 -- "A segment lookup reads count, table offset and entry anew each time."
-unfoldable pub segment : ℕ → ℕ → Prog FoundSegment
+unfoldable pub segment : ℕ → ℕ → Prog (Option Segment)
 segment base i = do
   count ← field base segment_num
   if nat_lt i count then (do
     table ← field base segment_table_offset
     s ← segment_entry (entry_at table i segment_entry_size)
-    ret (Found s)) else ret Missing
+    ret (Some s)) else ret None
 
 -- the write back: it reads the table offset anew too
 unfoldable pub set_segment : ℕ → ℕ → Segment → Prog (Unit {0})
@@ -54,11 +50,11 @@ set_segment base i s = do
   set_segment_entry (entry_at table i segment_entry_size) s
 
 -- "It gives an address if the segment exists and offset < size."
-unfoldable pub address_in : FoundSegment → ℕ → Address
-address_in (Found s) x = if nat_lt x s.size then At (s.offset ⊕ x) else Nowhere
-address_in Missing x = Nowhere
+unfoldable pub address_in : Option Segment → ℕ → Option ℕ
+address_in (Some s) x = if nat_lt x s.size then Some (s.offset ⊕ x) else None
+address_in None x = None
 
-unfoldable pub tag_to_address : ℕ → ℕ → Prog Address
+unfoldable pub tag_to_address : ℕ → ℕ → Prog (Option ℕ)
 tag_to_address base tag = do
   s ← segment base (tag_segment tag)
   ret (address_in s (tag_offset tag))
@@ -95,12 +91,12 @@ put_segment at w e s =
     put_word at (put_word at (put_word at w e s.offset) (e ⊕ 4) s.size) (e ⊕ 8) (segment_type_number s.kind)
 
 module _ (at base i : ℕ) (w : List ℕ) where
-  pub segment_missing : word_at at w (base ⊕ segment_num) ≤ i → (run at (segment base i) w).0 ≡ Missing
+  pub segment_missing : word_at at w (base ⊕ segment_num) ≤ i → (run at (segment base i) w).0 ≡ None
   unfolding segment field run ◌>>=◌
   segment_missing h = rw (le-ltb i (word_at at w (base ⊕ segment_num)) h, run)
 
   pub segment-found
-      : i < word_at at w (base ⊕ segment_num) → (run at (segment base i) w).0 ≡ Found (segment_at at w (segment_place at w base i))
+      : i < word_at at w (base ⊕ segment_num) → (run at (segment base i) w).0 ≡ Some (segment_at at w (segment_place at w base i))
   unfolding segment segment_entry field run ◌>>=◌
   segment-found h = rw (lt-ltb i (word_at at w (base ⊕ segment_num)) h, run)
 
@@ -116,21 +112,21 @@ module _ (at base tag : ℕ) (w : List ℕ) where
   tag_in : (run at (tag_to_address base tag) w).0 ≡ address_in (run at (segment base (tag_segment tag)) w).0 (tag_offset tag)
   unfolding tag_to_address run
   tag_in =
-      ap (λ (r : Address × List ℕ). r.0) (run_bind at (segment base (tag_segment tag)) (λ s. ret (address_in s (tag_offset tag))) w)
+      ap (λ (r : Option ℕ × List ℕ). r.0) (run_bind at (segment base (tag_segment tag)) (λ s. ret (address_in s (tag_offset tag))) w)
 
-  pub tag_missing : (run at (segment base (tag_segment tag)) w).0 ≡ Missing → (run at (tag_to_address base tag) w).0 ≡ Nowhere
+  pub tag_missing : (run at (segment base (tag_segment tag)) w).0 ≡ None → (run at (tag_to_address base tag) w).0 ≡ None
   unfolding address_in
   tag_missing e = tag_in ∙ rw (e, address_in)
 
   pub tag-past
-      : {s : Segment} → (run at (segment base (tag_segment tag)) w).0 ≡ Found s → s.size ≤ tag_offset tag
-      → (run at (tag_to_address base tag) w).0 ≡ Nowhere
+      : {s : Segment} → (run at (segment base (tag_segment tag)) w).0 ≡ Some s → s.size ≤ tag_offset tag
+      → (run at (tag_to_address base tag) w).0 ≡ None
   unfolding address_in
   tag-past {s} e h = tag_in ∙ rw (e, address_in, le-ltb (tag_offset tag) s.size h)
 
   pub tag_at
-      : {s : Segment} → (run at (segment base (tag_segment tag)) w).0 ≡ Found s → tag_offset tag < s.size
-      → (run at (tag_to_address base tag) w).0 ≡ At (s.offset ⊕ tag_offset tag)
+      : {s : Segment} → (run at (segment base (tag_segment tag)) w).0 ≡ Some s → tag_offset tag < s.size
+      → (run at (tag_to_address base tag) w).0 ≡ Some (s.offset ⊕ tag_offset tag)
   unfolding address_in
   tag_at {s} e h = tag_in ∙ rw (e, address_in, lt-ltb (tag_offset tag) s.size h)
 

@@ -11,10 +11,10 @@ pub enum SegmentType {
     Bss,
 }
 
-impl SegmentType {
-    pub fn from_raw(value: u32) -> SegmentType
-        ensures { result ≡ segment_type value }
-    {
+impl From<u32> for SegmentType {
+    ghost from_gives = { λ value kind. kind ≡ segment_type value };
+
+    fn from(value: u32) -> SegmentType {
         match value {
             0 => SegmentType::Code,
             1 => SegmentType::RoData,
@@ -22,11 +22,13 @@ impl SegmentType {
             _ => SegmentType::Bss,
         }
     }
+}
 
-    pub fn raw(self) -> u32
-        ensures { result ≡ segment_type_number self }
-    {
-        match self {
+impl From<SegmentType> for u32 {
+    ghost from_gives = { λ kind value. value ≡ segment_type_number kind };
+
+    fn from(kind: SegmentType) -> u32 {
+        match kind {
             SegmentType::Code => 0,
             SegmentType::RoData => 1,
             SegmentType::Data => 2,
@@ -93,10 +95,10 @@ pub enum RelocationType {
     Unknown(u8),
 }
 
-impl RelocationType {
-    pub fn from_raw(value: u8) -> RelocationType
-        ensures { result ≡ relocation_type value }
-    {
+impl From<u8> for RelocationType {
+    ghost from_gives = { λ value kind. kind ≡ relocation_type value };
+
+    fn from(value: u8) -> RelocationType {
         match value {
             0 => RelocationType::Nothing,
             2 | 10 => RelocationType::AbsoluteAddress,

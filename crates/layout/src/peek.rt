@@ -4,8 +4,7 @@ ghost use Rattle.window.specs.Memory.{word_at};
 ghost use Rattle.window.specs.Access.{run};
 ghost use Rattle.layout.specs.Segments.{field, segment, tag_to_address};
 
-use crate::format::SegmentTag;
-use crate::segments::{Address, FoundSegment};
+use crate::format::{Segment, SegmentTag};
 use crate::{fields, segments};
 
 // The word at x.
@@ -24,14 +23,14 @@ pub fn field(at: u32, w: &[u8], base: u32, offset: u32) -> u32
     fields::field(at, w, &mut trace[..], base, offset)
 }
 
-pub fn segment(at: u32, w: &[u8], base: u32, index: u32) -> FoundSegment
+pub fn segment(at: u32, w: &[u8], base: u32, index: u32) -> Option<Segment>
     ensures { result ≡ (run at (segment base index) w.now).0 }
 {
     let mut trace = [0u8; 16];
     segments::segment(at, w, &mut trace[..], base, index)
 }
 
-pub fn tag_to_address(at: u32, w: &[u8], base: u32, tag: SegmentTag) -> Address
+pub fn tag_to_address(at: u32, w: &[u8], base: u32, tag: SegmentTag) -> Option<u32>
     ensures { result ≡ (run at (tag_to_address base tag.0) w.now).0 }
 {
     let mut trace = [0u8; 16];

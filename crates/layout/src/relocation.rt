@@ -5,30 +5,23 @@ ghost use Rattle.layout.specs.Relocation.Relocation.{relocated_word, apply_reloc
 
 use crate::format::RelocationType;
 
-// The word that a relocation writes, if it writes one.
-#[derive(Clone, Copy)]
-pub enum Patch {
-    Word(u32),
-    Nothing,
-}
-
-fn relocated_word(kind: RelocationType, addend: u32, symbol: u32, target_final: u32) -> Patch
+fn relocated_word(kind: RelocationType, addend: u32, symbol: u32, target_final: u32) -> Option<u32>
     ensures { result ≡ relocated_word kind addend symbol target_final }
 {
     match kind {
-        RelocationType::Nothing => Patch::Nothing,
-        RelocationType::AbsoluteAddress => Patch::Word(std::num::wrapping_add_u32(symbol, addend)),
+        RelocationType::Nothing => None,
+        RelocationType::AbsoluteAddress => Some(std::num::wrapping_add_u32(symbol, addend)),
         RelocationType::RelativeAddress => {
-            Patch::Word(std::num::wrapping_sub_u32(
+            Some(std::num::wrapping_sub_u32(
                 std::num::wrapping_add_u32(symbol, addend),
                 target_final,
             ))
         }
-        RelocationType::ThumbBranch => Patch::Nothing,
-        RelocationType::ArmBranch => Patch::Nothing,
-        RelocationType::ModifyArmBranch => Patch::Nothing,
-        RelocationType::AlignedRelativeAddress => Patch::Nothing,
-        RelocationType::Unknown(_) => Patch::Nothing,
+        RelocationType::ThumbBranch => None,
+        RelocationType::ArmBranch => None,
+        RelocationType::ModifyArmBranch => None,
+        RelocationType::AlignedRelativeAddress => None,
+        RelocationType::Unknown(_) => None,
     }
 }
 
@@ -45,7 +38,7 @@ pub fn apply_relocation(
 )
     ensures { (w.new, trace.new) ≡ (run_t at (apply_relocation target kind addend symbol target_final) (w.old, trace.old)).1 }
 {
-    let Patch::Word(word) = relocated_word(kind, addend, symbol, target_final) else {
+    let Some(word) = relocated_word(kind, addend, symbol, target_final) else {
         return;
     };
     window::write32_privileged(at, w, trace, target, word);

@@ -5,5 +5,6 @@ pub mod Imports
 pub mod Resets
 pub mod Record
 pub mod Exports
+pub mod Entries
 pub mod Entry
 pub mod Calls

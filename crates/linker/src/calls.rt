@@ -7,6 +7,7 @@ ghost use Rattle.register.specs.Module.{Module, Register};
 ghost use Rattle.register.specs.Change.{appended};
 ghost use Rattle.register.specs.Read.Read.{place_after};
 ghost use Rattle.linker_spec.specs.Calls.{rebase, rebase_static, listed, unlisted, initialize, load, unload};
+ghost use Rattle.linker_spec.specs.Refusal.{number_of, value_of};
 ghost use Rattle.linker_spec.specs.Touches.{up_to_reset};
 ghost use Rattle.linker_spec.specs.Outcome.{buffers, outcome};
 ghost use Rattle.linker.specs.Calls.Steps.{clear_list_fields};
@@ -23,11 +24,11 @@ use crate::{lists, rebase};
 use layout::fields::set_field;
 use layout::header::{NEXT_CRO, PREVIOUS_CRO};
 use linker_spec::rebase::LoadArguments;
+use linker_spec::refusal::Refusal;
 use register::change::remove::remove_record;
-use register::exports::Found;
 use register::header::crs::set_crs;
 use register::read::modules::first_with_base;
-use register::words::{Crs, read_crs, used_bytes};
+use register::words::{read_crs, used_bytes};
 
 // The static module heads no list yet.
 fn clear_list_fields(at: u32, w: &mut [u8], trace: &mut [u8], base: u32)
@@ -41,7 +42,7 @@ fn clear_list_fields(at: u32, w: &mut [u8], trace: &mut [u8], base: u32)
 fn list(at: u32, w: &mut [u8], trace: &mut [u8], records: &[u8], base: u32, auto_link: bool)
     ensures { (w.new, trace.new) ≡ (run_t at (listed (header_crs records.now) base auto_link) (w.old, trace.old)).1 }
 {
-    let Crs::Known(crs) = read_crs(records) else {
+    let Some(crs) = read_crs(records) else {
         return;
     };
     lists::register(at, w, trace, crs, base, auto_link);
@@ -51,7 +52,7 @@ fn list(at: u32, w: &mut [u8], trace: &mut [u8], records: &[u8], base: u32, auto
 fn unlist(at: u32, w: &mut [u8], trace: &mut [u8], records: &[u8], base: u32)
     ensures { (w.new, trace.new) ≡ (run_t at (unlisted (header_crs records.now) base) (w.old, trace.old)).1 }
 {
-    let Crs::Known(crs) = read_crs(records) else {
+    let Some(crs) = read_crs(records) else {
         return;
     };
     lists::unregister(at, w, trace, crs, base);
@@ -93,22 +94,17 @@ pub fn initialize(
     missing: &mut [u8],
     base: u32,
     size: u32,
-    value: &mut u32,
-) -> u32
+) -> Result<u32, Refusal>
     requires { is_register records.old names.old missing.old ≡ true }
-    ensures { (outcome result value.new (buffers w.new records.new names.new missing.new), trace.new)
+    ensures { (outcome (number_of result) (value_of result) (buffers w.new records.new names.new missing.new), trace.new)
         ≡ traced (initialize base size) (up_to_reset (rebase_static base) base) at
         (buffers w.old records.old names.old missing.old) trace.old }
 {
-    *value = 0;
     let rebased = rebase::rebase_static(at, w, trace, base);
-    let refused = add_record(at, w, trace, records, names, base, size, true, rebased);
-    if refused != 0 {
-        return refused;
-    }
+    add_record(at, w, trace, records, names, base, size, true, rebased)?;
     clear_list_fields(at, w, trace, base);
     set_crs(records, base);
-    0
+    Ok(0)
 }
 
 // Loads a module: links it, and gives as value how much of it is left.
@@ -122,31 +118,26 @@ pub fn load(
     given: LoadArguments,
     auto_link: u32,
     fix_level: u32,
-    value: &mut u32,
-) -> u32
+) -> Result<u32, Refusal>
     requires { is_register records.old names.old missing.old ≡ true }
-    ensures { (outcome result value.new (buffers w.new records.new names.new missing.new), trace.new)
+    ensures { (outcome (number_of result) (value_of result) (buffers w.new records.new names.new missing.new), trace.new)
         ≡ traced (load given (not (nat_eq auto_link 0)) fix_level) (up_to_reset (rebase given) given.base) at
         (buffers w.old records.old names.old missing.old) trace.old }
 {
-    *value = 0;
     let place = used_bytes(records) as usize;
     let auto = auto_link != 0;
     let rebased = rebase::rebase(at, w, trace, given);
-    let refused = add_record(
+    add_record(
         at, w, trace, records, names, given.base, given.size, auto, rebased,
-    );
-    if refused != 0 {
-        return refused;
-    }
-    *value = link(
+    )?;
+    let fixed = link(
         at, w, trace, records, names, missing, place, given, auto, fix_level,
     );
-    0
+    Ok(fixed)
 }
 
 // Unloads the first module with that base: the modules that linked on their own no longer use it, and its record is gone.
-// The value is 1 where a module left, 0 where none has that base.
+// Gives 1 where a module left, 0 where none has that base, as C has it.
 pub fn unload(
     at: u32,
     w: &mut [u8],
@@ -155,21 +146,18 @@ pub fn unload(
     names: &mut [u8],
     missing: &mut [u8],
     base: u32,
-    value: &mut u32,
 ) -> u32
     requires { is_register records.old names.old missing.old ≡ true }
-    ensures { (outcome result value.new (buffers w.new records.exit.now names.exit.now missing.new), trace.new)
+    ensures { (outcome 0 result (buffers w.new records.exit.now names.exit.now missing.new), trace.new)
         ≡ traced (λ records names. unload base) (ret tt) at
         (buffers w.old records.entry.now names.entry.now missing.old) trace.old }
 {
-    *value = 0;
-    let Found::At(place) = first_with_base(records, base) else {
+    let Some(place) = first_with_base(records, base) else {
         return 0;
     };
     reset_importers(at, w, trace, records, names, place);
     unlist(at, w, trace, records, base);
     unrebase(at, w, trace, base);
     remove_record(records, names, place);
-    *value = 1;
-    0
+    1
 }

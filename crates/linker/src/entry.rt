@@ -1,15 +1,16 @@
 // A module's entry into the register.
 ghost use Rattle.std.specs.Prelude.{◌≡◌};
 ghost use Rattle.register.specs.Read.Read.{Encoded};
+ghost use Rattle.linker_spec.specs.Refusal.{number_of};
 ghost use Rattle.linker.specs.Entry.Entry.{record_added};
 
-use crate::exports::{IndexResult, index_exports};
+use crate::exports::index_exports;
 use crate::relocation::reset_external_relocations;
 use crate::touches::touch_module;
-use linker_spec::rebase::Rebased;
+use linker_spec::refusal::{RebaseError, Refusal};
 
-// Gives a rebased module its record: 0, or the number of what refuses it. What the Rust reads for a record is touched in
-// its order once the record stands: with 5 nothing of it counts.
+// Gives a rebased module its record, unless the rebase failed or there is no room for it. What the Rust reads for a record is touched in
+// its order once the record stands: where there is no room nothing of it counts.
 pub(crate) fn add_record(
     at: u32,
     w: &mut [u8],
@@ -19,24 +20,15 @@ pub(crate) fn add_record(
     base: u32,
     size: u32,
     auto_link: bool,
-    rebased: Rebased,
-) -> u32
+    rebased: Result<(), RebaseError>,
+) -> Result<(), Refusal>
     requires { Encoded records.old names.old }
-    ensures { (result, (w.new, trace.new), records.new, names.new)
+    ensures { (number_of result, (w.new, trace.new), records.new, names.new)
         ≡ record_added at records.old names.old base size auto_link rebased (w.old, trace.old) }
 {
-    match rebased {
-        Rebased::NotACro => 1,
-        Rebased::BadSegment => 2,
-        Rebased::Done => {
-            reset_external_relocations(at, w, trace, base);
-            match index_exports(at, w, records, names, base, size, auto_link) {
-                IndexResult::NoRoom => 5,
-                IndexResult::Appended => {
-                    touch_module(at, w, trace, base);
-                    0
-                }
-            }
-        }
-    }
+    rebased?;
+    reset_external_relocations(at, w, trace, base);
+    index_exports(at, w, records, names, base, size, auto_link).ok_or(Refusal::NoRoom)?;
+    touch_module(at, w, trace, base);
+    Ok(())
 }

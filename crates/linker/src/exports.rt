@@ -1,6 +1,6 @@
 // A module's exports, read from its image into a new record of the register. The image is only read; the record is written
 // step by step after the last one, and given up where it has no room.
-ghost use Rattle.std.specs.Prelude.{◌≡◌, ℕ, ◌+◌, ◌^◌, ◌<◌, ◌≤◌, true, List, [], length};
+ghost use Rattle.std.specs.Prelude.{◌≡◌, ℕ, ◌+◌, ◌^◌, ◌<◌, ◌≤◌, true, List, [], length, Some};
 ghost use Rattle.window.specs.Access.{run};
 ghost use Rattle.layout.specs.Header.{export_named_symbol_table_offset, export_indexed_symbol_table_offset};
 ghost use Rattle.register.specs.Decode.{is_register, register_of};
@@ -8,7 +8,6 @@ ghost use Rattle.register.specs.Module.{Module};
 ghost use Rattle.register.specs.Change.{with_named, appended};
 ghost use Rattle.register.specs.Append.Draft.{room_in};
 ghost use Rattle.register.specs.declared.append.draft.Draft.{Draft};
-ghost use Rattle.register.specs.declared.append.draft.Drafted.TheVariants.{Open};
 ghost use Rattle.register.specs.Read.Read.{Encoded};
 ghost use Rattle.linker_spec.specs.Exports.{named_exports, indexed_exports, read_segments, read_module};
 ghost use Rattle.linker.specs.Record.Read.{header_word, segments_to, named_to, indexed_to};
@@ -24,19 +23,11 @@ use layout::fields::entry_address;
 use layout::format::{
     EXPORT_INDEXED_SYMBOL_ENTRY_SIZE, EXPORT_NAMED_SYMBOL_ENTRY_SIZE, SegmentTag,
 };
-use layout::segments::Address;
 use layout::{header, peek};
 use register::append::bytes::{clear, fits, room};
 use register::append::draft;
-use register::append::draft::{Draft, Drafted};
+use register::append::draft::Draft;
 use window::outside::stride;
-
-// Whether the module has its record.
-#[derive(Clone, Copy)]
-pub(crate) enum IndexResult {
-    Appended,
-    NoRoom,
-}
 
 // Adds segment i.
 fn add_segment(
@@ -47,7 +38,7 @@ fn add_segment(
     records: &mut [u8],
     names: &mut [u8],
     before: Draft,
-) -> Drafted
+) -> Option<Draft>
     ensures { DraftStep Bare (λ m. with_segments m (segments_to at w.now base i))
         (λ m. with_segments m (segments_to at w.now base (i + 1)))
         before records.old names.old result records.new names.new }
@@ -65,25 +56,16 @@ fn add_segments(
     records: &mut [u8],
     names: &mut [u8],
     before: Draft,
-) -> Drafted
+) -> Option<Draft>
     ensures { DraftStep Bare (λ m. with_segments m []) (λ m. with_segments m (run at (read_segments base) w.now).0)
         before records.old names.old result records.new names.new }
 {
     let count = at_most_16(peek::field(at, w, base, header::SEGMENT_NUM));
     let mut last = before;
-    let mut i: u32 = 0;
-    while i < count {
-        match add_segment(at, w, base, i, records, names, last) {
-            Drafted::Full => {
-                return Drafted::Full;
-            }
-            Drafted::Open(next) => {
-                last = next;
-            }
-        }
-        i += 1;
+    for i in 0..count {
+        last = add_segment(at, w, base, i, records, names, last)?;
     }
-    Drafted::Open(last)
+    Some(last)
 }
 
 // Adds the indexed export of entry i.
@@ -96,7 +78,7 @@ fn add_indexed(
     records: &mut [u8],
     names: &mut [u8],
     before: Draft,
-) -> Drafted
+) -> Option<Draft>
     ensures { table ≡ header_word at w.now base export_indexed_symbol_table_offset
         → DraftStep AnyModule (λ m. with_indexeds m (indexed_to at w.now base i)) (λ m. with_indexeds m (indexed_to at w.now base (i + 1)))
         before records.old names.old result records.new names.new }
@@ -115,7 +97,7 @@ fn add_all_indexed(
     records: &mut [u8],
     names: &mut [u8],
     before: Draft,
-) -> Drafted
+) -> Option<Draft>
     ensures { DraftStep AnyModule (λ m. with_indexeds m []) (λ m. with_indexeds m (run at (indexed_exports base) w.now).0)
         before records.old names.old result records.new names.new }
 {
@@ -123,22 +105,13 @@ fn add_all_indexed(
     let count = peek::field(at, w, base, header::EXPORT_INDEXED_SYMBOL_NUM);
     if !draft::has_words(records, before, count) {
         draft::give_up(records, names, before);
-        return Drafted::Full;
+        return None;
     }
     let mut last = before;
-    let mut i: u32 = 0;
-    while i < count {
-        match add_indexed(at, w, base, table, i, records, names, last) {
-            Drafted::Full => {
-                return Drafted::Full;
-            }
-            Drafted::Open(next) => {
-                last = next;
-            }
-        }
-        i += 1;
+    for i in 0..count {
+        last = add_indexed(at, w, base, table, i, records, names, last)?;
     }
-    Drafted::Open(last)
+    Some(last)
 }
 
 // Gathers the named export of entry i, if its tag gives an address.
@@ -152,7 +125,7 @@ fn gather_named(
     names: &[u8],
     from: usize,
     before: Draft,
-) -> Drafted
+) -> Option<Draft>
     requires { (from ≤ before.end) × (before.end ≤ room_in (length records.old)) × (before.last < 2 ^ 32) }
     ensures { (EndsWithin result from (room_in (length records.new)))
         × (table ≡ header_word at w.now base export_named_symbol_table_offset
@@ -164,8 +137,8 @@ fn gather_named(
     let place = peek::word(at, w, entry);
     let tag = SegmentTag(peek::word(at, w, std::num::wrapping_add_u32(entry, 4)));
     match peek::tag_to_address(at, w, base, tag) {
-        Address::Nowhere => Drafted::Open(before),
-        Address::At(address) => put_waiting(at, w, place, address, records, names, from, before),
+        None => Some(before),
+        Some(address) => put_waiting(at, w, place, address, records, names, from, before),
     }
 }
 
@@ -177,19 +150,20 @@ fn insert_all_named(
     records: &mut [u8],
     names: &mut [u8],
     first: Draft,
-) -> Drafted
+) -> Option<Draft>
     requires { (first.end ≤ room_in (length records.old)) × (first.last < 2 ^ 32) }
     ensures { (EndsWithin result first.end (room_in (length records.new)))
-        × ((g : Ground) (m : Module) → Bare m → Writing g m (Open first) records.old names.old
+        × ((g : Ground) (m : Module) → Bare m → Writing g m (Some first) records.old names.old
         → GatheredAll at w.now g m first (run at (named_exports base) w.now).0 result records.new names.new) }
 {
     let table = peek::field(at, w, base, header::EXPORT_NAMED_SYMBOL_TABLE_OFFSET);
     let count = peek::field(at, w, base, header::EXPORT_NAMED_SYMBOL_NUM);
     let mut last = first;
     let mut i: u32 = 0;
+    // No range gives the numbers: a turn goes on by its stride.
     while i < count {
         match gather_named(at, w, base, table, i, records, names, first.end, last) {
-            Drafted::Full => {
+            None => {
                 let written = Draft {
                     start: first.start,
                     end: last.end,
@@ -197,9 +171,9 @@ fn insert_all_named(
                     last: first.last,
                 };
                 draft::give_up(records, names, written);
-                return Drafted::Full;
+                return None;
             }
-            Drafted::Open(next) => {
+            Some(next) => {
                 last = next;
             }
         }
@@ -212,7 +186,7 @@ fn insert_all_named(
             count - i,
         );
     }
-    Drafted::Open(last)
+    Some(last)
 }
 
 // Gathers the named exports after a record that has none; where they have no room the record is given up. Where the free bytes
@@ -224,10 +198,10 @@ fn gather_all_named(
     records: &mut [u8],
     names: &mut [u8],
     first: Draft,
-) -> Drafted
+) -> Option<Draft>
     requires { (first.end ≤ room_in (length records.old)) × (first.last < 2 ^ 32) }
     ensures { (EndsWithin result first.end (room_in (length records.new)))
-        × ((g : Ground) (m : Module) → Bare m → Writing g m (Open first) records.old names.old
+        × ((g : Ground) (m : Module) → Bare m → Writing g m (Some first) records.old names.old
         → GatheredAll at w.now g m first (run at (named_exports base) w.now).0 result records.new names.new) }
 {
     let count = peek::field(at, w, base, header::EXPORT_NAMED_SYMBOL_NUM);
@@ -249,10 +223,10 @@ fn gather_all_named(
             last: first.last,
         };
         draft::give_up(records, names, written);
-        return Drafted::Full;
+        return None;
     }
     clear(records, to, end);
-    Drafted::Open(Draft {
+    Some(Draft {
         start: first.start,
         end: from + 12 * n,
         names: first.names,
@@ -268,22 +242,20 @@ fn add_all_named(
     records: &mut [u8],
     names: &mut [u8],
     before: Draft,
-) -> Drafted
+) -> Option<Draft>
     ensures { DraftStep Unindexed (λ m. with_named m []) (λ m. with_named m (run at (named_exports base) w.now).0)
         before records.old names.old result records.new names.new }
 {
     if !draft::is_open(records, before) {
-        return Drafted::Full;
+        return None;
     }
     let from = before.end;
-    let Drafted::Open(last) = gather_all_named(at, w, base, records, names, before) else {
-        return Drafted::Full;
-    };
+    let last = gather_all_named(at, w, base, records, names, before)?;
     let to = last.end;
     write_names(at, w, &mut records[from..to], names, last.last as u32);
     let count = (to - from) / 12;
     window::store32(records, before.start + 24, count as u32);
-    Drafted::Open(last)
+    Some(last)
 }
 
 // Adds segments, named and indexed exports to a record that has its name.
@@ -294,21 +266,17 @@ fn add_lists(
     records: &mut [u8],
     names: &mut [u8],
     before: Draft,
-) -> Drafted
+) -> Option<Draft>
     ensures { DraftStep EmptyModule (λ m. m) (λ m. with_indexeds (with_named (with_segments m (run at (read_segments base) w.now).0)
         (run at (named_exports base) w.now).0) (run at (indexed_exports base) w.now).0)
         before records.old names.old result records.new names.new }
 {
-    let Drafted::Open(first) = add_segments(at, w, base, records, names, before) else {
-        return Drafted::Full;
-    };
-    let Drafted::Open(second) = add_all_named(at, w, base, records, names, first) else {
-        return Drafted::Full;
-    };
+    let first = add_segments(at, w, base, records, names, before)?;
+    let second = add_all_named(at, w, base, records, names, first)?;
     add_all_indexed(at, w, base, records, names, second)
 }
 
-// Reads the module at base into a new record of a register that records and names encode.
+// Reads the module at base into a new record of a register that records and names encode, if there is room.
 pub(crate) fn index_exports(
     at: u32,
     w: &[u8],
@@ -317,7 +285,7 @@ pub(crate) fn index_exports(
     base: u32,
     size: u32,
     auto_link: bool,
-) -> IndexResult
+) -> Option<()>
     requires { Encoded records.old names.old }
     ensures { let old = register_in records.old names.old in
         let m = (run at (read_module base size auto_link) w.now).0 in
@@ -327,12 +295,8 @@ pub(crate) fn index_exports(
         × (register_of records.new names.new missing
         ≡ register_with records.old names.old (register_of records.old names.old missing) m)) }
 {
-    let Drafted::Open(first) = begin(at, w, base, size, auto_link, records, names) else {
-        return IndexResult::NoRoom;
-    };
-    let Drafted::Open(last) = add_lists(at, w, base, records, names, first) else {
-        return IndexResult::NoRoom;
-    };
+    let first = begin(at, w, base, size, auto_link, records, names)?;
+    let last = add_lists(at, w, base, records, names, first)?;
     draft::finish_record(records, last);
-    IndexResult::Appended
+    Some(())
 }

@@ -3,12 +3,12 @@ ghost use Rattle.std.specs.Prelude.{◌≡◌};
 ghost use Rattle.window.specs.Trace.{run_t};
 ghost use Rattle.linker_spec.specs.Relocation.{write_place, apply_internal_relocation, apply_internal_relocations};
 
-use layout::fields::{entry_address, field};
+use crate::entries::for_each_entry;
+use layout::fields::field;
 use layout::format::{RELOCATION_ENTRY_SIZE, RelocationType, SegmentTag, SegmentType};
 use layout::header::{INTERNAL_RELOCATION_NUM, INTERNAL_RELOCATION_TABLE_OFFSET};
 use layout::relocation::apply_relocation;
-use layout::segments::{FoundSegment, segment};
-use window::outside::silent_stride;
+use layout::segments::segment;
 
 // Where the word goes: one for Data is written to the copy still sitting in the module's image, which nobody has moved yet.
 fn write_place(kind: SegmentType, old: u32, offset: u32, target_final: u32) -> u32
@@ -37,7 +37,7 @@ fn apply_internal_relocation(
     let kind = window::read8(at, w, trace, std::num::wrapping_add_u32(entry, 4));
     let symbol = window::read8(at, w, trace, std::num::wrapping_add_u32(entry, 5)) as u32;
     let addend = window::read32(at, w, trace, std::num::wrapping_add_u32(entry, 8));
-    let FoundSegment::Found(into) = segment(at, w, trace, base, tag.segment()) else {
+    let Some(into) = segment(at, w, trace, base, tag.segment()) else {
         return;
     };
     let offset = tag.offset();
@@ -47,7 +47,7 @@ fn apply_internal_relocation(
     let target_final = std::num::wrapping_add_u32(into.offset, offset);
     let part = into.kind;
     let target = write_place(part, old, offset, target_final);
-    let FoundSegment::Found(from) = segment(at, w, trace, base, symbol) else {
+    let Some(from) = segment(at, w, trace, base, symbol) else {
         return;
     };
     apply_relocation(
@@ -55,7 +55,7 @@ fn apply_internal_relocation(
         w,
         trace,
         target,
-        RelocationType::from_raw(kind),
+        RelocationType::from(kind),
         addend,
         from.offset,
         target_final,
@@ -74,17 +74,13 @@ pub(crate) fn apply_internal_relocations(
 {
     let table = field(at, w, trace, base, INTERNAL_RELOCATION_TABLE_OFFSET);
     let count = field(at, w, trace, base, INTERNAL_RELOCATION_NUM);
-    let mut index: u32 = 0;
-    while index < count {
-        let entry = entry_address(table, index, RELOCATION_ENTRY_SIZE);
-        apply_internal_relocation(at, w, trace, base, old, entry);
-        index += silent_stride(
-            at,
-            w.len(),
-            trace,
-            entry,
-            RELOCATION_ENTRY_SIZE,
-            count - index,
-        );
-    }
+    for_each_entry(
+        at,
+        w,
+        trace,
+        table,
+        count,
+        RELOCATION_ENTRY_SIZE,
+        |w, trace, entry| apply_internal_relocation(at, w, trace, base, old, entry),
+    );
 }

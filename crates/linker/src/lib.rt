@@ -3,6 +3,7 @@
 #![tactic(auto)]
 
 pub mod calls;
+mod entries;
 mod entry;
 mod exports;
 mod fix;

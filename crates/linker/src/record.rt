@@ -9,26 +9,25 @@ ghost use Rattle.linker.specs.Record.Read.{segment_of, at_most16, own_name};
 ghost use Rattle.linker.specs.Record.Tried.{tried};
 
 use layout::format::SegmentTag;
-use layout::segments::{Address, FoundSegment};
 use layout::{header, peek};
 use register::append::draft;
-use register::append::draft::{Draft, Drafted};
+use register::append::draft::Draft;
 
 // The draft that a step gives; where the step had no room the record is given up.
 pub(crate) fn keep_or_give_up(
     records: &mut [u8],
     names: &mut [u8],
     before: Draft,
-    after: Drafted,
-) -> Drafted
+    after: Option<Draft>,
+) -> Option<Draft>
     ensures { (result, records.new, names.new) ≡ tried before after records.old names.old }
 {
     match after {
-        Drafted::Full => {
+        None => {
             draft::give_up(records, names, before);
-            Drafted::Full
+            None
         }
-        Drafted::Open(next) => Drafted::Open(next),
+        Some(next) => Some(next),
     }
 }
 
@@ -37,8 +36,8 @@ pub(crate) fn segment_offset(at: u32, w: &[u8], base: u32, i: u32) -> u32
     ensures { result ≡ segment_of at w.now base i }
 {
     match peek::segment(at, w, base, i) {
-        FoundSegment::Found(entry) => entry.offset,
-        FoundSegment::Missing => 0,
+        Some(entry) => entry.offset,
+        None => 0,
     }
 }
 
@@ -57,10 +56,7 @@ pub(crate) fn indexed_address(at: u32, w: &[u8], base: u32, entry: u32) -> u32
     ensures { result ≡ address_or0 (run at (tag_to_address base (word_at at w.now entry)) w.now).0 }
 {
     let tag = SegmentTag(peek::word(at, w, entry));
-    match peek::tag_to_address(at, w, base, tag) {
-        Address::At(address) => address,
-        Address::Nowhere => 0,
-    }
+    peek::tag_to_address(at, w, base, tag).unwrap_or(0)
 }
 
 // Begins the module's record with its own name.
@@ -72,7 +68,7 @@ pub(crate) fn begin(
     auto_link: bool,
     records: &mut [u8],
     names: &mut [u8],
-) -> Drafted
+) -> Option<Draft>
     ensures { (result, records.new, names.new)
         ≡ begin_record records.old names.old base size auto_link (own_name at w.now base) }
 {

@@ -4,15 +4,16 @@ ghost use Rattle.window.specs.Trace.{run_t};
 ghost use Rattle.linker_spec.specs.Relocation.{unresolved_symbol, reset_entry, reset_external_relocations, apply_relocation_batch, batch_is_resolved};
 ghost use Rattle.linker.specs.Relocation.Entry.{apply_entry, walk_entry};
 
+use crate::entries::for_each_entry;
 use layout::fields::{entry_address, field};
 use layout::format::{RELOCATION_ENTRY_SIZE, RelocationType, SegmentTag};
 use layout::header::{
     EXTERNAL_RELOCATION_NUM, EXTERNAL_RELOCATION_TABLE_OFFSET, ON_UNRESOLVED_SEGMENT_TAG,
 };
 use layout::relocation::apply_relocation;
-use layout::segments::{Address, segment_row, tag_to_address};
+use layout::segments::{segment_row, tag_to_address};
 use window::outside::silent_stride;
-use window::row::{Row, row_of};
+use window::row::row_of;
 use window::{load32, read8, read32, write8};
 
 // Applies one external relocation with symbol, if its tag is usable.
@@ -22,7 +23,7 @@ fn apply_entry(at: u32, w: &mut [u8], trace: &mut [u8], base: u32, symbol: u32, 
     let tag = read32(at, w, trace, entry);
     let kind = read8(at, w, trace, std::num::wrapping_add_u32(entry, 4));
     let addend = read32(at, w, trace, std::num::wrapping_add_u32(entry, 8));
-    let Address::At(target) = tag_to_address(at, w, trace, base, SegmentTag(tag)) else {
+    let Some(target) = tag_to_address(at, w, trace, base, SegmentTag(tag)) else {
         return;
     };
     apply_relocation(
@@ -30,7 +31,7 @@ fn apply_entry(at: u32, w: &mut [u8], trace: &mut [u8], base: u32, symbol: u32, 
         w,
         trace,
         target,
-        RelocationType::from_raw(kind),
+        RelocationType::from(kind),
         addend,
         symbol,
         target,
@@ -42,11 +43,11 @@ fn apply_entry(at: u32, w: &mut [u8], trace: &mut [u8], base: u32, symbol: u32, 
 fn walk_entry(at: u32, w: &mut [u8], trace: &mut [u8], base: u32, symbol: u32, entry: u32) -> u8
     ensures { (result, (w.new, trace.new)) ≡ run_t at (walk_entry base symbol entry) (w.old, trace.old) }
 {
-    let Row::At(i) = row_of(at, w.len(), entry, 12) else {
+    let Some(i) = row_of(at, w.len(), entry, 12) else {
         return walk_anywhere(at, w, trace, base, symbol, entry);
     };
     let tag = SegmentTag(load32(w, i));
-    let Row::At(s) = segment_row(at, w, base, tag.segment()) else {
+    let Some(s) = segment_row(at, w, base, tag.segment()) else {
         return walk_anywhere(at, w, trace, base, symbol, entry);
     };
     let end = w[i + 5];
@@ -55,7 +56,7 @@ fn walk_entry(at: u32, w: &mut [u8], trace: &mut [u8], base: u32, symbol: u32, e
         return end;
     }
     let target = std::num::wrapping_add_u32(load32(w, s), offset);
-    let kind = RelocationType::from_raw(w[i + 4]);
+    let kind = RelocationType::from(w[i + 4]);
     let addend = load32(w, i + 8);
     apply_relocation(at, w, trace, target, kind, addend, symbol, target);
     end
@@ -69,10 +70,10 @@ fn walk_anywhere(at: u32, w: &mut [u8], trace: &mut [u8], base: u32, symbol: u32
     let number = read8(at, w, trace, std::num::wrapping_add_u32(entry, 4));
     let end = read8(at, w, trace, std::num::wrapping_add_u32(entry, 5));
     let addend = read32(at, w, trace, std::num::wrapping_add_u32(entry, 8));
-    let Address::At(target) = tag_to_address(at, w, trace, base, SegmentTag(tag)) else {
+    let Some(target) = tag_to_address(at, w, trace, base, SegmentTag(tag)) else {
         return end;
     };
-    let kind = RelocationType::from_raw(number);
+    let kind = RelocationType::from(number);
     apply_relocation(at, w, trace, target, kind, addend, symbol, target);
     end
 }
@@ -92,6 +93,7 @@ pub(crate) fn apply_relocation_batch(
 {
     let mut entry = batch;
     let mut walked: u16 = 0;
+    // No range gives the entries: a turn goes on by its stride, up to 0x1001 of them.
     loop {
         let end = walk_entry(at, w, trace, base, symbol, entry);
         if end != 0 {
@@ -128,10 +130,7 @@ pub(crate) fn unresolved_symbol(at: u32, w: &[u8], trace: &mut [u8], base: u32) 
     ensures { (result, (w.now, trace.new)) ≡ run_t at (unresolved_symbol base) (w.now, trace.old) }
 {
     let tag = SegmentTag(field(at, w, trace, base, ON_UNRESOLVED_SEGMENT_TAG));
-    let Address::At(handler) = tag_to_address(at, w, trace, base, tag) else {
-        return 0;
-    };
-    handler
+    tag_to_address(at, w, trace, base, tag).unwrap_or(0)
 }
 
 // Points one import at the handler, unless that is 0, and clears its mark.
@@ -151,17 +150,13 @@ pub(crate) fn reset_external_relocations(at: u32, w: &mut [u8], trace: &mut [u8]
     let handler = unresolved_symbol(at, w, trace, base);
     let table = field(at, w, trace, base, EXTERNAL_RELOCATION_TABLE_OFFSET);
     let count = field(at, w, trace, base, EXTERNAL_RELOCATION_NUM);
-    let mut index: u32 = 0;
-    while index < count {
-        let entry = entry_address(table, index, RELOCATION_ENTRY_SIZE);
-        reset_entry(at, w, trace, base, handler, entry);
-        index += silent_stride(
-            at,
-            w.len(),
-            trace,
-            entry,
-            RELOCATION_ENTRY_SIZE,
-            count - index,
-        );
-    }
+    for_each_entry(
+        at,
+        w,
+        trace,
+        table,
+        count,
+        RELOCATION_ENTRY_SIZE,
+        |w, trace, entry| reset_entry(at, w, trace, base, handler, entry),
+    );
 }

@@ -6,10 +6,11 @@ ghost use Rattle.linker_spec.specs.Resets.{reset, reset_at, reset_named, reset_m
 ghost use Rattle.linker.specs.Resets.Tables.{reset_table, reset_all_named, reset_all_modules};
 ghost use Rattle.linker.specs.Resets.Modules.{other_than, reset_importer};
 
+use crate::entries::for_each_entry;
 use crate::relocation::{apply_relocation_batch, batch_is_resolved, unresolved_symbol};
 use crate::sources::names::{export_of, is_name};
 use crate::sources::source::tables_of;
-use layout::fields::{entry_address, field};
+use layout::fields::field;
 use layout::format::{
     IMPORT_INDEXED_SYMBOL_ENTRY_SIZE, IMPORT_MODULE_ENTRY_SIZE, IMPORT_NAMED_SYMBOL_ENTRY_SIZE,
 };
@@ -18,8 +19,7 @@ use layout::header::{
     IMPORT_NAMED_SYMBOL_TABLE_OFFSET,
 };
 use register::read::modules::module_count;
-use register::read::{Record, Symbol, record_at, record_end, record_name};
-use window::outside::silent_stride;
+use register::read::{Record, record_at, record_end, record_name};
 
 // Points a resolved batch at the handler, even if that is 0, and marks it unresolved.
 fn reset(at: u32, w: &mut [u8], trace: &mut [u8], base: u32, handler: u32, batch: u32)
@@ -53,19 +53,15 @@ fn reset_table(
 )
     ensures { (w.new, trace.new) ≡ (run_t at (reset_table base handler table count) (w.old, trace.old)).1 }
 {
-    let mut index: u32 = 0;
-    while index < count {
-        let entry = entry_address(table, index, IMPORT_INDEXED_SYMBOL_ENTRY_SIZE);
-        reset_at(at, w, trace, base, handler, entry);
-        index += silent_stride(
-            at,
-            w.len(),
-            trace,
-            entry,
-            IMPORT_INDEXED_SYMBOL_ENTRY_SIZE,
-            count - index,
-        );
-    }
+    for_each_entry(
+        at,
+        w,
+        trace,
+        table,
+        count,
+        IMPORT_INDEXED_SYMBOL_ENTRY_SIZE,
+        |w, trace, entry| reset_at(at, w, trace, base, handler, entry),
+    );
 }
 
 // A named import, if the module exported its name.
@@ -85,7 +81,7 @@ fn reset_named(
         ≡ (run_t at (reset_named (module_at records.now names.now place) base handler entry) (w.old, trace.old)).1 }
 {
     let address = window::read32(at, w, trace, entry);
-    let Symbol::At(_) = export_of(at, w, trace, records, names, place, address) else {
+    let Some(_) = export_of(at, w, trace, records, names, place, address) else {
         return;
     };
     reset_at(at, w, trace, base, handler, entry);
@@ -148,19 +144,15 @@ fn reset_all_named(
 {
     let table = field(at, w, trace, base, IMPORT_NAMED_SYMBOL_TABLE_OFFSET);
     let count = field(at, w, trace, base, IMPORT_NAMED_SYMBOL_NUM);
-    let mut index: u32 = 0;
-    while index < count {
-        let entry = entry_address(table, index, IMPORT_NAMED_SYMBOL_ENTRY_SIZE);
-        reset_named(at, w, trace, records, names, place, base, handler, entry);
-        index += silent_stride(
-            at,
-            w.len(),
-            trace,
-            entry,
-            IMPORT_NAMED_SYMBOL_ENTRY_SIZE,
-            count - index,
-        );
-    }
+    for_each_entry(
+        at,
+        w,
+        trace,
+        table,
+        count,
+        IMPORT_NAMED_SYMBOL_ENTRY_SIZE,
+        |w, trace, entry| reset_named(at, w, trace, records, names, place, base, handler, entry),
+    );
 }
 
 // The module entries of the module at base.
@@ -179,19 +171,15 @@ fn reset_all_modules(
 {
     let table = field(at, w, trace, base, IMPORT_MODULE_TABLE_OFFSET);
     let count = field(at, w, trace, base, IMPORT_MODULE_NUM);
-    let mut index: u32 = 0;
-    while index < count {
-        let entry = entry_address(table, index, IMPORT_MODULE_ENTRY_SIZE);
-        reset_module(at, w, trace, records, names, place, base, handler, entry);
-        index += silent_stride(
-            at,
-            w.len(),
-            trace,
-            entry,
-            IMPORT_MODULE_ENTRY_SIZE,
-            count - index,
-        );
-    }
+    for_each_entry(
+        at,
+        w,
+        trace,
+        table,
+        count,
+        IMPORT_MODULE_ENTRY_SIZE,
+        |w, trace, entry| reset_module(at, w, trace, records, names, place, base, handler, entry),
+    );
 }
 
 // Resets what the module at base linked against the module at the place.
@@ -252,11 +240,9 @@ pub(crate) fn reset_importers(
 {
     let count = module_count(records);
     let mut next: usize = 32;
-    let mut k: u32 = 0;
-    while k < count {
+    for k in 0..count {
         let record = record_at(records, next);
         reset_importer(at, w, trace, records, names, place, record);
         next = record_end(record);
-        k += 1;
     }
 }

@@ -13,10 +13,10 @@ ghost use Rattle.linker.specs.Exports.Sorted.{Sorted, Merging};
 use layout::fields::entry_address;
 use layout::format::{EXPORT_NAMED_SYMBOL_ENTRY_SIZE, SegmentTag};
 use layout::peek;
-use layout::segments::Address;
 use register::append::bytes::copy_within;
 use register::words::word;
-use window::name::{NameOrder, compare_names_at, peek_name};
+use std::cmp::Ordering;
+use window::name::{compare_names_at, peek_name};
 
 // Lays the two words of an export as number k.
 fn lay(items: &mut [u8], k: usize, place: u32, address: u32)
@@ -40,6 +40,7 @@ fn merge_runs(at: u32, w: &[u8], items: &mut [u8], left: usize, n: usize) -> usi
     let mut i = n;
     let mut j = left;
     let mut k: usize = 0;
+    // Two indices, each moved by what the names say: no range or iterator gives both.
     while i < end {
         if n <= j {
             copy_within(items, 8 * i, 8 * (end - i), 8 * k);
@@ -48,16 +49,16 @@ fn merge_runs(at: u32, w: &[u8], items: &mut [u8], left: usize, n: usize) -> usi
         let x = word(items, 2 * i);
         let y = word(items, 2 * j);
         match compare_names_at(at, w, x, y) {
-            NameOrder::Before => {
+            Ordering::Less => {
                 let address = word(items, 2 * i + 1);
                 lay(items, k, x, address);
                 i += 1;
                 k += 1;
             }
-            NameOrder::Same => {
+            Ordering::Equal => {
                 i += 1;
             }
-            NameOrder::After => {
+            Ordering::Greater => {
                 let address = word(items, 2 * j + 1);
                 lay(items, k, y, address);
                 j += 1;
@@ -91,11 +92,11 @@ fn merge(at: u32, w: &[u8], items: &mut [u8], left: usize, right: usize) -> usiz
     let last = word(items, 2 * left - 2);
     let first = word(items, 2 * left);
     match compare_names_at(at, w, last, first) {
-        NameOrder::Before => {
+        Ordering::Less => {
             return n;
         }
-        NameOrder::Same => {}
-        NameOrder::After => {}
+        Ordering::Equal => {}
+        Ordering::Greater => {}
     }
     copy_within(items, 0, 8 * left, 8 * n);
     merge_runs(at, w, items, left, n)
@@ -112,8 +113,8 @@ fn gather_one(at: u32, w: &[u8], base: u32, table: u32, i: u32, items: &mut [u8]
     let place = peek::word(at, w, entry);
     let tag = SegmentTag(peek::word(at, w, std::num::wrapping_add_u32(entry, 4)));
     match peek::tag_to_address(at, w, base, tag) {
-        Address::Nowhere => 0,
-        Address::At(address) => {
+        None => 0,
+        Some(address) => {
             lay(items, 0, place, address);
             1
         }
@@ -165,11 +166,9 @@ pub(crate) fn names_length(at: u32, w: &[u8], waiting: &[u8]) -> usize
     let mut buffer = [0u8; 512];
     let n = waiting.len() / 8;
     let mut sum: usize = 0;
-    let mut k: usize = 0;
-    while k < n {
+    for k in 0..n {
         let place = word(waiting, 2 * k);
         sum += peek_name(at, w, place, &mut buffer);
-        k += 1;
     }
     sum
 }

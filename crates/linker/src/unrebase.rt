@@ -9,7 +9,7 @@ use crate::rebase::words::move_header;
 use layout::fields::{field, set_field};
 use layout::format::{Segment, SegmentType};
 use layout::header::{FIXED_SIZE, SEGMENT_NUM};
-use layout::segments::{FoundSegment, segment, set_segment};
+use layout::segments::{segment, set_segment};
 
 // The offset that an address was, 0 where it is 0.
 fn offset_back(base: u32, x: u32) -> u32
@@ -37,7 +37,7 @@ fn leaves_as(base: u32, s: Segment) -> Segment
 fn unmove_segment(at: u32, w: &mut [u8], trace: &mut [u8], base: u32, index: u32)
     ensures { (w.new, trace.new) ≡ (run_t at (unmove_segment base index) (w.old, trace.old)).1 }
 {
-    let FoundSegment::Found(s) = segment(at, w, trace, base, index) else {
+    let Some(s) = segment(at, w, trace, base, index) else {
         return;
     };
     set_segment(at, w, trace, base, index, leaves_as(base, s));
@@ -48,6 +48,7 @@ fn unmove_segments(at: u32, w: &mut [u8], trace: &mut [u8], base: u32)
 {
     let count = field(at, w, trace, base, SEGMENT_NUM);
     let mut index: u32 = 0;
+    // No range gives the indices: a turn goes on by its stride, and it needs the index, which `for_each_entry` does not give.
     while index < count {
         unmove_segment(at, w, trace, base, index);
         index += segment_stride(at, w, trace, base, index, count - index);

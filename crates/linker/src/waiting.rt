@@ -16,35 +16,36 @@ ghost use Rattle.linker.specs.Exports.Gathered.{EndsWithin, Gathered, PutStep};
 
 use register::append::bytes::copy_into;
 use register::append::draft;
-use register::append::draft::{Draft, Drafted};
+use register::append::draft::Draft;
 use register::append::waiting::insert_waiting;
-use register::exports::Position;
 use register::words::word;
-use window::name::{NameOrder, compare_name_at, peek_name};
+use std::cmp::Ordering;
+use window::name::{compare_name_at, peek_name};
 
 // Where the name stands among the exports that wait, by halves.
-fn position_of(at: u32, w: &[u8], waiting: &[u8], name: &[u8]) -> Position
+fn position_of(at: u32, w: &[u8], waiting: &[u8], name: &[u8]) -> Result<usize, usize>
     ensures { (Inside result (length waiting.now / 8))
         × ((xs : List Waiting) → Waits at w.now xs waiting.now → no_zero name.now ≡ true → result ≡ position_of (exports_for at w.now xs) name.now) }
 {
     let mut low: usize = 0;
     let mut high = waiting.len() / 8;
+    // No slice of keys stands there for `binary_search_by`: they are words, and each key is where its first one says.
     while low < high {
         let middle = low + (high - low) / 2;
         let place = word(waiting, 2 * middle);
         match compare_name_at(at, w, name, place) {
-            NameOrder::Before => {
+            Ordering::Less => {
                 high = middle;
             }
-            NameOrder::Same => {
-                return Position::At(middle);
+            Ordering::Equal => {
+                return Ok(middle);
             }
-            NameOrder::After => {
+            Ordering::Greater => {
                 low = middle + 1;
             }
         }
     }
-    Position::Before(low)
+    Err(low)
 }
 
 // Gives those that wait from `from` on the export of the name at `place`: a later one of the same name replaces the address.
@@ -57,7 +58,7 @@ pub(crate) fn put_waiting(
     names: &[u8],
     from: usize,
     before: Draft,
-) -> Drafted
+) -> Option<Draft>
     requires { (from ≤ before.end) × (before.end ≤ room_in (length records.old)) × (before.last < 2 ^ 32) }
     ensures { (EndsWithin result from (room_in (length records.new)))
         × ((g : Ground) (m : Module) (first : Draft) (exports : List Export) → from ≡ first.end
@@ -69,16 +70,16 @@ pub(crate) fn put_waiting(
     let end = before.end;
     let to = from + 8 * ((end - from) / 12);
     match position_of(at, w, &records[from..to], &buffer[..count]) {
-        Position::At(k) => {
+        Ok(k) => {
             window::store32(records, from + 8 * k + 4, address);
-            Drafted::Open(before)
+            Some(before)
         }
-        Position::Before(k) => {
+        Err(k) => {
             if !draft::has_room(records, names, before, count) {
-                return Drafted::Full;
+                return None;
             }
             insert_waiting(records, from + 8 * k, to, place, address);
-            Drafted::Open(Draft {
+            Some(Draft {
                 start: before.start,
                 end: end + 12,
                 names: before.names,
@@ -99,9 +100,7 @@ pub(crate) fn write_names(at: u32, w: &[u8], waiting: &mut [u8], names: &mut [u8
 {
     let mut buffer = [0u8; 512];
     let mut offset = last;
-    let mut k = waiting.len() / 12;
-    while 0 < k {
-        k -= 1;
+    for k in (0..waiting.len() / 12).rev() {
         let place = word(waiting, 2 * k);
         let address = word(waiting, 2 * k + 1);
         let count = peek_name(at, w, place, &mut buffer);

@@ -1,6 +1,6 @@
 -- The proved cases of document 01's table that live here, and the batch that never ends.
 use Prim.Native.Nat.{ℕ, zero, suc, ◌+◌, ◌-◌, ◌%◌, ◌^◌, ◌<◌}
-use Rattle.std.specs.Prelude.{if◌then◌else◌, ◌≡◌, true, false, not, eqb}
+use Rattle.std.specs.Prelude.{if◌then◌else◌, ◌≡◌, true, false, not, eqb, Some, None, Option}
 use Rattle.std.proofs.Math.Path.{refl, ap}
 use Rattle.std.proofs.Common.{◌∙◌, ne_eqb}
 use mathlib.Core.List.{List}
@@ -14,12 +14,7 @@ use Rattle.layout.specs.Format.{tag_segment}
 use Rattle.layout.specs.Segments.{field, segment, set_segment, segment_at, segment_place, segment-found, segment_reads, segment_missing, tag_to_address, tag_missing, tag_to_address_reads}
 use Rattle.layout.specs.declared.format.Segment.{Segment}
 use Rattle.layout.specs.declared.format.SegmentType.TheVariants.{Data}
-use Rattle.layout.specs.declared.segments.Address.TheVariants.{Nowhere}
-use Rattle.layout.specs.declared.segments.FoundSegment.TheVariants.{Found}
 use Rattle.linker_spec.specs.declared.rebase.LoadArguments.{LoadArguments}
-use Rattle.linker_spec.specs.declared.rebase.Placed.TheVariants.{Refused, Put}
-use Rattle.linker_spec.specs.declared.rebase.Moved.{Moved}
-use Rattle.linker_spec.specs.declared.rebase.Moved.TheVariants.{Bad, OldPlace}
 use Rattle.linker_spec.specs.Rebase.{is_magic, move_header, lent_place, place, write_back, move_found, move_segment, move_segments}
 use Rattle.linker_spec.specs.Relocation.{relocate_at, reset_entry, walk, batch_limit, apply_relocation_batch, batch_is_resolved}
 use Rattle.linker_spec.specs.Resets.{reset}
@@ -35,49 +30,49 @@ use Rattle.linker_spec.specs.Cases.{data_of, lent_16}
 
 module _ (base size data-segment bss-segment bss-segment-size offset old : ℕ) where
   pub data_16
-      : place (lent_16 base size data-segment bss-segment bss-segment-size) (data_of offset 16) Data old ≡ Put (data_of data-segment 16) (offset ⊕ base)
+      : place (lent_16 base size data-segment bss-segment bss-segment-size) (data_of offset 16) Data old ≡ Some (data_of data-segment 16, offset ⊕ base)
   unfolding place lent_place
   data_16 = refl
 
-  pub data_17 : place (lent_16 base size data-segment bss-segment bss-segment-size) (data_of offset 17) Data old ≡ Refused
+  pub data_17 : place (lent_16 base size data-segment bss-segment bss-segment-size) (data_of offset 17) Data old ≡ None
   unfolding place lent_place
   data_17 = refl
 
 -- a load whose first segment is refused answers 2, and its segments are as they were
 module _ (at : ℕ) (l : LoadArguments) (w : List ℕ) where
-  pub stays_bad : (n i : ℕ) → run at (loop (move_segment l) i n Bad) w ≡ (Bad, w)
+  pub stays_bad : (n i : ℕ) → run at (loop (move_segment l) i n None) w ≡ (None, w)
   unfolding loop move_segment run ◌>>=◌
   stays_bad zero i = refl
   stays_bad (suc n) i = stays_bad n (suc i)
 
   module _ (n : ℕ) (c : word_at at w (l.base ⊕ segment_num) ≡ suc n) (s : Segment)
       (e : segment_at at w (segment_place at w l.base 0) ≡ s) where
-    first_found : run at (segment l.base 0) w ≡ (Found s, w)
+    first_found : run at (segment l.base 0) w ≡ (Some s, w)
     first_found =
-        pair≡ (segment-found at l.base 0 w (omega (arith, c)) ∙ ap Found e)
+        pair≡ (segment-found at l.base 0 w (omega (arith, c)) ∙ ap Some e)
         (reads_same at (segment l.base 0) w (segment_reads l.base 0))
 
-    first-turn : run at (move_segment l 0 (OldPlace 0)) w ≡ run at (write_back l.base 0 (place l s s.kind 0)) w
+    first-turn : run at (move_segment l 0 (Some 0)) w ≡ run at (write_back l.base 0 (place l s s.kind 0)) w
     unfolding move_segment move_found
     first-turn = run_bind at (segment l.base 0) _ w ∙ rw first_found
 
-    pub first-refused : place l s s.kind 0 ≡ Refused → run at (move_segments l) w ≡ (Bad, w)
+    pub first-refused : place l s s.kind 0 ≡ None → run at (move_segments l) w ≡ (None, w)
     unfolding move_segments write_back field run ◌>>=◌
     first-refused f =
-        ap (λ k. run at (loop (move_segment l) 0 k (OldPlace 0)) w) c
-        ∙ loop-more at (move_segment l) 0 n (OldPlace 0) w
+        ap (λ k. run at (loop (move_segment l) 0 k (Some 0)) w) c
+        ∙ loop-more at (move_segment l) 0 n (Some 0) w
         ∙ rw (first-turn, f) (stays_bad n 1)
 
   -- and one whose only segment gets its place goes on, with the old place of Data
   pub only_placed
       : word_at at w (l.base ⊕ segment_num) ≡ 1 → (s : Segment) → segment_at at w (segment_place at w l.base 0) ≡ s → {t : Segment} {old : ℕ}
-      → place l s s.kind 0 ≡ Put t old → (run at (move_segments l) w).0 ≡ OldPlace old
+      → place l s s.kind 0 ≡ Some (t, old) → (run at (move_segments l) w).0 ≡ Some old
   unfolding move_segments write_back field run ◌>>=◌
   only_placed c s e {t} {old} f =
-      ap (λ k. (run at (loop (move_segment l) 0 k (OldPlace 0)) w).0) c
-      ∙ ap (λ (x : Moved × List ℕ). x.0) (loop-more at (move_segment l) 0 0 (OldPlace 0) w)
-      ∙ ap (λ (x : Moved × List ℕ). x.0) (loop_none at (move_segment l) 1 _ _)
-      ∙ ap (λ (x : Moved × List ℕ). x.0)
+      ap (λ k. (run at (loop (move_segment l) 0 k (Some 0)) w).0) c
+      ∙ ap (λ (x : Option ℕ × List ℕ). x.0) (loop-more at (move_segment l) 0 0 (Some 0) w)
+      ∙ ap (λ (x : Option ℕ × List ℕ). x.0) (loop_none at (move_segment l) 1 _ _)
+      ∙ ap (λ (x : Option ℕ × List ℕ). x.0)
       (first-turn 0 c s e ∙ ap (λ p. run at (write_back l.base 0 p) w) f ∙ run_bind at (set_segment l.base 0 t) _ w)
 
 -- "Data size 17, lent 16": number 2, the window as the header's move left it
@@ -153,7 +148,7 @@ module _ (at base symbol : ℕ) (w : List ℕ) (z : (x : ℕ) → byte_at at w x
   unfolding word_at
   word_0 x = rw (z x, z (x + 1), z (x + 2), z (x + 3))
 
-  nowhere : (tag : ℕ) → (run at (tag_to_address base tag) w).0 ≡ Nowhere
+  nowhere : (tag : ℕ) → (run at (tag_to_address base tag) w).0 ≡ None
   nowhere tag =
       tag_missing at base tag w
       (segment_missing at base (tag_segment tag) w (let e = word_0 (base ⊕ segment_num) in omega (arith, e)))

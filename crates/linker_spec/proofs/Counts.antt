@@ -1,6 +1,6 @@
 -- What the steps and calls may answer: how far a batch walk counts, which numbers a call has.
 use Prim.Native.Nat.{ℕ, zero, suc, ◌+◌, ◌^◌, ◌≤◌, ◌<◌}
-use Rattle.std.specs.Prelude.{if◌then◌else◌, ◌≡◌, Bool}
+use Rattle.std.specs.Prelude.{if◌then◌else◌, ◌≡◌, Bool, Some, Ok, Err}
 use Rattle.std.proofs.Math.Path.{refl, sym, ap}
 use Rattle.std.proofs.Common.{subst, ◌∙◌, eq-eqb, ne_eqb}
 use mathlib.Core.List.{List}
@@ -13,8 +13,7 @@ use Rattle.layout.specs.Header.{relocation_entry_size}
 use Rattle.layout.specs.Tables.{pointer_tables}
 use Rattle.layout.specs.Segments.{set_field, tag_to_address}
 use Rattle.register.specs.Module.{Register}
-use Rattle.linker_spec.specs.declared.rebase.Moved.TheVariants.{OldPlace}
-use Rattle.linker_spec.specs.declared.rebase.Rebased.{Rebased}
+use Rattle.linker_spec.specs.Refusal.{Rebased}
 use Rattle.linker_spec.specs.Rebase.{is_magic, move_header, look_at_segments, move_tables}
 use Rattle.linker_spec.specs.Relocation.{relocate_at, walk, batch_limit, reset_external_relocations, apply_internal_relocations}
 use Rattle.linker_spec.specs.Exports.{read_module}
@@ -24,6 +23,7 @@ use Rattle.linker_spec.specs.Unrebase.{unrebase}
 use Rattle.linker_spec.specs.Calls.{number, unlisted, relocate, rebase_with, rebase_static, fits, add_record, initialized, initialize, FirstWithBase, unknown, stands, leave, unload, first_with_base}
 use Rattle.linker_spec.specs.AnyResult.{AnyResult, gives_run, gives_bind, gives_then, gives_if}
 use Rattle.linker_spec.specs.Answers.{Counted, MarkedAfter, Not2, Unmarked, afterEntry}
+use Rattle.linker_spec.specs.declared.refusal.RebaseError.{RebaseError}
 
 module _ (least most base symbol : ℕ) where
   walk_step
@@ -125,17 +125,17 @@ module _ (at base symbol : ℕ) where
 
 -- "`initialize` neither changes nor checks segments": it never answers 2
 abbrev NoBadSegment : Rebased → Type 0
-NoBadSegment Rebased.NotACro = Unit {0}
-NoBadSegment Rebased.BadSegment = ⊥
-NoBadSegment Rebased.Done = Unit {0}
+NoBadSegment (Err RebaseError.NotACro) = Unit {0}
+NoBadSegment (Err RebaseError.BadSegment) = ⊥
+NoBadSegment (Ok _) = Unit {0}
 
 whole-static : (base : ℕ) → AnyResult NoBadSegment (rebase_static base)
 unfolding rebase_static rebase_with relocate AnyResult ◌>>=◌
 whole-static base =
     λ word. gives_if NoBadSegment (is_magic word) _ _
     (gives_then NoBadSegment _ (move_header true base)
-    (λ _. gives_bind (λ m. m ≡ OldPlace 0) NoBadSegment (relocate base) (look_at_segments base >> ret (OldPlace 0))
-    (gives_then (λ m. m ≡ OldPlace 0) (λ _. ret (OldPlace 0)) (look_at_segments base) (λ _. refl))
+    (λ _. gives_bind (λ m. m ≡ Some 0) NoBadSegment (relocate base) (look_at_segments base >> ret (Some 0))
+    (gives_then (λ m. m ≡ Some 0) (λ _. ret (Some 0)) (look_at_segments base) (λ _. refl))
     (λ m e. subst (λ m. AnyResult NoBadSegment (relocate base m)) (sym e)
     (gives_then NoBadSegment _ (move_tables true base pointer_tables) (λ _. gives_then NoBadSegment _ (apply_internal_relocations base 0) (λ _. tt))))))
     tt
@@ -143,9 +143,9 @@ whole-static base =
 module _ (base size records names : ℕ) (r : Register) where
   enters-not-2 : (x : Rebased) → NoBadSegment x → AnyResult (Not2 base size records names r) (add_record records names r base size true (initialized r base) x)
   unfolding add_record initialized set_field number AnyResult ◌>>=◌
-  enters-not-2 Rebased.NotACro h = refl
-  enters-not-2 Rebased.BadSegment h = absurd h
-  enters-not-2 Rebased.Done h =
+  enters-not-2 (Err RebaseError.NotACro) h = refl
+  enters-not-2 (Err RebaseError.BadSegment) h = absurd h
+  enters-not-2 (Ok _) h =
       gives_then (Not2 base size records names r) _ (reset_external_relocations base)
       (λ _. gives_then (Not2 base size records names r) _ (read_module base size true) (λ m. gives_if (Not2 base size records names r) (fits records names r m) _ _ refl refl))
 

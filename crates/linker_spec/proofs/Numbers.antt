@@ -1,5 +1,5 @@
 -- The number of a load and of an `initialize`, for all inputs: 3, 4, 1, 2, and then 0 or 5 as the record fits or not.
-use Rattle.std.specs.Prelude.{if◌then◌else◌, ℕ, ◌≡◌, Bool, not, length, eqb}
+use Rattle.std.specs.Prelude.{if◌then◌else◌, ℕ, ◌≡◌, Bool, not, length, eqb, Option, Some, None, Ok}
 use Rattle.std.proofs.Math.Path.{refl, ap}
 use Rattle.std.proofs.Common.{sym, ◌∙◌, arith}
 use mathlib.Core.List.{List}
@@ -14,9 +14,7 @@ use Rattle.register.specs.Decode.{is_register}
 use Rattle.register.specs.Change.{appended}
 use Rattle.linker_spec.specs.Rebase.{is_magic, move_header, move_segments, look_at_segments, move_tables}
 use Rattle.linker_spec.specs.declared.rebase.LoadArguments.{LoadArguments}
-use Rattle.linker_spec.specs.declared.rebase.Moved.{Moved}
-use Rattle.linker_spec.specs.declared.rebase.Moved.TheVariants.{Bad, OldPlace}
-use Rattle.linker_spec.specs.declared.rebase.Rebased.{Rebased}
+use Rattle.linker_spec.specs.Refusal.{Rebased}
 use Rattle.linker_spec.specs.Relocation.{apply_internal_relocations, reset_external_relocations}
 use Rattle.linker_spec.specs.Exports.{read_module}
 use Rattle.linker_spec.specs.Imports.{apply_import_named_symbols, apply_module_imports, apply_exports_to_loaded}
@@ -32,7 +30,7 @@ abbrev Zero : Answer → Type 0
 Zero a = number a ≡ 0
 
 -- what `initialize` and `load` have in common
-module _ (base size : ℕ) (auto : Bool) (segments : Prog Moved) (next : Module → Prog Answer) (h : (m : Module) → AnyResult Zero (next m))
+module _ (base size : ℕ) (auto : Bool) (segments : Prog (Option ℕ)) (next : Module → Prog Answer) (h : (m : Module) → AnyResult Zero (next m))
     (records names : ℕ) (r : Register) (at : ℕ) (w : List ℕ) where
   abbrev call : Prog Answer
   call = rebase_with base segments >>= add_record records names r base size auto next
@@ -40,7 +38,7 @@ module _ (base size : ℕ) (auto : Bool) (segments : Prog Moved) (next : Module 
   abbrev fitting : Bool
   fitting = fits records names r (read_after at base size auto (run at (rebase_with base segments) w).1)
 
-  relocates : (old : ℕ) (v : List ℕ) → (run at (relocate base (OldPlace old)) v).0 ≡ Rebased.Done
+  relocates : (old : ℕ) (v : List ℕ) → (run at (relocate base (Some old)) v).0 ≡ Ok tt
   unfolding relocate run
   relocates old v =
       ap (λ (y : Rebased × List ℕ). y.0)
@@ -49,7 +47,7 @@ module _ (base size : ℕ) (auto : Bool) (segments : Prog Moved) (next : Module 
 
   rebased_by
       : {old : ℕ} {v : List ℕ} → is_magic (word_at at w (base ⊕ magic)) ≡ true
-      → run at segments (run at (move_header true base) w).1 ≡ (OldPlace old, v) → (run at (rebase_with base segments) w).0 ≡ Rebased.Done
+      → run at segments (run at (move_header true base) w).1 ≡ (Some old, v) → (run at (rebase_with base segments) w).0 ≡ Ok tt
   unfolding rebase_with run ◌>>=◌
   rebased_by {old} {v} e s =
       ap (λ (y : Rebased × List ℕ). y.0)
@@ -60,7 +58,7 @@ module _ (base size : ℕ) (auto : Bool) (segments : Prog Moved) (next : Module 
 
   enter_number
       : (v : List ℕ) (t : Bool) → fits records names r (read_after at base size auto v) ≡ t
-      → number (run at (add_record records names r base size auto next Rebased.Done) v).0 ≡ (if t then 0 else 5)
+      → number (run at (add_record records names r base size auto next (Ok tt)) v).0 ≡ (if t then 0 else 5)
   unfolding add_record number run
   enter_number v true f =
       rw (run_bind at (reset_external_relocations base) _ v, run_bind at (read_module base size auto) _ (run at (reset_external_relocations base) v).1, f)
@@ -75,12 +73,12 @@ module _ (base size : ℕ) (auto : Bool) (segments : Prog Moved) (next : Module 
   entry-number = go (is_magic (word_at at w (base ⊕ magic))) refl (run at segments (run at (move_header true base) w).1) refl
     where
       go
-          : (t : Bool) → is_magic (word_at at w (base ⊕ magic)) ≡ t → (x : Moved × List ℕ)
+          : (t : Bool) → is_magic (word_at at w (base ⊕ magic)) ≡ t → (x : Option ℕ × List ℕ)
           → run at segments (run at (move_header true base) w).1 ≡ x
           → number (run at call w).0 ≡ (if t then entry_number x.0 fitting else 1)
       go false e x s = ap (λ (y : Answer × List ℕ). number y.0) (enters_1 base size auto segments next records names r at w e)
-      go true e (Bad, v) s = ap (λ (y : Answer × List ℕ). number y.0) (enters_2 base size auto segments next records names r at w e s)
-      go true e (OldPlace old, v) s =
+      go true e (None, v) s = ap (λ (y : Answer × List ℕ). number y.0) (enters_2 base size auto segments next records names r at w e s)
+      go true e (Some old, v) s =
           ap (λ (y : Answer × List ℕ). number y.0) (run_bind at (rebase_with base segments) _ w)
           ∙ ap (λ x. number (run at (add_record records names r base size auto next x) (run at (rebase_with base segments) w).1).0) (rebased_by e s)
           ∙ enter_number (run at (rebase_with base segments) w).1 fitting refl
@@ -132,9 +130,9 @@ module _ (at : ℕ) (b : Buffers) where
       (entry-number l.base l.size (not (eqb auto 0)) (move_segments l) _ (linked_0 (lent_register b) l (not (eqb auto 0)) level)
       (length b.records) (length b.names) (lent_register b) at b.window)
 
-  looked : (base : ℕ) (w : List ℕ) → (run at (look_at_segments base >>= λ _. ret (OldPlace 0)) w).0 ≡ OldPlace 0
+  looked : (base : ℕ) (w : List ℕ) → (run at {A = Option ℕ} (look_at_segments base >>= λ _. ret (Some 0)) w).0 ≡ Some 0
   unfolding run
-  looked base w = ap (λ (y : Moved × List ℕ). y.0) (run_bind at (look_at_segments base) _ w)
+  looked base w = ap (λ (y : Option ℕ × List ℕ). y.0) (run_bind at (look_at_segments base) _ w)
 
   pub initialize-number
       : (base size : ℕ)
@@ -154,7 +152,7 @@ module _ (at : ℕ) (b : Buffers) where
   -- a load that passes 1 and 2 answers 0 if its record fits, and 5 exactly if not
   module _ (g : good_window at b.window ≡ true) (v : is_register b.records b.names b.missing ≡ true) (l : LoadArguments) (auto level : ℕ)
       (m : is_magic (word_at at b.window (l.base ⊕ magic)) ≡ true) (old : ℕ)
-      (s : (run at (move_segments l) (run at (move_header true l.base) b.window).1).0 ≡ OldPlace old) where
+      (s : (run at (move_segments l) (run at (move_header true l.base) b.window).1).0 ≡ Some old) where
     pub load_fits : (load_outcome l auto level at b).number ≡ (if (fits_in at b) (loaded_module at l (not (eqb auto 0)) b.window) then 0 else 5)
     load_fits = load-number l auto level ∙ rw (g, v, m, s)
 

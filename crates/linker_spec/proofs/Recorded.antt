@@ -1,23 +1,19 @@
 -- What a module's record holds, whatever its image: names, ascending exports, at most 16 segments, 32-bit numbers. And that missing
 -- names are names, at most 64.
-use Rattle.std.specs.Prelude.{if◌then◌else◌, ℕ, ◌^◌, ◌≤◌, ◌<◌, ◌≡◌, refl, Bool, true, false, length, take, ltb}
+use Rattle.std.specs.declared.cmp.Ordering.{Ordering}
+use Rattle.std.specs.declared.cmp.Ordering.TheVariants.{Less, Equal, Greater}
+use Rattle.std.specs.Prelude.{if◌then◌else◌, ℕ, ◌^◌, ◌≤◌, ◌<◌, ◌≡◌, refl, Bool, true, false, length, take, ltb, Option, Some, None}
 use mathlib.Core.List.{List, [], ◌∷◌, ◌++◌}
 use Rattle.std.proofs.Common.{arith, length-take, le-leb}
 use Rattle.window.specs.Memory.{◌⊕◌}
 use Rattle.window.specs.Access.{get32, run}
 use Rattle.window.specs.Name.{is_name, order_of, name_at, name_at-is_name}
-use Rattle.window.specs.declared.name.NameOrder.{NameOrder}
-use Rattle.window.specs.declared.name.NameOrder.TheVariants.{Before, Same, After}
 use Rattle.window.specs.Small.{word_at-small}
 use Rattle.window.specs.Tests.{both, also}
 use Rattle.layout.specs.Header.{export_named_symbol_table_offset, export_named_symbol_num, export_named_symbol_entry_size, export_indexed_symbol_table_offset, export_indexed_symbol_num, export_indexed_symbol_entry_size, segment_num, segment_table_offset, segment_entry_size, module_name_offset}
 use Rattle.layout.specs.Format.{tag_segment, tag_offset}
 use Rattle.layout.specs.Segments.{field, entry_at, segment, segment_entry, address_in, tag_to_address}
 use Rattle.layout.specs.declared.format.Segment.{Segment}
-use Rattle.layout.specs.declared.segments.FoundSegment.{FoundSegment}
-use Rattle.layout.specs.declared.segments.FoundSegment.TheVariants.{Found, Missing}
-use Rattle.layout.specs.declared.segments.Address.{Address}
-use Rattle.layout.specs.declared.segments.Address.TheVariants.{At, Nowhere}
 use Rattle.register.specs.Module.{Export, named_ok, ascending, proper_module}
 use Rattle.register.specs.Change.{by_order, put_named}
 use Rattle.register.specs.Order.{put_ascends}
@@ -42,13 +38,13 @@ unfolding put_named by_order named_ok Addressed
 put_fields [] name a g s n h = (also g refl, (s, tt))
 put_fields (x ∷ xs) name a g s n h = go (order_of name x.name) (put_fields xs name a g s (both (is_name x.name) (named_ok xs) n).1 h.1)
   where
-    put : NameOrder → List Export
+    put : Ordering → List Export
     put o = by_order o (record { name = name; address = a } ∷ x ∷ xs) (record { name = x.name; address = a } ∷ xs) (x ∷ put_named xs name a)
 
-    go : (o : NameOrder) → (named_ok (put_named xs name a) ≡ true) × Addressed (put_named xs name a) → (named_ok (put o) ≡ true) × Addressed (put o)
-    go Before k = (also g n, (s, h))
-    go Same k = (n, (s, h.1))
-    go After k = (also (both (is_name x.name) (named_ok xs) n).0 k.0, (h.0, k.1))
+    go : (o : Ordering) → (named_ok (put_named xs name a) ≡ true) × Addressed (put_named xs name a) → (named_ok (put o) ≡ true) × Addressed (put o)
+    go Less k = (also g n, (s, h))
+    go Equal k = (n, (s, h.1))
+    go Greater k = (also (both (is_name x.name) (named_ok xs) n).0 k.0, (h.0, k.1))
 
 put_kept : (xs : List Export) (name : List ℕ) (a : ℕ) → is_name name ≡ true → a < 2 ^ 32 → RecordableExports xs → RecordableExports (put_named xs name a)
 put_kept xs name a g s k =
@@ -56,22 +52,22 @@ put_kept xs name a g s k =
     record { names = f.0; ascends = put_ascends xs name a k.ascends; small = f.1 }
 
 -- addresses wrap, so they are 32-bit numbers
-address-small : (s : FoundSegment) (x : ℕ) → address_or0 (address_in s x) < 2 ^ 32
+address-small : (s : Option Segment) (x : ℕ) → address_or0 (address_in s x) < 2 ^ 32
 unfolding address_in
-address-small (Found s) x = go (ltb x s.size)
+address-small (Some s) x = go (ltb x s.size)
   where
-    go : (t : Bool) → address_or0 (if t then At (s.offset ⊕ x) else Nowhere) < 2 ^ 32
+    go : (t : Bool) → address_or0 (if t then Some (s.offset ⊕ x) else None) < 2 ^ 32
     go true = omega arith
     go false = omega arith
-address-small Missing x = omega arith
+address-small None x = omega arith
 
-abbrev SmallAddress : Address → Type 0
+abbrev SmallAddress : Option ℕ → Type 0
 SmallAddress a = address_or0 a < 2 ^ 32
 
-usable_kept : (xs : List Export) (name : List ℕ) (a : Address) → is_name name ≡ true → SmallAddress a → RecordableExports xs → RecordableExports (put_usable xs name a)
+usable_kept : (xs : List Export) (name : List ℕ) (a : Option ℕ) → is_name name ≡ true → SmallAddress a → RecordableExports xs → RecordableExports (put_usable xs name a)
 unfolding put_usable
-usable_kept xs name (At a) g s k = put_kept xs name a g s k
-usable_kept xs name Nowhere g s k = k
+usable_kept xs name (Some a) g s k = put_kept xs name a g s k
+usable_kept xs name None g s k = k
 
 module _ (at : ℕ) where
   pub name_yields : (p : ℕ) → Yields at (λ name. is_name name ≡ true) (name_at p)
@@ -121,7 +117,7 @@ module _ (at : ℕ) where
     abbrev SmallStart : Segment → Type 0
     SmallStart s = s.offset < 2 ^ 32
 
-    abbrev SmallOffset : FoundSegment → Type 0
+    abbrev SmallOffset : Option Segment → Type 0
     SmallOffset s = offset_or0 s < 2 ^ 32
 
     segment_yields : (i : ℕ) → Yields at SmallOffset (segment base i)
@@ -135,8 +131,8 @@ module _ (at : ℕ) where
         (λ offset h. yields_then at SmallStart (get32 (entry_at table i segment_entry_size ⊕ 4)) _
         (λ size. yields_then at SmallStart (get32 (entry_at table i segment_entry_size ⊕ 8)) _
         (λ kind. yields_ret at SmallStart _ h))))
-        (λ s h. yields_ret at SmallOffset (Found s) h)))
-        (λ _. yields_ret at SmallOffset Missing (omega arith)))
+        (λ s h. yields_ret at SmallOffset (Some s) h)))
+        (λ _. yields_ret at SmallOffset None (omega arith)))
 
     abbrev FewSegments : List ℕ → Type 0
     FewSegments xs = (length xs ≤ 16) × All32Bit xs

@@ -1,5 +1,5 @@
 -- Every call on a valid register leaves a valid register, whatever the lent bytes and the arguments: number 4's rule stays met.
-use Rattle.std.specs.Prelude.{if◌then◌else◌, ℕ, suc, ◌+◌, ◌^◌, ◌≤◌, ◌<◌, ◌≡◌, List, [], ◌∷◌, ◌++◌, Bool, false, not, length, eqb, ltb}
+use Rattle.std.specs.Prelude.{if◌then◌else◌, ℕ, suc, ◌+◌, ◌^◌, ◌≤◌, ◌<◌, ◌≡◌, List, [], ◌∷◌, ◌++◌, Bool, false, not, length, eqb, ltb, Option, Some, None, Ok, Err}
 use Rattle.std.proofs.Math.Path.{refl, sym}
 use Rattle.std.proofs.Common.{◌∙◌, arith, length-append, ltb-true}
 use Rattle.std.proofs.Math.Bool.{true}
@@ -9,7 +9,6 @@ use Rattle.window.specs.Name.{is_name, name_at}
 use Rattle.window.specs.Small.{run-bytes}
 use Rattle.layout.specs.Header.{import_named_symbol_table_offset, import_named_symbol_num, import_named_symbol_entry_size, next_cro, previous_cro}
 use Rattle.layout.specs.Segments.{field, set_field, entry_at}
-use Rattle.register.specs.declared.words.Crs.TheVariants.{Known}
 use Rattle.register.specs.Module.{Module, Register, proper}
 use Rattle.register.specs.Encode.{encode_words, crs_base}
 use Rattle.register.specs.Proper.{proper-parts}
@@ -18,18 +17,16 @@ use Rattle.register.specs.Change.{appended, removed, without, with_crs}
 use Rattle.register.specs.Buffers.{Below, names_are}
 use Rattle.register.specs.Append.Stands.{encoded_small}
 use Rattle.register.specs.Read.Read.{lookup_in}
-use Rattle.register.specs.declared.read.Symbol.{Symbol}
-use Rattle.register.specs.declared.read.Symbol.TheVariants.{At, Nothing}
 use Rattle.register.specs.Change.Kept.{names_more}
 use Rattle.linker_spec.specs.declared.rebase.LoadArguments.{LoadArguments}
-use Rattle.linker_spec.specs.declared.rebase.Rebased.{Rebased}
+use Rattle.linker_spec.specs.Refusal.{Rebased}
 use Rattle.linker_spec.specs.Relocation.{reset_external_relocations}
 use Rattle.linker_spec.specs.Exports.{read_module}
 use Rattle.linker_spec.specs.Imports.{is_unresolved, most_missing, add_missing, import_named, apply_import_named_symbols, apply_module_imports, apply_exports_to_loaded}
 use Rattle.linker_spec.specs.Resets.{reset_importers}
 use Rattle.linker_spec.specs.Fix.{fix}
 use Rattle.linker_spec.specs.Unrebase.{unrebase}
-use Rattle.linker_spec.specs.Calls.{Answer, NotACro, BadSegment, BadWindow, NoRegister, NoRoom, NotLoaded, Done, rebase, rebase_static, fits, add_record, initialized, initialize, listed, missing_now, linked, load, FirstWithBase, unknown, stands, first_with_base, unlisted, leave, unload}
+use Rattle.linker_spec.specs.Calls.{Answer, NotLoaded, Done, rebase, rebase_static, fits, add_record, initialized, initialize, listed, missing_now, linked, load, FirstWithBase, unknown, stands, first_with_base, unlisted, leave, unload, Refused}
 use Rattle.linker_spec.specs.Outcome.{Buffers, register_after, outcome_of, refusal_order, call_outcome, initialize_outcome, load_outcome, unload_outcome}
 use Rattle.linker_spec.specs.Refusals.{lent_register}
 use Rattle.linker_spec.specs.AnyResult.{Yields, yields_ret, yields_bind, yields_then, yields_if, yields_loop}
@@ -38,11 +35,13 @@ use Rattle.linker_spec.specs.Removed.{removed-stored}
 use Rattle.linker_spec.specs.Reads.{Is32Bit, Readable}
 use Rattle.linker_spec.proofs.Recorded.{read_module_yields, name_yields}
 use Rattle.linker_spec.specs.Valid.{AreBytes, LeavesRegister, MissingNames, Valid, ValidAfter}
+use Rattle.linker_spec.specs.declared.refusal.Refusal.TheVariants.{NotACro, BadSegment, NoRoom}
+use Rattle.linker_spec.specs.declared.refusal.RebaseError.{RebaseError}
 
-noted-names : (s : Symbol) (name : List ℕ) (ns : List (List ℕ)) → is_name name ≡ true → MissingNames ns → MissingNames (add_missing s name ns)
+noted-names : (s : Option ℕ) (name : List ℕ) (ns : List (List ℕ)) → is_name name ≡ true → MissingNames ns → MissingNames (add_missing s name ns)
 unfolding add_missing
-noted-names (At a) name ns g h = h
-noted-names Nothing name ns g h = go (ltb (length ns) most_missing) refl
+noted-names (Some a) name ns g h = h
+noted-names None name ns g h = go (ltb (length ns) most_missing) refl
   where
     go : (t : Bool) → ltb (length ns) most_missing ≡ t → MissingNames (if t then ns ++ (name ∷ []) else ns)
     go true e =
@@ -79,12 +78,12 @@ module _ (at records names : ℕ) (r : Register) (p : proper r ≡ true) (s : Be
       → ((m : Module) → Readable at m → Fits records names r m → Yields at L (next m)) → (x : Rebased)
       → Yields at L (add_record records names r base size auto next x)
   unfolding add_record
-  enter_yields base size auto next hb hs h Rebased.NotACro = yields_ret at L NotACro tt
-  enter_yields base size auto next hb hs h Rebased.BadSegment = yields_ret at L BadSegment tt
-  enter_yields base size auto next hb hs h Rebased.Done =
+  enter_yields base size auto next hb hs h (Err RebaseError.NotACro) = yields_ret at L (Refused NotACro) tt
+  enter_yields base size auto next hb hs h (Err RebaseError.BadSegment) = yields_ret at L (Refused BadSegment) tt
+  enter_yields base size auto next hb hs h (Ok _) =
       yields_then at L (reset_external_relocations base) _
       (λ _. yields_bind at (Readable at) L (read_module base size auto) _ (read_module_yields at base size auto hb hs)
-      (λ m k. yields_if at L (fits records names r m) _ _ (λ f. h m k (fits_means records names r m f)) (λ _. yields_ret at L NoRoom tt)))
+      (λ m k. yields_if at L (fits records names r m) _ _ (λ f. h m k (fits_means records names r m f)) (λ _. yields_ret at L (Refused NoRoom) tt)))
 
   initialize_yields : (base size : ℕ) → Is32Bit base → Is32Bit size → Yields at L (initialize base size records names r)
   unfolding initialize initialized with_crs appended crs_base
@@ -95,7 +94,7 @@ module _ (at records names : ℕ) (r : Register) (p : proper r ≡ true) (s : Be
       (λ m k f. yields_then at L (set_field base next_cro 0) _
       (λ _. yields_then at L (set_field base previous_cro 0) _
       (λ _. yields_ret at L (Done 0 (with_crs (appended r m) base))
-      (with-stored records names r m p s f k.0 k.1 (Known base) r.missing hb a.few a.kept)))))
+      (with-stored records names r m p s f k.0 k.1 (Some base) r.missing hb a.few a.kept)))))
 
   crs-small : crs_base r.crs < 2 ^ 32
   unfolding encode_words
@@ -153,11 +152,7 @@ module _ (b : Buffers) (v : Valid b) (t : AreBytes b) where
       : (a : Answer) (w : List ℕ) → Below 256 w → length w ≡ length b.window → M a
       → ValidAfter b v t (register_after b w a)
   unfolding register_after
-  after NotACro w h e l = (v, (h, t.1), (e, refl, refl, refl))
-  after BadSegment w h e l = (v, (h, t.1), (e, refl, refl, refl))
-  after BadWindow w h e l = (v, (h, t.1), (e, refl, refl, refl))
-  after NoRegister w h e l = (v, (h, t.1), (e, refl, refl, refl))
-  after NoRoom w h e l = (v, (h, t.1), (e, refl, refl, refl))
+  after (Refused refusal) w h e l = (v, (h, t.1), (e, refl, refl, refl))
   after NotLoaded w h e l = (v, (h, t.1), (e, refl, refl, refl))
   after (Done x r) w h e l =
       let m = (names_are b.records b.names b.missing lent (register-parts b.records b.names b.missing v).1).2 in

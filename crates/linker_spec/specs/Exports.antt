@@ -1,23 +1,20 @@
 -- What a module exports, as its record keeps it.
-use Rattle.std.specs.Prelude.{ℕ, List, [], ◌∷◌, ◌++◌, Bool, take}
+use Rattle.std.specs.Prelude.{ℕ, List, [], ◌∷◌, ◌++◌, Bool, take, Option, Some, None}
 use Rattle.window.specs.Memory.{◌⊕◌}
 use Rattle.window.specs.Access.{Prog, ret, ◌>>=◌, get32, Reads, reads_bind}
 use Rattle.window.specs.Loop.{loop, loop_reads}
 use Rattle.window.specs.Name.{name_at, name_at_reads}
 use Rattle.layout.specs.Header.{export_named_symbol_table_offset, export_named_symbol_num, export_named_symbol_entry_size, export_indexed_symbol_table_offset, export_indexed_symbol_num, export_indexed_symbol_entry_size, segment_num, module_name_offset}
 use Rattle.layout.specs.Segments.{field, entry_at, segment, segment_reads, tag_to_address, tag_to_address_reads}
-use Rattle.layout.specs.declared.segments.FoundSegment.{FoundSegment}
-use Rattle.layout.specs.declared.segments.FoundSegment.TheVariants.{Found, Missing}
-use Rattle.layout.specs.declared.segments.Address.{Address}
-use Rattle.layout.specs.declared.segments.Address.TheVariants.{At, Nowhere}
 use Rattle.register.specs.Module.{Export, Module}
 use Rattle.register.specs.Change.{put_named}
 use Rattle.linker_spec.specs.Relocation.{address_or0}
+use Rattle.layout.specs.declared.format.Segment.{Segment}
 
 -- "A later export of the same name replaces an earlier one; an unusable tag replaces nothing."
-unfoldable pub put_usable : List Export → List ℕ → Address → List Export
-put_usable xs name (At a) = put_named xs name a
-put_usable xs name Nowhere = xs
+unfoldable pub put_usable : List Export → List ℕ → Option ℕ → List Export
+put_usable xs name (Some a) = put_named xs name a
+put_usable xs name None = xs
 
 unfoldable pub named_export : ℕ → ℕ → List Export → Prog (List Export)
 named_export base entry xs = do
@@ -46,9 +43,9 @@ indexed_exports base = do
   count ← field base export_indexed_symbol_num
   loop (λ i xs. indexed_export base (entry_at table i export_indexed_symbol_entry_size) xs) 0 count []
 
-abbrev pub offset_or0 : FoundSegment → ℕ
-offset_or0 (Found s) = s.offset
-offset_or0 Missing = 0
+abbrev pub offset_or0 : Option Segment → ℕ
+offset_or0 (Some s) = s.offset
+offset_or0 None = 0
 
 -- "segments (at most 16, all a tag can reach)": all are read, the first 16 are kept
 abbrev pub most_segments : ℕ

@@ -1,4 +1,6 @@
 -- Number 5's rule: when a record fits, and what counts.
+use Rattle.std.specs.declared.cmp.Ordering.{Ordering}
+use Rattle.std.specs.declared.cmp.Ordering.TheVariants.{Less, Equal, Greater}
 use Prim.Native.Nat.{ℕ, zero, suc, ◌+◌, ◌*◌, ◌≤◌}
 use Rattle.std.specs.Prelude.{◌≡◌, List, [], ◌∷◌, true, false, ◌&&◌, ltb}
 use Rattle.std.proofs.Math.Path.{refl, sym, ap}
@@ -9,8 +11,6 @@ use Rattle.std.proofs.Math.ListN.{length, length-append}
 use Rattle.std.proofs.Math.Dec.{eqb, leb}
 use borrow.Author.Tests.{lt-ltb, le-leb, lt-leb, ne_eqb}
 use Rattle.window.specs.Name.{order_of}
-use Rattle.window.specs.declared.name.NameOrder.{NameOrder}
-use Rattle.window.specs.declared.name.NameOrder.TheVariants.{Before, Same, After}
 use Rattle.window.specs.Tests.{also}
 use Rattle.register.specs.Module.{Export, Module, Register}
 use Rattle.register.specs.Encode.{export_names, module_names, module_words, record_words, record_names, encode_words}
@@ -77,15 +77,15 @@ unfolding put_named by_order export_names
 put_grows [] name a = (omega arith, omega arith)
 put_grows (x ∷ xs) name a = go (order_of name x.name) (put_grows xs name a)
   where
-    put : NameOrder → List Export
+    put : Ordering → List Export
     put o = by_order o (record { name = name; address = a } ∷ x ∷ xs) (record { name = x.name; address = a } ∷ xs) (x ∷ put_named xs name a)
 
     go
-        : (o : NameOrder) → (length xs ≤ length (put_named xs name a)) × (length (export_names xs) ≤ length (export_names (put_named xs name a)))
+        : (o : Ordering) → (length xs ≤ length (put_named xs name a)) × (length (export_names xs) ≤ length (export_names (put_named xs name a)))
         → (suc (length xs) ≤ length (put o)) × (length (export_names (x ∷ xs)) ≤ length (export_names (put o)))
-    go Before h = let k = length-append name (export_names (x ∷ xs)) in (omega arith, omega arith)
-    go Same h = (omega arith, omega arith)
-    go After h =
+    go Less h = let k = length-append name (export_names (x ∷ xs)) in (omega arith, omega arith)
+    go Equal h = (omega arith, omega arith)
+    go Greater h =
         let k = length-append x.name (export_names xs) in
         let l = length-append x.name (export_names (put_named xs name a)) in
         (omega (arith, h.0), omega (arith, h.1))

@@ -1,6 +1,5 @@
 -- Imports of a new module, and the imports of the others that it serves.
-use Rattle.std.specs.Prelude.{if◌then◌else◌, ℕ, List, [], ◌∷◌, ◌++◌, Bool, true, false, length, eqb, ltb}
-use Rattle.std.proofs.Math.Option.{Option, some, none}
+use Rattle.std.specs.Prelude.{if◌then◌else◌, ℕ, List, [], ◌∷◌, ◌++◌, Bool, true, false, length, eqb, ltb, Option, Some, None}
 use Rattle.window.specs.Memory.{◌⊕◌}
 use Rattle.window.specs.Access.{Prog, ret, ◌>>=◌, ◌>>◌, get32}
 use Rattle.window.specs.Loop.{loop}
@@ -11,16 +10,14 @@ use Rattle.layout.specs.Segments.{field, entry_at}
 use Rattle.register.specs.Words.{same}
 use Rattle.register.specs.Module.{Module}
 use Rattle.register.specs.Read.Read.{lookup_in, export_of, entry_of}
-use Rattle.register.specs.declared.read.Symbol.{Symbol}
-use Rattle.register.specs.declared.read.Symbol.TheVariants.{At, Nothing}
 use Rattle.linker_spec.specs.Relocation.{apply_relocation_batch, batch_is_resolved}
 
 -- "An anonymous export exists if its segment does, and is that segment's address + offset, size untested."
-abbrev pub plus : Symbol → ℕ → Symbol
-plus (At a) offset = At (a ⊕ offset)
-plus Nothing offset = Nothing
+abbrev pub plus : Option ℕ → ℕ → Option ℕ
+plus (Some a) offset = Some (a ⊕ offset)
+plus None offset = None
 
-unfoldable pub anonymous_of : Module → ℕ → Symbol
+unfoldable pub anonymous_of : Module → ℕ → Option ℕ
 anonymous_of m tag = plus (entry_of m.segments (tag_segment tag)) (tag_offset tag)
 
 -- a batch of 0, or a resolved one, is passed over; a batch of 0 has no mark to read
@@ -30,17 +27,17 @@ is_unresolved batch = if eqb batch 0 then ret false else (do
   ret (if resolved then false else true))
 
 -- the batch gets the symbol's address and is marked; with no such symbol it stays
-unfoldable pub resolve : ℕ → ℕ → Symbol → Prog (Unit {0})
-resolve base batch (At a) = apply_relocation_batch base batch a true >> ret tt
-resolve base batch Nothing = ret tt
+unfoldable pub resolve : ℕ → ℕ → Option ℕ → Prog (Unit {0})
+resolve base batch (Some a) = apply_relocation_batch base batch a true >> ret tt
+resolve base batch None = ret tt
 
 -- "Missing names stop at 64 and are never cleared."
 abbrev pub most_missing : ℕ
 most_missing = 64
 
-unfoldable pub add_missing : Symbol → List ℕ → List (List ℕ) → List (List ℕ)
-add_missing (At a) name missing = missing
-add_missing Nothing name missing = if ltb (length missing) most_missing then missing ++ (name ∷ []) else missing
+unfoldable pub add_missing : Option ℕ → List ℕ → List (List ℕ) → List (List ℕ)
+add_missing (Some a) name missing = missing
+add_missing None name missing = if ltb (length missing) most_missing then missing ++ (name ∷ []) else missing
 
 -- a named import of the new module: the batch, its mark, then the name
 unfoldable pub import_named : List Module → ℕ → ℕ → List (List ℕ) → Prog (List (List ℕ))
@@ -60,7 +57,7 @@ apply_import_named_symbols ms base missing = do
   loop (λ i xs. import_named ms base (entry_at table i import_named_symbol_entry_size) xs) 0 count missing
 
 -- an import by index or by tag, from the module that its entry names
-unfoldable pub import_from : (ℕ → Symbol) → ℕ → ℕ → Prog (Unit {0})
+unfoldable pub import_from : (ℕ → Option ℕ) → ℕ → ℕ → Prog (Unit {0})
 import_from symbol base entry = do
   x ← get32 entry
   batch ← get32 (entry ⊕ 4)
@@ -68,8 +65,8 @@ import_from symbol base entry = do
   if unresolved then resolve base batch (symbol x) else ret tt
 
 unfoldable pub link_from : Option Module → (base indexed n anonymous m : ℕ) → Prog (Unit {0})
-link_from none base indexed n anonymous m = ret tt
-link_from (some source) base indexed n anonymous m = do
+link_from None base indexed n anonymous m = ret tt
+link_from (Some source) base indexed n anonymous m = do
   loop (λ i _. import_from (entry_of source.indexed) base (entry_at indexed i import_indexed_symbol_entry_size)) 0 n tt
   loop (λ i _. import_from (anonymous_of source) base (entry_at anonymous i import_anonymous_symbol_entry_size)) 0 m tt
 
@@ -84,8 +81,8 @@ imports_of source base entry = do
 
 -- the first module of that name, auto-linked or not
 unfoldable pub module_by_name : List Module → List ℕ → Option Module
-module_by_name [] name = none
-module_by_name (m ∷ ms) name = if same name m.name then some m else module_by_name ms name
+module_by_name [] name = None
+module_by_name (m ∷ ms) name = if same name m.name then Some m else module_by_name ms name
 
 -- the tables are read even if no module has the name
 unfoldable pub import_module : List Module → ℕ → ℕ → Prog (Unit {0})
@@ -115,7 +112,7 @@ unfoldable pub serve_module : Module → ℕ → ℕ → Prog (Unit {0})
 serve_module new base entry = do
   p ← get32 entry
   name ← name_at p
-  if same name new.name then imports_of (some new) base entry else ret tt
+  if same name new.name then imports_of (Some new) base entry else ret tt
 
 unfoldable pub serve : Module → ℕ → Prog (Unit {0})
 serve new base = do

@@ -1,4 +1,5 @@
 -- The steps of cro/mod.rs as programs of accesses, in the order of its reads and writes, a file a step.
+pub mod Refusal
 pub mod Rebase
 pub mod Relocation
 pub mod Exports

@@ -6,7 +6,10 @@ use Rattle.register.specs.Module.{Register}
 use Rattle.register.specs.Decode.{register_of, is_register}
 use Rattle.register.specs.Buffers.{encode_records, encode_names, encode_missing}
 use Rattle.linker_spec.specs.declared.rebase.LoadArguments.{LoadArguments}
-use Rattle.linker_spec.specs.Calls.{Answer, NotACro, BadSegment, BadWindow, NoRegister, NoRoom, NotLoaded, Done, number, value, initialize, load, unload}
+use Rattle.linker_spec.specs.Calls.{Answer, NotLoaded, Done, number, value, initialize, load, unload, Refused}
+use Rattle.linker_spec.specs.declared.refusal.Refusal.{Refusal}
+use Rattle.linker_spec.specs.declared.refusal.Refusal.TheVariants.{BadWindow, NoRegister}
+use Rattle.linker_spec.specs.Refusal.{refusal_number}
 
 -- what is lent: the window's bytes, the register's records and names, the missing list
 pub record Buffers : Type 0 where
@@ -32,16 +35,12 @@ abbrev pub load_arguments : (base size dataSegment dataSegmentSize bssSegment bs
 load_arguments base size dataSegment dataSegmentSize bssSegment bssSegmentSize =
     record { base = base; size = size; data_segment = dataSegment; data_segment_size = dataSegmentSize; bss_segment = bssSegment; bss_segment_size = bssSegmentSize }
 
-abbrev pub refused : Answer → Buffers → Outcome
-refused a b = record { number = number a; value = value a; left = b }
+abbrev pub refused : Refusal → Buffers → Outcome
+refused refusal b = record { number = refusal_number refusal; value = 0; left = b }
 
 -- "The register, missing list included, is unchanged by 1 to 5."
 unfoldable pub register_after : Buffers → List ℕ → Answer → Buffers
-register_after b w NotACro = record { window = w; records = b.records; names = b.names; missing = b.missing }
-register_after b w BadSegment = record { window = w; records = b.records; names = b.names; missing = b.missing }
-register_after b w BadWindow = record { window = w; records = b.records; names = b.names; missing = b.missing }
-register_after b w NoRegister = record { window = w; records = b.records; names = b.names; missing = b.missing }
-register_after b w NoRoom = record { window = w; records = b.records; names = b.names; missing = b.missing }
+register_after b w (Refused refusal) = record { window = w; records = b.records; names = b.names; missing = b.missing }
 register_after b w NotLoaded = record { window = w; records = b.records; names = b.names; missing = b.missing }
 register_after b w (Done v r) =
     record {

@@ -1,5 +1,5 @@
 -- Rebasing: every stored offset becomes an address, or an address an offset again.
-use Rattle.std.specs.Prelude.{if◌then◌else◌, ℕ, ◌+◌, ◌*◌, List, [], ◌∷◌, Bool, true, false, ◌||◌, take, eqb, ltb}
+use Rattle.std.specs.Prelude.{if◌then◌else◌, ℕ, ◌+◌, ◌*◌, List, [], ◌∷◌, Bool, true, false, ◌||◌, take, eqb, ltb, Option, Some, None}
 use Rattle.window.specs.Memory.{◌⊕◌, ◌⊖◌}
 use Rattle.window.specs.Access.{Prog, ret, ◌>>=◌, ◌>>◌, get32, put32}
 use Rattle.window.specs.Loop.{loop}
@@ -8,14 +8,8 @@ use Rattle.layout.specs.Segments.{field, entry_at, segment, set_segment}
 use Rattle.layout.specs.declared.format.Segment.{Segment}
 use Rattle.layout.specs.declared.format.SegmentType.{SegmentType}
 use Rattle.layout.specs.declared.format.SegmentType.TheVariants.{Code, RoData, Data, Bss}
-use Rattle.layout.specs.declared.segments.FoundSegment.{FoundSegment}
-use Rattle.layout.specs.declared.segments.FoundSegment.TheVariants.{Found, Missing}
 use Rattle.layout.specs.declared.tables.PointerTable.{PointerTable}
 use Rattle.linker_spec.specs.declared.rebase.LoadArguments.{LoadArguments}
-use Rattle.linker_spec.specs.declared.rebase.Placed.{Placed}
-use Rattle.linker_spec.specs.declared.rebase.Placed.TheVariants.{Refused, Put}
-use Rattle.linker_spec.specs.declared.rebase.Moved.{Moved}
-use Rattle.linker_spec.specs.declared.rebase.Moved.TheVariants.{Bad, OldPlace}
 
 -- "magic not CRO0 or CRS0": the four bytes, lowest first
 unfoldable pub is_magic : ℕ → Bool
@@ -42,17 +36,17 @@ abbrev pub at_offset : Segment → ℕ → Segment
 at_offset s x = record { offset = x; size = s.size; kind = s.kind }
 
 -- "Data or Bss of size above 0 takes the lent address; a size above the lent size is refused, equal passes."
-unfoldable pub lent_place : Segment → (address size old : ℕ) → Placed
-lent_place s address size old = if ltb size s.size then Refused else Put (at_offset s address) old
+unfoldable pub lent_place : Segment → (address size old : ℕ) → Option (Segment × ℕ)
+lent_place s address size old = if ltb size s.size then None else Some (at_offset s address, old)
 
 -- "Other segments with offset above 0 move by the base; a moved offset above base + size is refused, equal passes."
-unfoldable pub moved_place : LoadArguments → Segment → ℕ → Placed
+unfoldable pub moved_place : LoadArguments → Segment → ℕ → Option (Segment × ℕ)
 moved_place l s old =
-    if eqb s.offset 0 then Put s old
-    else (if ltb (l.base ⊕ l.size) (s.offset ⊕ l.base) then Refused else Put (at_offset s (s.offset ⊕ l.base)) old)
+    if eqb s.offset 0 then Some (s, old)
+    else (if ltb (l.base ⊕ l.size) (s.offset ⊕ l.base) then None else Some (at_offset s (s.offset ⊕ l.base), old))
 
 -- Data's old place is where its bytes still stand in the image
-unfoldable pub place : LoadArguments → Segment → SegmentType → ℕ → Placed
+unfoldable pub place : LoadArguments → Segment → SegmentType → ℕ → Option (Segment × ℕ)
 place l s Code old = moved_place l s old
 place l s RoData old = moved_place l s old
 place l s Data old = if eqb s.size 0 then moved_place l s old else lent_place s l.data_segment l.data_segment_size (s.offset ⊕ l.base)
@@ -60,27 +54,27 @@ place l s Bss old = if eqb s.size 0 then moved_place l s old else lent_place s l
 
 -- the segments of a load, in order, up to the first that is refused
 
-unfoldable pub write_back : ℕ → ℕ → Placed → Prog Moved
-write_back base i Refused = ret Bad
-write_back base i (Put s old) = do
+unfoldable pub write_back : ℕ → ℕ → Option (Segment × ℕ) → Prog (Option ℕ)
+write_back base i None = ret None
+write_back base i (Some (s, old)) = do
   set_segment base i s
-  ret (OldPlace old)
+  ret (Some old)
 
 -- a lookup that finds no segment, the count having changed meanwhile, passes the turn over
-unfoldable pub move_found : LoadArguments → ℕ → ℕ → FoundSegment → Prog Moved
-move_found l i old Missing = ret (OldPlace old)
-move_found l i old (Found s) = write_back l.base i (place l s s.kind old)
+unfoldable pub move_found : LoadArguments → ℕ → ℕ → Option Segment → Prog (Option ℕ)
+move_found l i old None = ret (Some old)
+move_found l i old (Some s) = write_back l.base i (place l s s.kind old)
 
-unfoldable pub move_segment : LoadArguments → ℕ → Moved → Prog Moved
-move_segment l i Bad = ret Bad
-move_segment l i (OldPlace old) = do
+unfoldable pub move_segment : LoadArguments → ℕ → Option ℕ → Prog (Option ℕ)
+move_segment l i None = ret None
+move_segment l i (Some old) = do
   s ← segment l.base i
   move_found l i old s
 
-unfoldable pub move_segments : LoadArguments → Prog Moved
+unfoldable pub move_segments : LoadArguments → Prog (Option ℕ)
 move_segments l = do
   count ← field l.base segment_num
-  loop (move_segment l) 0 count (OldPlace 0)
+  loop (move_segment l) 0 count (Some 0)
 
 -- "`initialize` neither changes nor checks segments": it looks each of them up
 unfoldable pub look_at_segments : ℕ → Prog (Unit {0})

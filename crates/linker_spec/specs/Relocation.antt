@@ -1,5 +1,5 @@
 -- Relocation: internal relocations, the reset of external ones, and the batch walk.
-use Rattle.std.specs.Prelude.{if◌then◌else◌, ℕ, zero, suc, Bool, true, false, eqb, ltb}
+use Rattle.std.specs.Prelude.{if◌then◌else◌, ℕ, zero, suc, Bool, true, false, eqb, ltb, Option, Some, None, unwrap_or}
 use Rattle.window.specs.Memory.{◌⊕◌}
 use Rattle.window.specs.Access.{Prog, ret, ◌>>=◌, ◌>>◌, get8, get32, put8}
 use Rattle.window.specs.Loop.{loop}
@@ -9,10 +9,7 @@ use Rattle.layout.specs.Segments.{field, entry_at, segment, tag_to_address}
 use Rattle.layout.specs.Relocation.Relocation.{apply_relocation}
 use Rattle.layout.specs.declared.format.SegmentType.{SegmentType}
 use Rattle.layout.specs.declared.format.SegmentType.TheVariants.{Code, RoData, Data, Bss}
-use Rattle.layout.specs.declared.segments.FoundSegment.{FoundSegment}
-use Rattle.layout.specs.declared.segments.FoundSegment.TheVariants.{Found, Missing}
-use Rattle.layout.specs.declared.segments.Address.{Address}
-use Rattle.layout.specs.declared.segments.Address.TheVariants.{At, Nowhere}
+use Rattle.layout.specs.declared.format.Segment.{Segment}
 
 -- "Internal relocations into Data write at the old place, with the final place subtracted for kind 3."
 unfoldable pub write_place : SegmentType → (old offset final : ℕ) → ℕ
@@ -22,14 +19,14 @@ write_place RoData old offset final = final
 write_place Bss old offset final = final
 
 -- the symbol is the start of the symbol segment; none: nothing is written
-unfoldable pub relocate_from : FoundSegment → (target kind addend final : ℕ) → Prog (Unit {0})
-relocate_from Missing target kind addend final = ret tt
-relocate_from (Found s) target kind addend final = apply_relocation target (relocation_type kind) addend s.offset final
+unfoldable pub relocate_from : Option Segment → (target kind addend final : ℕ) → Prog (Unit {0})
+relocate_from None target kind addend final = ret tt
+relocate_from (Some s) target kind addend final = apply_relocation target (relocation_type kind) addend s.offset final
 
 -- the target segment first, then the offset's test, then the symbol segment
-unfoldable pub relocate_into : (base old : ℕ) → FoundSegment → (tag kind symbol addend : ℕ) → Prog (Unit {0})
-relocate_into base old Missing tag kind symbol addend = ret tt
-relocate_into base old (Found s) tag kind symbol addend =
+unfoldable pub relocate_into : (base old : ℕ) → Option Segment → (tag kind symbol addend : ℕ) → Prog (Unit {0})
+relocate_into base old None tag kind symbol addend = ret tt
+relocate_into base old (Some s) tag kind symbol addend =
     if ltb (tag_offset tag) s.size then (do
       from ← segment base symbol
       relocate_from from (write_place s.kind old (tag_offset tag) (s.offset ⊕ tag_offset tag)) kind addend (s.offset ⊕ tag_offset tag))
@@ -50,9 +47,8 @@ apply_internal_relocations base old = do
   count ← field base internal_relocation_num
   loop (λ i _. apply_internal_relocation base old (entry_at table i relocation_entry_size)) 0 count tt
 
-abbrev pub address_or0 : Address → ℕ
-address_or0 (At a) = a
-address_or0 Nowhere = 0
+abbrev pub address_or0 : Option ℕ → ℕ
+address_or0 a = unwrap_or a 0
 
 -- the module's handler for imports that nothing provides, 0 where its tag is unusable
 unfoldable pub unresolved_symbol : ℕ → Prog ℕ
@@ -62,9 +58,9 @@ unresolved_symbol base = do
   ret (address_or0 a)
 
 -- an external relocation at a usable address; kind 3 subtracts the place written
-unfoldable pub relocate_at : Address → (kind addend symbol : ℕ) → Prog (Unit {0})
-relocate_at (At target) kind addend symbol = apply_relocation target (relocation_type kind) addend symbol target
-relocate_at Nowhere kind addend symbol = ret tt
+unfoldable pub relocate_at : Option ℕ → (kind addend symbol : ℕ) → Prog (Unit {0})
+relocate_at (Some target) kind addend symbol = apply_relocation target (relocation_type kind) addend symbol target
+relocate_at None kind addend symbol = ret tt
 
 -- "`initialize` and `load` set external relocations to the handler only if its address is not 0; marks are always cleared."
 unfoldable pub reset_entry : (base handler entry : ℕ) → Prog (Unit {0})

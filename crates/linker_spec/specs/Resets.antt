@@ -1,5 +1,5 @@
 -- The resets of an unload: what linked against the module goes back to its own handler.
-use Rattle.std.specs.Prelude.{if◌then◌else◌, ℕ, List, [], ◌∷◌, Bool, true, false, eqb}
+use Rattle.std.specs.Prelude.{if◌then◌else◌, ℕ, List, [], ◌∷◌, Bool, true, false, eqb, Option, Some, None}
 use Rattle.window.specs.Memory.{◌⊕◌}
 use Rattle.window.specs.Access.{Prog, ret, ◌>>=◌, ◌>>◌, get32}
 use Rattle.window.specs.Loop.{loop}
@@ -9,8 +9,6 @@ use Rattle.layout.specs.Segments.{field, entry_at}
 use Rattle.register.specs.Words.{same}
 use Rattle.register.specs.Module.{Module}
 use Rattle.register.specs.Read.Read.{export_of}
-use Rattle.register.specs.declared.read.Symbol.{Symbol}
-use Rattle.register.specs.declared.read.Symbol.TheVariants.{At, Nothing}
 use Rattle.linker_spec.specs.Relocation.{unresolved_symbol, apply_relocation_batch, batch_is_resolved}
 
 -- "Unload's resets write it even if 0": a resolved batch gets the handler's address, and its mark is cleared
@@ -24,9 +22,9 @@ reset_at base handler entry = do
   batch ← get32 (entry ⊕ 4)
   reset base handler batch
 
-abbrev pub exists : Symbol → Bool
-exists (At a) = true
-exists Nothing = false
+abbrev pub exists : Option ℕ → Bool
+exists (Some a) = true
+exists None = false
 
 -- a named import that the module exported: the name first, its batch only then
 unfoldable pub reset_named : Module → (base handler entry : ℕ) → Prog (Unit {0})

@@ -1,6 +1,6 @@
 -- A module more, where it fits: the register with it is one that its bytes encode.
 use Prim.Native.Nat.{ℕ, zero, suc, ◌+◌, ◌-◌, ◌*◌, ◌^◌, ◌≤◌, ◌<◌}
-use Rattle.std.specs.Prelude.{◌≡◌, List, [], ◌∷◌, ◌++◌, Bool, true, false, ◌&&◌, replicate, ltb, leb}
+use Rattle.std.specs.Prelude.{◌≡◌, List, [], ◌∷◌, ◌++◌, Bool, true, false, ◌&&◌, replicate, ltb, leb, Option, Some, None}
 use Rattle.std.proofs.Common.{sym, ltb-true, leb-true}
 use Rattle.std.proofs.Math.Path.{ap, subst}
 use native.Mathlib.Omega.{arith}
@@ -8,8 +8,6 @@ use Rattle.std.proofs.Math.ListN.{length, length-append}
 use Rattle.window.specs.Bytes.{byte_of-small}
 use Rattle.window.specs.Tests.{both}
 use Rattle.register.specs.Words.{bytes_of, flat}
-use Rattle.register.specs.declared.words.Crs.{Crs}
-use Rattle.register.specs.declared.words.Crs.TheVariants.{Unknown, Known}
 use Rattle.register.specs.Module.{Export, Module, Register, proper, proper_module, proper_names}
 use Rattle.register.specs.Encode.{slots, export_words, export_names, module_names, module_words, flag, record_words, record_names, encode_words, crs_known, crs_base}
 use Rattle.register.specs.Decode.{is_register}
@@ -148,10 +146,10 @@ fits_means records names r m e =
       bytes = leb-true (length (record_names (appended r m).modules)) (room_in names) b.1;
     }
 
-crs_known-small : (c : Crs) → crs_known c < 2 ^ 32
+crs_known-small : (c : Option ℕ) → crs_known c < 2 ^ 32
 unfolding crs_known
-crs_known-small Unknown = omega arith
-crs_known-small (Known base) = omega arith
+crs_known-small None = omega arith
+crs_known-small (Some base) = omega arith
 
 -- a module more that fits, with another CRS and other missing names
 module _ (records names : ℕ) (r : Register) (m : Module) (p : proper r ≡ true) (s : Below (2 ^ 32) (encode_words r)) (f : Fits records names r m)
@@ -177,7 +175,7 @@ module _ (records names : ℕ) (r : Register) (m : Module) (p : proper r ≡ tru
       (module_small q m sm (omega (arith, names-with r.modules m, their_room.1, room_word names))
       (omega (arith, their_room.0, room_word records))))
 
-  module _ (c : Crs) (missing : List (List ℕ)) (hc : crs_base c < 2 ^ 32) where
+  module _ (c : Option ℕ) (missing : List (List ℕ)) (hc : crs_base c < 2 ^ 32) where
     abbrev pub with : Register
     with = record { modules = ms; crs = c; missing = missing }
 

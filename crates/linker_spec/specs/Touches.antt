@@ -1,6 +1,6 @@
 -- Touches of a call: whether one of its accesses had a byte outside the window, and where the first such access started.
 -- They are those of the very programs of accesses that give the call's outcome.
-use Rattle.std.specs.Prelude.{if◌then◌else◌, ℕ, ◌≡◌, refl, List, not, ◌&&◌, length, replicate, eqb}
+use Rattle.std.specs.Prelude.{if◌then◌else◌, ℕ, ◌≡◌, refl, List, not, ◌&&◌, length, replicate, eqb, Ok, Err}
 use Rattle.window.specs.Memory.{place, byte_at, word_at, good_window}
 use Rattle.window.specs.Access.{Prog, ret, ◌>>=◌, run}
 use Rattle.window.specs.Trace.{run_t, touch_of}
@@ -10,10 +10,12 @@ use Rattle.register.specs.Decode.{register_of, is_register}
 use Rattle.linker_spec.specs.declared.call.Call.{Call}
 use Rattle.linker_spec.specs.declared.call.Call.TheVariants.{Initialize, Load, Unload}
 use Rattle.linker_spec.specs.declared.rebase.LoadArguments.{LoadArguments}
-use Rattle.linker_spec.specs.declared.rebase.Rebased.{Rebased}
+use Rattle.linker_spec.specs.Refusal.{Rebased}
 use Rattle.linker_spec.specs.Relocation.{reset_external_relocations}
-use Rattle.linker_spec.specs.Calls.{Answer, NoRoom, number, rebase, rebase_static, initialize, load, unload}
+use Rattle.linker_spec.specs.Calls.{Answer, number, rebase, rebase_static, initialize, load, unload}
 use Rattle.linker_spec.specs.Outcome.{Buffers}
+use Rattle.linker_spec.specs.declared.refusal.Refusal.TheVariants.{NoRoom}
+use Rattle.linker_spec.specs.Refusal.{refusal_number}
 
 -- a trace of which nothing is said yet, and which keeps no log
 abbrev pub no_touch : List ℕ
@@ -33,16 +35,15 @@ touch_in at m w = touch_of (run_t at m (w, no_touch)).1.1
 
 -- "With number 5, accesses to the end of the external reset count."
 unfoldable pub reset_rebased : ℕ → Rebased → Prog (Unit {0})
-reset_rebased base Rebased.NotACro = ret tt
-reset_rebased base Rebased.BadSegment = ret tt
-reset_rebased base Rebased.Done = reset_external_relocations base
+reset_rebased base (Err error) = ret tt
+reset_rebased base (Ok _) = reset_external_relocations base
 
 unfoldable pub up_to_reset : Prog Rebased → ℕ → Prog (Unit {0})
 up_to_reset rebase base = rebase >>= reset_rebased base
 
 -- what counts with an answer, of what the call's beginning leaves and of what the whole call leaves
 unfoldable pub counted : {A : Type 0} → Answer → A → A → A
-counted a beginning whole = if eqb (number a) (number NoRoom) then beginning else whole
+counted a beginning whole = if eqb (number a) (refusal_number NoRoom) then beginning else whole
 
 -- with 3 and 4 no access is made
 unfoldable pub touches : (ℕ → ℕ → Register → Prog Answer) → Prog (Unit {0}) → ℕ → Buffers → ℕ × ℕ

@@ -1,5 +1,5 @@
 -- Unrebasing: an unloaded module gets its offsets back.
-use Rattle.std.specs.Prelude.{if◌then◌else◌, ℕ, eqb, false}
+use Rattle.std.specs.Prelude.{if◌then◌else◌, ℕ, eqb, false, Option, Some, None}
 use Rattle.window.specs.Memory.{◌⊖◌}
 use Rattle.window.specs.Access.{Prog, ret, ◌>>=◌, ◌>>◌}
 use Rattle.window.specs.Loop.{loop}
@@ -9,8 +9,6 @@ use Rattle.layout.specs.Segments.{field, set_field, segment, set_segment}
 use Rattle.layout.specs.declared.format.Segment.{Segment}
 use Rattle.layout.specs.declared.format.SegmentType.{SegmentType}
 use Rattle.layout.specs.declared.format.SegmentType.TheVariants.{Code, RoData, Data, Bss}
-use Rattle.layout.specs.declared.segments.FoundSegment.{FoundSegment}
-use Rattle.layout.specs.declared.segments.FoundSegment.TheVariants.{Found, Missing}
 use Rattle.linker_spec.specs.Rebase.{at_offset, move_header, move_tables}
 
 -- "A Data segment leaves as lent address − base, as in the Rust."
@@ -23,9 +21,9 @@ leaves_as base s RoData = at_offset s (offset_back base s.offset)
 leaves_as base s Data = at_offset s (offset_back base s.offset)
 leaves_as base s Bss = at_offset s 0
 
-unfoldable pub unmove_found : ℕ → ℕ → FoundSegment → Prog (Unit {0})
-unmove_found base i Missing = ret tt
-unmove_found base i (Found s) = set_segment base i (leaves_as base s s.kind)
+unfoldable pub unmove_found : ℕ → ℕ → Option Segment → Prog (Unit {0})
+unmove_found base i None = ret tt
+unmove_found base i (Some s) = set_segment base i (leaves_as base s s.kind)
 
 unfoldable pub unmove_segment : ℕ → ℕ → Prog (Unit {0})
 unmove_segment base i = do

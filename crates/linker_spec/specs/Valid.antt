@@ -4,7 +4,7 @@ use Rattle.std.proofs.Math.Bool.{true}
 use Rattle.register.specs.Module.{proper_names}
 use Rattle.register.specs.Decode.{is_register}
 use Rattle.register.specs.Buffers.{Below}
-use Rattle.linker_spec.specs.Calls.{Answer, NotACro, BadSegment, BadWindow, NoRegister, NoRoom, NotLoaded, Done}
+use Rattle.linker_spec.specs.Calls.{Answer, NotLoaded, Done, Refused}
 use Rattle.linker_spec.specs.Outcome.{Buffers}
 use Rattle.linker_spec.specs.Room.{Stored}
 
@@ -22,11 +22,7 @@ MissingNames ns = (length ns ≤ 64) × (proper_names ns ≡ true)
 
 -- an answer that leaves a register in buffers of such lengths
 abbrev pub LeavesRegister : ℕ → ℕ → Answer → Type 0
-LeavesRegister records names NotACro = Unit {0}
-LeavesRegister records names BadSegment = Unit {0}
-LeavesRegister records names BadWindow = Unit {0}
-LeavesRegister records names NoRegister = Unit {0}
-LeavesRegister records names NoRoom = Unit {0}
+LeavesRegister records names (Refused refusal) = Unit {0}
 LeavesRegister records names NotLoaded = Unit {0}
 LeavesRegister records names (Done v r) = Stored records names r
 

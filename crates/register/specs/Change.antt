@@ -5,11 +5,10 @@ pub mod Encoded
 pub mod Kept
 pub mod Remove
 pub mod Left
-use Rattle.std.specs.Prelude.{if◌then◌else◌, ℕ, zero, suc, ◌+◌, Bool, List, [], ◌∷◌, ◌++◌, length, nat_lt}
+use Rattle.std.specs.declared.cmp.Ordering.{Ordering}
+use Rattle.std.specs.declared.cmp.Ordering.TheVariants.{Less, Equal, Greater}
+use Rattle.std.specs.Prelude.{if◌then◌else◌, ℕ, zero, suc, ◌+◌, Bool, List, [], ◌∷◌, ◌++◌, length, nat_lt, Some}
 use Rattle.window.specs.Name.{order_of}
-use Rattle.window.specs.declared.name.NameOrder.{NameOrder}
-use Rattle.window.specs.declared.name.NameOrder.TheVariants.{Before, Same, After}
-use Rattle.register.specs.declared.words.Crs.TheVariants.{Known}
 use Rattle.register.specs.Module.{Export, Module, Register}
 
 -- a module with its name and nothing else yet
@@ -42,10 +41,10 @@ with_indexed m a =
     }
 
 -- one of three, as a name stands before another, is the same or stands after it
-unfoldable pub by_order : {A : Type 0} → NameOrder → (before same after : A) → A
-by_order Before b s a = b
-by_order Same b s a = s
-by_order After b s a = a
+unfoldable pub by_order : {A : Type 0} → Ordering → (before same after : A) → A
+by_order Less b s a = b
+by_order Equal b s a = s
+by_order Greater b s a = a
 
 -- "A later export of the same name replaces an earlier one"; a new one stands before the first whose name comes after its own (request 5)
 unfoldable pub put_named : List Export → List ℕ → ℕ → List Export
@@ -75,7 +74,7 @@ unfoldable pub removed : Register → ℕ → Register
 removed r k = record { modules = without r.modules k; crs = r.crs; missing = r.missing }
 
 unfoldable pub with_crs : Register → ℕ → Register
-with_crs r base = record { modules = r.modules; crs = Known base; missing = r.missing }
+with_crs r base = record { modules = r.modules; crs = Some base; missing = r.missing }
 
 -- "Missing names stop at 64"
 unfoldable pub with_missing : Register → List ℕ → Register

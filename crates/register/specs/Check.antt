@@ -1,22 +1,20 @@
 -- The test as the code makes it, record by record, and that it is `is_register`.
-use Rattle.std.specs.Prelude.{if◌then◌else◌, ℕ, zero, suc, ◌+◌, ◌-◌, ◌*◌, ◌/◌, ◌%◌, Bool, true, false, ◌&&◌, ◌||◌, List, length, take, drop, ◌==◌, nat_le, slice_index}
+use Rattle.std.specs.Prelude.{if◌then◌else◌, ℕ, zero, suc, ◌+◌, ◌-◌, ◌*◌, ◌/◌, ◌%◌, Bool, true, false, ◌&&◌, ◌||◌, List, length, take, drop, ◌==◌, nat_le, slice_index, Option, Some, None}
 use Rattle.window.specs.Name.{no_zero}
 use Rattle.register.specs.Words.{part, all_zero, words_in}
 use Rattle.register.specs.Module.{ascending}
 use Rattle.register.specs.Decode.{exports_in, module_size, slot_length, slot_name, settled}
-use Rattle.register.specs.declared.record.End.{End}
-use Rattle.register.specs.declared.record.End.TheVariants.{At, Bad}
 
 -- a name stands at q, the running sum of the lengths before it
 unfoldable pub name_ok : List ℕ → (q offset count : ℕ) → Bool
 name_ok names q offset count =
     (offset == q) && (nat_le count 512 && (nat_le (offset + count) (length names) && no_zero (part names offset count)))
 
-unfoldable pub exports_end : (count : ℕ) → List ℕ → List ℕ → (k q : ℕ) → End
-exports_end zero ws names k q = At q
+unfoldable pub exports_end : (count : ℕ) → List ℕ → List ℕ → (k q : ℕ) → Option ℕ
+exports_end zero ws names k q = Some q
 exports_end (suc n) ws names k q =
     if name_ok names q (slice_index ws (3 * k)) (slice_index ws (3 * k + 1)) then exports_end n ws names (k + 1) (q + slice_index ws (3 * k + 1))
-    else Bad
+    else None
 
 unfoldable pub fixed_ok : List ℕ → List ℕ → ℕ → Bool
 fixed_ok ws names q =
@@ -28,15 +26,15 @@ fixed_ok ws names q =
 unfoldable pub export_part : List ℕ → List ℕ
 export_part ws = part ws (8 + slice_index ws 5) (3 * slice_index ws 6)
 
-unfoldable pub module_end : List ℕ → List ℕ → ℕ → End
+unfoldable pub module_end : List ℕ → List ℕ → ℕ → Option ℕ
 module_end ws names q =
     if fixed_ok ws names q && ascending (exports_in (export_part ws) names)
     then exports_end (length (export_part ws) / 3) (export_part ws) names 0 (q + slice_index ws 4)
-    else Bad
+    else None
 
-abbrev pub after : End → (ℕ → Bool) → Bool
-after (At q) f = f q
-after Bad f = false
+abbrev pub after : Option ℕ → (ℕ → Bool) → Bool
+after (Some q) f = f q
+after None f = false
 
 unfoldable pub modules_ok : ℕ → List ℕ → List ℕ → ℕ → Bool
 modules_ok zero ws names q = length ws == 0 && q == length names

@@ -1,5 +1,5 @@
 -- An encoding passes the test and is read back: records and names, by induction over the abstract value.
-use Rattle.std.specs.Prelude.{◌≡◌, ℕ, ◌+◌, ◌*◌, ◌/◌, Bool, true, false, ◌&&◌, List, [], ◌∷◌, ◌++◌, length, drop, ◌==◌, nat_le, slice_index, slice_index_or}
+use Rattle.std.specs.Prelude.{◌≡◌, ℕ, ◌+◌, ◌*◌, ◌/◌, Bool, true, false, ◌&&◌, List, [], ◌∷◌, ◌++◌, length, drop, ◌==◌, nat_le, slice_index, slice_index_or, Some}
 use Rattle.std.proofs.Math.Path.{refl, ap}
 use Rattle.std.proofs.Common.{sym, ◌∙◌, get_or-append-add, eq-eqb, le-leb}
 use mathlib.Core.List.{append_assoc, append-nil}
@@ -14,7 +14,6 @@ use Rattle.register.specs.Module.{Export, Module, named_ok, ascending, proper_mo
 use Rattle.register.specs.Encode.{export_words, export_names, module_names, module_words, flag, record_words, record_names}
 use Rattle.register.specs.Decode.{export_at, exports_from, exports_in, module_size, read_module, read_modules}
 use Rattle.register.specs.Check.{name_ok, exports_end, fixed_ok, export_part, module_end, modules_ok}
-use Rattle.register.specs.declared.record.End.TheVariants.{At}
 
 pub length-export_words : (q : ℕ) (xs : List Export) → length (export_words q xs) ≡ 3 * length xs
 unfolding export_words
@@ -38,7 +37,7 @@ at-word before ys k j e = rw (← e) (get_or-append-add before ys j 0)
 
 -- exports in the middle of words, with their names in the middle of names
 pub record ExportsBack (ws names : List ℕ) (k q : ℕ) (xs : List Export) : Type 0 where
-  pub end : exports_end (length xs) ws names k q ≡ At (q + length (export_names xs))
+  pub end : exports_end (length xs) ws names k q ≡ Some (q + length (export_names xs))
   pub back : exports_from (length xs) ws names k ≡ xs
 
 pub exports_complete
@@ -78,13 +77,13 @@ exports_complete (x ∷ xs) ws names before behind pre post k q ew lb en lp h =
         record {
           end =
               rw (word₀, word₁, name-passes names x.name pre (export_names xs ++ post) q e lp a.0)
-              (i.end ∙ ap (λ t. At t) (omega arith));
+              (i.end ∙ ap (λ t. Some t) (omega arith));
           back = rw (i.back, word₀, word₁, word₂, p);
         }
 
 -- a record in front of words, with its names in the middle of names
 pub record Written (ws names : List ℕ) (q : ℕ) (m : Module) : Type 0 where
-  pub end : module_end ws names q ≡ At (q + length (module_names m))
+  pub end : module_end ws names q ≡ Some (q + length (module_names m))
   pub back : read_module ws names ≡ m
   pub size : module_size ws ≡ length (module_words q m)
 
@@ -192,13 +191,13 @@ module _ (m : Module) (rest names pre post : List ℕ) (q : ℕ) (en : names ≡
       (also (flag_small m.auto)
       (also proper-parts.1 (name-passes names m.name pre (export_names m.named ++ post) q own lp proper-parts.0))))
 
-  end_passes : module_end (ws m rest q) names q ≡ At (q + length (module_names m))
+  end_passes : module_end (ws m rest q) names q ≡ Some (q + length (module_names m))
   unfolding module_end module_names
   end_passes =
       let l : length (m.name ++ export_names m.named) ≡ length m.name + length (export_names m.named) =
       length-append m.name (export_names m.named) in
       rw (fixed_passes, exports_back, proper-parts.3, exports_part m rest q, count, name-word m rest q)
-      (listed.end ∙ ap (λ t. At t) (omega arith))
+      (listed.end ∙ ap (λ t. Some t) (omega arith))
 
   pub module_complete : Written (module_words q m ++ rest) names q m
   unfolding read_module module_words export_part

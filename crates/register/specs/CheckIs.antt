@@ -1,8 +1,7 @@
 -- The test as the code makes it is `is_register`; and what encodes a proper register is read back as that register.
-use Rattle.std.specs.Prelude.{if◌then◌else◌, ◌≡◌, ℕ, ◌+◌, ◌-◌, ◌*◌, ◌/◌, ◌%◌, ◌<◌, ◌≤◌, Bool, true, false, ◌&&◌, ◌||◌, leb, List, [], ◌++◌, length, take, drop, ◌==◌, nat_eq, nat_le, slice_index, slice_index_or, slice_set, refl}
+use Rattle.std.specs.Prelude.{if◌then◌else◌, ◌≡◌, ℕ, ◌+◌, ◌-◌, ◌*◌, ◌/◌, ◌%◌, ◌<◌, ◌≤◌, Bool, true, false, ◌&&◌, ◌||◌, leb, List, [], ◌++◌, length, take, drop, ◌==◌, nat_eq, nat_le, slice_index, slice_index_or, slice_set, refl, Option, Some, None}
 use Rattle.std.proofs.Math.Path.{sym, ap}
 use Rattle.std.proofs.Common.{◌∙◌, subst, length-set, take-append-drop, get_or-take, take_all, drop-set-lt}
-use Rattle.std.proofs.Math.Option.{some, none}
 use native.Mathlib.Omega.{arith}
 use Rattle.std.proofs.Math.Decide.{dec_le}
 use Rattle.std.proofs.Math.Seq.{length-take-le}
@@ -10,8 +9,6 @@ use borrow.Author.Tests.{eqb-true, leb-true, eq-eqb, le-leb}
 use Rattle.window.specs.Tests.{both, also, iff_same}
 use Rattle.register.specs.Words.{part, same, all_zero, holds, words_in, length-words, part-words}
 use Rattle.register.specs.Lists.{same_true, same_refl, length_part}
-use Rattle.register.specs.declared.words.Crs.{Crs}
-use Rattle.register.specs.declared.words.Crs.TheVariants.{Unknown, Known}
 use Rattle.register.specs.Module.{Module, Register, proper}
 use Rattle.register.specs.Proper.{Proper, proper-parts, parts-proper}
 use Rattle.register.specs.Encode.{record_words, record_names, crs_known, crs_base, encode_words, slots}
@@ -60,19 +57,19 @@ crs-words a b = go (a == 1) refl
   where
     go
         : (t : Bool) → (a == 1) ≡ t → (t || (a == 0 && b == 0)) ≡ true
-        → (crs_known (if t then Known b else Unknown) ≡ a) × (crs_base (if t then Known b else Unknown) ≡ b)
+        → (crs_known (if t then Some b else None) ≡ a) × (crs_base (if t then Some b else None) ≡ b)
     go true p e = (sym (eqb-true a 1 p), refl)
     go false p e = let f = both (a == 0) (b == 0) e in (sym (eqb-true a 0 f.0), sym (eqb-true b 0 f.1))
 
-crs-passes : (c : Crs) → (crs_known c == 1 || (crs_known c == 0 && crs_base c == 0)) ≡ true
+crs-passes : (c : Option ℕ) → (crs_known c == 1 || (crs_known c == 0 && crs_base c == 0)) ≡ true
 unfolding crs_known crs_base
-crs-passes Unknown = refl
-crs-passes (Known base) = refl
+crs-passes None = refl
+crs-passes (Some base) = refl
 
-crs-back : (c : Crs) → read_crs (crs_known c) (crs_base c) ≡ c
+crs-back : (c : Option ℕ) → read_crs (crs_known c) (crs_base c) ≡ c
 unfolding crs_known crs_base read_crs
-crs-back Unknown = refl
-crs-back (Known base) = refl
+crs-back None = refl
+crs-back (Some base) = refl
 
 -- a list that begins with e
 pub begins_long : (e l : List ℕ) → take (length e) l ≡ e → length e ≤ length l
@@ -400,13 +397,13 @@ passes_is records names missing small =
 -- decode after encode gives the value back
 pub decode_encode
     : (records names missing : List ℕ) (r : Register) → proper r ≡ true → encodes records names missing r ≡ true
-    → decode records names missing ≡ some r
+    → decode records names missing ≡ Some r
 unfolding decode is_register
 decode_encode records names missing r p e = rw (read_back_lem records names missing r p e, p, e)
 
 -- encode after decode gives the bytes back: they are the encoding of the value, which is proper
 pub encode_decode
-    : (records names missing : List ℕ) (r : Register) → decode records names missing ≡ some r
+    : (records names missing : List ℕ) (r : Register) → decode records names missing ≡ Some r
     → (proper r ≡ true) × (encodes records names missing r ≡ true)
 unfolding decode is_register
 encode_decode records names missing r =
@@ -416,7 +413,7 @@ encode_decode records names missing r =
     reg = register_of records names missing
 
     go
-        : (a b : Bool) → proper reg ≡ a → encodes records names missing reg ≡ b → (if a && b then some reg else none) ≡ some r
+        : (a b : Bool) → proper reg ≡ a → encodes records names missing reg ≡ b → (if a && b then Some reg else None) ≡ Some r
         → (proper r ≡ true) × (encodes records names missing r ≡ true)
     go true true p e h = let d : reg ≡ r = cc in (rw d at p, rw d at e)
     go true false p e h = let z : ◌≡◌ {A = ℕ} 0 1 = cc in absurd (omega arith)

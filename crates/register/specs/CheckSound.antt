@@ -1,5 +1,5 @@
 -- What passes the test is an encoding: records and names, by induction along the buffer.
-use Rattle.std.specs.Prelude.{if◌then◌else◌, ◌≡◌, ℕ, zero, suc, ◌+◌, ◌*◌, ◌/◌, ◌≤◌, Bool, true, false, ◌&&◌, leb, List, [], ◌∷◌, ◌++◌, length, take, drop, ◌==◌, nat_le, slice_index, slice_index_or}
+use Rattle.std.specs.Prelude.{if◌then◌else◌, ◌≡◌, ℕ, zero, suc, ◌+◌, ◌*◌, ◌/◌, ◌≤◌, Bool, true, false, ◌&&◌, leb, List, [], ◌∷◌, ◌++◌, length, take, drop, ◌==◌, nat_le, slice_index, slice_index_or, Option, Some, None}
 use Rattle.std.proofs.Math.Path.{refl, sym, ap}
 use Rattle.std.proofs.Common.{◌∙◌, take-append-drop, drop_of_length-le, drop-drop, eqb-true, leb-true}
 use native.Mathlib.Omega.{arith}
@@ -12,8 +12,6 @@ use Rattle.register.specs.Module.{Export, Module, named_ok, ascending, proper_mo
 use Rattle.register.specs.Encode.{export_words, export_names, module_names, module_words, flag, record_words, record_names}
 use Rattle.register.specs.Decode.{export_at, exports_from, exports_in, module_size, read_module, read_modules}
 use Rattle.register.specs.Check.{name_ok, exports_end, fixed_ok, export_part, module_end, after, modules_ok}
-use Rattle.register.specs.declared.record.End.{End}
-use Rattle.register.specs.declared.record.End.TheVariants.{At, Bad}
 
 -- a name that passed
 pub record NamePasses (names : List ℕ) (q o l : ℕ) : Type 0 where
@@ -59,7 +57,7 @@ pub record ExportsPass (ws names : List ℕ) (n k q q' : ℕ) : Type 0 where
   pub size : length (exports_from n ws names k) ≡ n
 
 pub exports_sound
-    : (ws names : List ℕ) (n k q q' : ℕ) → 3 * (k + n) ≤ length ws → exports_end n ws names k q ≡ At q' → ExportsPass ws names n k q q'
+    : (ws names : List ℕ) (n k q q' : ℕ) → 3 * (k + n) ≤ length ws → exports_end n ws names k q ≡ Some q' → ExportsPass ws names n k q q'
 unfolding exports_end exports_from export_at export_words export_names named_ok
 exports_sound ws names zero k q q' h e =
     let f : q ≡ q' = cc in
@@ -95,8 +93,8 @@ exports_sound ws names (suc n) k q q' h e =
         }
 
     go
-        : (b : Bool) → name_ok names q o l ≡ b → (if b then exports_end n ws names (k + 1) (q + l) else Bad) ≡ At q'
-        → (exports_end n ws names (k + 1) (q + l) ≡ At q' → ExportsPass ws names n (k + 1) (q + l) q') → ExportsPass ws names (suc n) k q q'
+        : (b : Bool) → name_ok names q o l ≡ b → (if b then exports_end n ws names (k + 1) (q + l) else None) ≡ Some q'
+        → (exports_end n ws names (k + 1) (q + l) ≡ Some q' → ExportsPass ws names n (k + 1) (q + l) q') → ExportsPass ws names (suc n) k q q'
     go true p f ih = step (named names q o l p) (ih f)
     go false p f ih = let z : ◌≡◌ {A = ℕ} 0 1 = cc in absurd (omega arith)
 
@@ -207,7 +205,7 @@ module _ (ws names : List ℕ) (q q' : ℕ) where
         whole = f.whole;
       }
 
-  pub module_sound : module_end ws names q ≡ At q' → Parsed ws names q q'
+  pub module_sound : module_end ws names q ≡ Some q' → Parsed ws names q q'
   unfolding module_end
   module_sound = go (fixed_ok ws names q) (ascending (exports_in (export_part ws) names)) refl refl
     where
@@ -216,7 +214,7 @@ module _ (ws names : List ℕ) (q q' : ℕ) where
 
       go
           : (a b : Bool) → fixed_ok ws names q ≡ a → ascending (exports_in (export_part ws) names) ≡ b
-          → (if a && b then exports_end (length (export_part ws) / 3) (export_part ws) names 0 (q + slice_index ws 4) else Bad) ≡ At q'
+          → (if a && b then exports_end (length (export_part ws) / 3) (export_part ws) names 0 (q + slice_index ws 4) else None) ≡ Some q'
           → Parsed ws names q q'
       go true true p d e =
           let f = fixed ws names q p in
@@ -272,7 +270,7 @@ modules_sound (suc n) ws names q e = go (module_end ws names q) refl e (modules_
         }
 
     go
-        : (z : End) → module_end ws names q ≡ z → after z (modules_ok n rest names) ≡ true
+        : (z : Option ℕ) → module_end ws names q ≡ z → after z (modules_ok n rest names) ≡ true
         → ((k : ℕ) → modules_ok n rest names k ≡ true → RecordsPass rest names n k) → RecordsPass ws names (suc n) q
-    go (At q') f g ih = step q' (module_sound ws names q q' f) (ih q' g)
-    go Bad f g ih = let z : ◌≡◌ {A = ℕ} 0 1 = cc in absurd (omega arith)
+    go (Some q') f g ih = step q' (module_sound ws names q q' f) (ih q' g)
+    go None f g ih = let z : ◌≡◌ {A = ℕ} 0 1 = cc in absurd (omega arith)

@@ -1,10 +1,7 @@
 -- What is read from the three buffers, and whether they are an encoding of it.
-use Rattle.std.specs.Prelude.{if◌then◌else◌, ◌≡◌, ℕ, zero, suc, ◌+◌, ◌-◌, ◌*◌, ◌/◌, Bool, true, false, ◌&&◌, List, [], ◌∷◌, length, take, drop, ◌==◌, ◌≢◌, slice_index, slice_set, refl}
-use Rattle.std.proofs.Math.Option.{Option, some, none}
+use Rattle.std.specs.Prelude.{if◌then◌else◌, ◌≡◌, ℕ, zero, suc, ◌+◌, ◌-◌, ◌*◌, ◌/◌, Bool, true, false, ◌&&◌, List, [], ◌∷◌, length, take, drop, ◌==◌, ◌≢◌, slice_index, slice_set, refl, Option, Some, None}
 use Rattle.std.proofs.Common.{get_or-set_other}
 use Rattle.register.specs.Words.{part, same, all_zero, holds, words_in}
-use Rattle.register.specs.declared.words.Crs.{Crs}
-use Rattle.register.specs.declared.words.Crs.TheVariants.{Unknown, Known}
 use Rattle.register.specs.Module.{Export, Module, Register, proper}
 use Rattle.register.specs.Encode.{encode_words, record_names, slots}
 
@@ -41,8 +38,8 @@ unfoldable pub read_modules : ℕ → List ℕ → List ℕ → List Module
 read_modules zero ws names = []
 read_modules (suc n) ws names = read_module ws names ∷ read_modules n (drop (module_size ws) ws) names
 
-unfoldable pub read_crs : ℕ → ℕ → Crs
-read_crs is base = if is == 1 then Known base else Unknown
+unfoldable pub read_crs : ℕ → ℕ → Option ℕ
+read_crs is base = if is == 1 then Some base else None
 
 -- a slot's 16-bit length, lowest byte first, and its name
 unfoldable pub slot_length : List ℕ → ℕ
@@ -96,4 +93,4 @@ is_register records names missing =
 
 unfoldable pub decode : List ℕ → List ℕ → List ℕ → Option Register
 decode records names missing =
-    if is_register records names missing then some (register_of records names missing) else none
+    if is_register records names missing then Some (register_of records names missing) else None

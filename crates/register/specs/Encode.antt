@@ -1,7 +1,5 @@
 -- Document 01, "The register": the words of the records buffer, the name bytes, and the slots of the missing list.
-use Rattle.std.specs.Prelude.{ℕ, ◌+◌, ◌-◌, ◌*◌, ◌/◌, ◌%◌, Bool, true, false, List, [], ◌∷◌, ◌++◌, length, replicate}
-use Rattle.register.specs.declared.words.Crs.{Crs}
-use Rattle.register.specs.declared.words.Crs.TheVariants.{Unknown, Known}
+use Rattle.std.specs.Prelude.{ℕ, ◌+◌, ◌-◌, ◌*◌, ◌/◌, ◌%◌, Bool, true, false, List, [], ◌∷◌, ◌++◌, length, replicate, Option, Some, None}
 use Rattle.register.specs.Module.{Export, Module, Register}
 
 -- "named exports (name offset, length, address)"; q is the offset of the first one's name
@@ -43,14 +41,14 @@ unfoldable pub record_names : List Module → List ℕ
 record_names [] = []
 record_names (m ∷ ms) = module_names m ++ record_names ms
 
-unfoldable pub crs_known : Crs → ℕ
-crs_known Unknown = 0
-crs_known (Known base) = 1
+unfoldable pub crs_known : Option ℕ → ℕ
+crs_known None = 0
+crs_known (Some base) = 1
 
 -- "CRS base (0 if unknown)"
-unfoldable pub crs_base : Crs → ℕ
-crs_base Unknown = 0
-crs_base (Known base) = base
+unfoldable pub crs_base : Option ℕ → ℕ
+crs_base None = 0
+crs_base (Some base) = base
 
 -- "Header words 0 to 7: modules, CRS known, CRS base, record bytes used (header included), name bytes used, missing count, 0, 0"
 unfoldable pub encode_words : Register → List ℕ

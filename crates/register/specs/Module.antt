@@ -1,12 +1,8 @@
 -- The abstract register: modules in load order, the CRS, missing names.
-use Rattle.std.specs.Prelude.{if◌then◌else◌, ℕ, ◌+◌, Bool, true, false, ◌&&◌, List, [], ◌∷◌, length, nat_le}
+use Rattle.std.specs.Ordering.{is_lt}
+use Rattle.std.specs.Prelude.{if◌then◌else◌, ℕ, ◌+◌, Bool, true, ◌&&◌, List, [], ◌∷◌, length, nat_le, Option, Some, None}
 use Rattle.window.specs.Name.{is_name, order_of}
-use Rattle.window.specs.declared.name.NameOrder.{NameOrder}
-use Rattle.window.specs.declared.name.NameOrder.TheVariants.{Before, Same, After}
 use Rattle.register.specs.Words.{same}
-use Rattle.register.specs.declared.words.Crs.{Crs}
-use Rattle.register.specs.declared.exports.Found.{Found}
-use Rattle.register.specs.declared.exports.Found.TheVariants.{At, Nothing}
 
 pub record Export : Type 0 where
   pub name : List ℕ
@@ -23,7 +19,7 @@ pub record Module : Type 0 where
 
 pub record Register : Type 0 where
   pub modules : List Module
-  pub crs : Crs
+  pub crs : Option ℕ
   pub missing : List (List ℕ)
 
 -- "Names, each of at most 512 bytes without a zero": of the exports
@@ -32,23 +28,18 @@ named_ok [] = true
 named_ok (x ∷ xs) = is_name x.name && named_ok xs
 
 -- which of the exports has the name, the first being number i
-unfoldable pub find_from : ℕ → List Export → List ℕ → Found
-find_from i [] name = Nothing
-find_from i (x ∷ xs) name = if same name x.name then At i else find_from (i + 1) xs name
+unfoldable pub find_from : ℕ → List Export → List ℕ → Option ℕ
+find_from i [] name = None
+find_from i (x ∷ xs) name = if same name x.name then Some i else find_from (i + 1) xs name
 
-unfoldable pub find_export : List Export → List ℕ → Found
+unfoldable pub find_export : List Export → List ℕ → Option ℕ
 find_export xs name = find_from 0 xs name
-
-unfoldable pub is_before : NameOrder → Bool
-is_before Before = true
-is_before Same = false
-is_before After = false
 
 -- "Named exports of one module are distinct"; request 5: they "stand in ascending byte order of the name, a shorter name before its extensions"
 unfoldable pub ascending : List Export → Bool
 ascending [] = true
 ascending (x ∷ []) = true
-ascending (x ∷ y ∷ xs) = is_before (order_of x.name y.name) && ascending (y ∷ xs)
+ascending (x ∷ y ∷ xs) = is_lt (order_of x.name y.name) && ascending (y ∷ xs)
 
 -- "segments (at most 16, all a tag can reach)"
 unfoldable pub proper_module : Module → Bool

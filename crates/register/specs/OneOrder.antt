@@ -1,37 +1,37 @@
 -- Ascending exports have one order: two lists of them that give every name the same address are equal.
-use Rattle.std.specs.Prelude.{◌≡◌, ℕ, Bool, true, false, ◌&&◌, List, [], ◌∷◌, length, nat_le, refl}
+use Rattle.std.specs.declared.cmp.Ordering.{Ordering}
+use Rattle.std.specs.declared.cmp.Ordering.TheVariants.{Less, Equal, Greater}
+use Rattle.std.specs.Ordering.{is_lt}
+use Rattle.std.specs.Prelude.{◌≡◌, ℕ, Bool, true, false, ◌&&◌, List, [], ◌∷◌, length, nat_le, refl, Some, None}
 use Rattle.std.proofs.Common.{sym, ap, ◌∙◌}
 use Rattle.window.specs.Name.{is_name, order_of, order_same, order_turned, turned, before_trans}
-use Rattle.window.specs.declared.name.NameOrder.{NameOrder}
-use Rattle.window.specs.declared.name.NameOrder.TheVariants.{Before, Same, After}
 use Rattle.window.specs.Tests.{both}
 use Rattle.register.specs.Words.{same}
 use Rattle.register.specs.Lists.{same_true, same_refl}
-use Rattle.register.specs.Module.{Export, Module, named_ok, is_before, ascending, proper_module}
-use Rattle.register.specs.Order.{before_differs, is_before_lem, tail_ascends}
+use Rattle.register.specs.Module.{Export, Module, named_ok, ascending, proper_module}
+use Rattle.register.specs.Order.{before_differs, is_lt_lem, tail_ascends}
 use Rattle.register.specs.Read.Read.{address_of}
-use Rattle.register.specs.declared.read.Symbol.TheVariants.{At, Nothing}
 
 -- a name before the first is none of them
 before_all
-    : (name : List ℕ) (x : Export) (xs : List Export) → ascending (x ∷ xs) ≡ true → order_of name x.name ≡ Before
-    → address_of (x ∷ xs) name ≡ Nothing
+    : (name : List ℕ) (x : Export) (xs : List Export) → ascending (x ∷ xs) ≡ true → order_of name x.name ≡ Less
+    → address_of (x ∷ xs) name ≡ None
 unfolding address_of ascending
 before_all name x [] h f = rw (before_differs name x.name f)
 before_all name x (y ∷ ys) h f =
-    let b = both (is_before (order_of x.name y.name)) (ascending (y ∷ ys)) h in
+    let b = both (is_lt (order_of x.name y.name)) (ascending (y ∷ ys)) h in
     rw (before_differs name x.name f)
-    (before_all name y ys b.1 (before_trans name x.name y.name f (is_before_lem (order_of x.name y.name) b.0)))
+    (before_all name y ys b.1 (before_trans name x.name y.name f (is_lt_lem (order_of x.name y.name) b.0)))
 
 -- so the first is none of the others
-first_once : (x : Export) (xs : List Export) → ascending (x ∷ xs) ≡ true → address_of xs x.name ≡ Nothing
+first_once : (x : Export) (xs : List Export) → ascending (x ∷ xs) ≡ true → address_of xs x.name ≡ None
 unfolding address_of ascending
 first_once x [] h = refl
 first_once x (y ∷ ys) h =
-    let b = both (is_before (order_of x.name y.name)) (ascending (y ∷ ys)) h in
-    before_all x.name y ys b.1 (is_before_lem (order_of x.name y.name) b.0)
+    let b = both (is_lt (order_of x.name y.name)) (ascending (y ∷ ys)) h in
+    before_all x.name y ys b.1 (is_lt_lem (order_of x.name y.name) b.0)
 
-first_found : (x : Export) (xs : List Export) → address_of (x ∷ xs) x.name ≡ At x.address
+first_found : (x : Export) (xs : List Export) → address_of (x ∷ xs) x.name ≡ Some x.address
 unfolding address_of
 first_found x xs = rw (same_refl x.name)
 
@@ -55,15 +55,15 @@ one_order (x ∷ xs) (y ∷ ys) p q h =
     rest n name false e = rw (e, ap (same name) (sym n) ∙ e) at (h name)
 
     go
-        : (o : NameOrder) → order_of x.name y.name ≡ o → (((name : List ℕ) → address_of xs name ≡ address_of ys name) → xs ≡ ys)
+        : (o : Ordering) → order_of x.name y.name ≡ o → (((name : List ℕ) → address_of xs name ≡ address_of ys name) → xs ≡ ys)
         → ◌≡◌ {A = List Export} (x ∷ xs) (y ∷ ys)
-    go Before e ih = let z = sym (first_found x xs) ∙ h x.name ∙ before_all x.name y ys q e in cc
-    go After e ih =
-        let f : order_of y.name x.name ≡ Before = order_turned x.name y.name ∙ ap turned e in
+    go Less e ih = let z = sym (first_found x xs) ∙ h x.name ∙ before_all x.name y ys q e in cc
+    go Greater e ih =
+        let f : order_of y.name x.name ≡ Less = order_turned x.name y.name ∙ ap turned e in
         let z = sym (before_all y.name x xs p f) ∙ h y.name ∙ first_found y ys in cc
-    go Same e ih =
+    go Equal e ih =
         let n : x.name ≡ y.name = order_same x.name y.name e in
-        let z : At x.address ≡ At y.address = sym (first_found x xs) ∙ h x.name ∙ ap (address_of (y ∷ ys)) n ∙ first_found y ys in
+        let z : Some x.address ≡ Some y.address = sym (first_found x xs) ∙ h x.name ∙ ap (address_of (y ∷ ys)) n ∙ first_found y ys in
         let a : x.address ≡ y.address = cc in
         rw (export_same x y n a, ih (λ name. rest n name (same name x.name) refl))
 

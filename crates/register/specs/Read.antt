@@ -3,3 +3,4 @@ pub mod Read
 pub mod Places
 pub mod Encoded
 pub mod Walk
+pub mod Search

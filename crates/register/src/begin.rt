@@ -6,7 +6,7 @@ ghost use Rattle.register.specs.Encode.{flag};
 ghost use Rattle.register.specs.Append.Draft.{begin_record};
 
 use crate::append::bytes;
-use crate::append::draft::{Draft, Drafted};
+use crate::append::draft::Draft;
 use crate::words;
 
 fn flag_word(set: bool) -> u32
@@ -50,22 +50,22 @@ pub fn begin_record(
     size: u32,
     auto_link: bool,
     name: &[u8],
-) -> Drafted
+) -> Option<Draft>
     ensures { (result, records.new, names.new)
         ≡ begin_record records.old names.old base size auto_link name.now }
 {
     if 64 <= words::word(records, 0) {
-        return Drafted::Full;
+        return None;
     }
     let start = words::used_bytes(records) as usize;
     let last = words::word(records, 4);
     let from = last as usize;
     let count = name.len();
     if bytes::room(records.len()) < start + 32 {
-        return Drafted::Full;
+        return None;
     }
     if bytes::room(names.len()) < from + count {
-        return Drafted::Full;
+        return None;
     }
     write_first(
         records,
@@ -77,7 +77,7 @@ pub fn begin_record(
         count as u32,
     );
     bytes::copy_into(names, from, name);
-    Drafted::Open(Draft {
+    Some(Draft {
         start,
         end: start + 32,
         names: from,

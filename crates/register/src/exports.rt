@@ -5,31 +5,13 @@ ghost use Rattle.register.specs.Module.{find_export, ascending};
 ghost use Rattle.register.specs.Decode.{exports_in, export_at};
 
 use crate::words;
-use window::name::NameOrder;
-
-// Where something stands in a list.
-#[derive(Clone, Copy)]
-pub enum Found {
-    At(usize),
-    Nothing,
-}
-
-// Where a name stands among ascending ones: at the one that has it, or before the first that comes after it.
-#[derive(Clone, Copy)]
-pub enum Position {
-    At(usize),
-    Before(usize),
-}
+use std::cmp::Ordering;
 
 // Whether two names are the same.
 pub fn same_name(a: &[u8], b: &[u8]) -> bool
     ensures { result ≡ same a.now b.now }
 {
-    match window::name::compare_names(a, b) {
-        NameOrder::Before => false,
-        NameOrder::Same => true,
-        NameOrder::After => false,
-    }
+    window::name::compare_names(a, b).is_eq()
 }
 
 // The name of export number k.
@@ -45,25 +27,26 @@ pub fn export_name<'a>(exports: &[u8], names: &'a [u8], k: usize) -> &'a [u8]
 }
 
 // Which of the exports, in ascending order of their names, has the name.
-pub fn search_export(exports: &[u8], names: &[u8], name: &[u8]) -> Found
+pub fn search_export(exports: &[u8], names: &[u8], name: &[u8]) -> Option<usize>
     requires { ascending (exports_in (words_in exports.now) names.now) ≡ true }
     ensures { result ≡ find_export (exports_in (words_in exports.now) names.now) name.now }
 {
     let mut low: usize = 0;
     let mut high = exports.len() / 12;
+    // No slice of keys stands there for `binary_search_by`: the exports are packed words.
     while low < high {
         let middle = low + (high - low) / 2;
         match window::name::compare_names(name, export_name(exports, names, middle)) {
-            NameOrder::Before => {
+            Ordering::Less => {
                 high = middle;
             }
-            NameOrder::Same => {
-                return Found::At(middle);
+            Ordering::Equal => {
+                return Some(middle);
             }
-            NameOrder::After => {
+            Ordering::Greater => {
                 low = middle + 1;
             }
         }
     }
-    Found::Nothing
+    None
 }

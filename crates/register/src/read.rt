@@ -6,7 +6,6 @@ ghost use Rattle.std.specs.Prelude.{◌≡◌, ℕ, ◌%◌, ◌^◌, List, drop
 ghost use Rattle.register.specs.Words.{part, words_in};
 ghost use Rattle.register.specs.Read.Read.{record_at, record_end, module_at, export_of, entry_of, Sorted};
 
-use crate::exports::Found;
 use crate::{exports, words};
 
 // The first words of a module's record, and the byte of the records buffer where it begins.
@@ -21,13 +20,6 @@ pub struct Record {
     pub segments: u32,
     pub named: u32,
     pub indexed: u32,
-}
-
-// The address that a name, an index or a segment stands for.
-#[derive(Clone, Copy)]
-pub enum Symbol {
-    At(u32),
-    Nothing,
 }
 
 // The bytes from a place on; none past their end.
@@ -88,32 +80,30 @@ pub fn record_name(names: &[u8], record: Record) -> &[u8]
 }
 
 // The address of the export of that name of the record at a place.
-pub fn export_named(records: &[u8], names: &[u8], place: usize, name: &[u8]) -> Symbol
+pub fn export_named(records: &[u8], names: &[u8], place: usize, name: &[u8]) -> Option<u32>
     requires { Sorted records.now names.now place }
     ensures { result ≡ export_of (module_at records.now names.now place) name.now }
 {
     let rest = bytes_from(records, place);
     let from = 4 * (8 + (words::word(rest, 5) as usize));
     let list = bytes_at(rest, from, 12 * (words::word(rest, 6) as usize));
-    let Found::At(k) = exports::search_export(list, names, name) else {
-        return Symbol::Nothing;
-    };
-    Symbol::At(words::word(list, 3 * k + 2))
+    let k = exports::search_export(list, names, name)?;
+    Some(words::word(list, 3 * k + 2))
 }
 
 // Word number `index` of a list of words.
-fn entry_of(list: &[u8], index: u32) -> Symbol
+fn entry_of(list: &[u8], index: u32) -> Option<u32>
     ensures { result ≡ entry_of (words_in list.now) index }
 {
     let i = index as usize;
     if list.len() / 4 <= i {
-        return Symbol::Nothing;
+        return None;
     }
-    Symbol::At(words::word(list, i))
+    Some(words::word(list, i))
 }
 
 // The address of an indexed export of the record at a place.
-pub fn export_indexed(records: &[u8], place: usize, index: u32) -> Symbol
+pub fn export_indexed(records: &[u8], place: usize, index: u32) -> Option<u32>
     ensures { (names : List ℕ) → result ≡ entry_of (module_at records.now names place).indexed index }
 {
     let rest = bytes_from(records, place);
@@ -127,7 +117,7 @@ pub fn export_indexed(records: &[u8], place: usize, index: u32) -> Symbol
 }
 
 // The address of a segment of the record at a place.
-pub fn segment_address(records: &[u8], place: usize, index: u32) -> Symbol
+pub fn segment_address(records: &[u8], place: usize, index: u32) -> Option<u32>
     ensures { (names : List ℕ) → result ≡ entry_of (module_at records.now names place).segments index }
 {
     let rest = bytes_from(records, place);

@@ -5,13 +5,6 @@ ghost use Rattle.register.specs.Decode.{module_size};
 
 use crate::words;
 
-// Where the names of a record end, or that something in it is wrong.
-#[derive(Clone, Copy)]
-pub enum End {
-    At(usize),
-    Bad,
-}
-
 // The words of the record that the bytes begin with, exactly.
 pub fn module_size(bytes: &[u8]) -> usize
     ensures { result ≡ module_size (words_in bytes.now) }

@@ -3,13 +3,6 @@ ghost use Rattle.std.specs.Prelude.{◌≡◌, drop, slice_index};
 ghost use Rattle.register.specs.Words.{words_in, part, all_zero};
 ghost use Rattle.register.specs.Decode.{settled, read_crs};
 
-// The static module's base, where it is known.
-#[derive(Clone, Copy)]
-pub enum Crs {
-    Unknown,
-    Known(u32),
-}
-
 // Word number i of the records; 0 past their whole words.
 pub fn word(records: &[u8], i: usize) -> u32
     ensures { result ≡ slice_index (words_in records.now) i }
@@ -41,24 +34,22 @@ pub fn zero_from(bytes: &[u8], from: usize) -> bool
     ensures { result ≡ all_zero (drop from bytes.now) }
 {
     let mut zero = true;
-    let mut i = from;
-    while i < bytes.len() {
+    for i in from..bytes.len() {
         if bytes[i] != 0 {
             zero = false;
         }
-        i += 1;
     }
     zero
 }
 
 // The CRS, as the header has it.
-pub fn read_crs(records: &[u8]) -> Crs
+pub fn read_crs(records: &[u8]) -> Option<u32>
     ensures { result ≡ read_crs (slice_index (words_in records.now) 1) (slice_index (words_in records.now) 2) }
 {
     if word(records, 1) == 1 {
-        return Crs::Known(word(records, 2));
+        return Some(word(records, 2));
     }
-    Crs::Unknown
+    None
 }
 
 // The record bytes used; 0 is read as 32 when no module stands.

@@ -7,7 +7,6 @@
 ghost use Rattle.std.specs.Prelude.{◌≡◌};
 ghost use Rattle.register_cases.specs.Cases.{judged, case_at};
 
-use case_reader::append::NextPlace;
 use case_reader::put_pieces;
 use reading::read_full;
 use register::words::word;
@@ -15,12 +14,11 @@ use register_test::is_register;
 use std::io;
 use std::io::Write;
 
-// The verdict on a case, and the place of the next one.
+// Whether a case is valid, and the place of the next one.
 #[derive(Clone, Copy)]
-enum RegisterVerdict {
-    Valid(usize),
-    Refused(usize),
-    Unreadable,
+struct Verdict {
+    valid: bool,
+    next: usize,
 }
 
 fn main(rt: HostRuntime) -> io::Result<()> {
@@ -33,53 +31,41 @@ fn run_cases<W: Write>(out: &mut W, file: &[u8]) -> io::Result<()> {
     let count = word(file, 0);
     let mut at: usize = 1;
     let mut valid: u32 = 0;
-    let mut k: u32 = 0;
-    while k < count {
-        match run_case(file, at) {
-            RegisterVerdict::Valid(next) => {
-                at = next;
-                valid += 1;
-                print_verdict(out, k, b" valid\n")?;
-            }
-            RegisterVerdict::Refused(next) => {
-                at = next;
-                print_verdict(out, k, b" refused\n")?;
-            }
-            RegisterVerdict::Unreadable => {
-                return print_verdict(out, k, b" unreadable\n");
-            }
+    for k in 0..count {
+        let Some(verdict) = run_case(file, at) else {
+            return print_verdict(out, k, "unreadable");
+        };
+        at = verdict.next;
+        if verdict.valid {
+            valid += 1;
+            print_verdict(out, k, "valid")?;
+        } else {
+            print_verdict(out, k, "refused")?;
         }
-        k += 1;
     }
     print_counts(out, count, valid, count - valid)
 }
 
-// Builds the case at place `at` and tries the test on it.
-fn run_case(file: &[u8], at: usize) -> RegisterVerdict
+// Builds the case at place `at` and tries the test on it; none where it cannot be read.
+fn run_case(file: &[u8], at: usize) -> Option<Verdict>
     ensures { result ≡ case_at file.now at }
 {
     let mut records = [0u8; 8192];
     let mut names = [0u8; 8192];
     let mut missing = [0u8; 32900];
     if file.len() / 4 < at {
-        return RegisterVerdict::Unreadable;
+        return None;
     }
     let r = word(file, at);
     let n = word(file, at + 1);
     let m = word(file, at + 2);
-    let NextPlace::At(a) = put_pieces(&mut records, file, at + 6, word(file, at + 3)) else {
-        return RegisterVerdict::Unreadable;
-    };
-    let NextPlace::At(b) = put_pieces(&mut names, file, a, word(file, at + 4)) else {
-        return RegisterVerdict::Unreadable;
-    };
-    let NextPlace::At(next) = put_pieces(&mut missing, file, b, word(file, at + 5)) else {
-        return RegisterVerdict::Unreadable;
-    };
+    let a = put_pieces(&mut records, file, at + 6, word(file, at + 3))?;
+    let b = put_pieces(&mut names, file, a, word(file, at + 4))?;
+    let next = put_pieces(&mut missing, file, b, word(file, at + 5))?;
     judge(next, &records, r, &names, n, &missing, m)
 }
 
-// The verdict on the first r bytes of the records, n of the names and m of the missing list.
+// The verdict on the first r bytes of the records, n of the names and m of the missing list; none where there are not so many.
 fn judge(
     next: usize,
     records: &[u8],
@@ -88,31 +74,19 @@ fn judge(
     n: u32,
     missing: &[u8],
     m: u32,
-) -> RegisterVerdict
+) -> Option<Verdict>
     ensures { result ≡ judged next records.now r names.now n missing.now m }
 {
-    let a = r as usize;
-    let b = n as usize;
-    let c = m as usize;
-    if records.len() < a {
-        return RegisterVerdict::Unreadable;
-    }
-    if names.len() < b {
-        return RegisterVerdict::Unreadable;
-    }
-    if missing.len() < c {
-        return RegisterVerdict::Unreadable;
-    }
-    if is_register(&records[..a], &names[..b], &missing[..c]) {
-        return RegisterVerdict::Valid(next);
-    }
-    RegisterVerdict::Refused(next)
+    let records = records.get(..r as usize)?;
+    let names = names.get(..n as usize)?;
+    let missing = missing.get(..m as usize)?;
+    let valid = is_register(records, names, missing);
+    Some(Verdict { valid, next })
 }
 
 // Prints the number of case k, counted from 1, and the verdict.
-fn print_verdict<W: Write>(out: &mut W, k: u32, verdict: &[u8]) -> io::Result<()> {
-    write!(out, "{}", u64::from(k) + 1)?;
-    out.write_all(verdict)
+fn print_verdict<W: Write>(out: &mut W, k: u32, verdict: &str) -> io::Result<()> {
+    writeln!(out, "{} {verdict}", u64::from(k) + 1)
 }
 
 fn print_counts<W: Write>(out: &mut W, cases: u32, valid: u32, refused: u32) -> io::Result<()> {

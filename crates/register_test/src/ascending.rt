@@ -2,21 +2,18 @@
 ghost use Rattle.std.specs.Prelude.{◌≡◌};
 ghost use Rattle.window.specs.Name.{order_of};
 ghost use Rattle.register.specs.Words.{words_in};
-ghost use Rattle.register.specs.Module.{is_before, ascending};
+ghost use Rattle.std.specs.Ordering.{is_lt};
+ghost use Rattle.register.specs.Module.{ascending};
 ghost use Rattle.register.specs.Decode.{exports_in};
 
 use register::exports;
-use window::name::NameOrder;
+use std::cmp::Ordering;
 
 // Whether name a stands before name b.
 fn is_before(a: &[u8], b: &[u8]) -> bool
-    ensures { result ≡ is_before (order_of a.now b.now) }
+    ensures { result ≡ is_lt (order_of a.now b.now) }
 {
-    match window::name::compare_names(a, b) {
-        NameOrder::Before => true,
-        NameOrder::Same => false,
-        NameOrder::After => false,
-    }
+    window::name::compare_names(a, b).is_lt()
 }
 
 // Whether each name stands before the next: one comparison an export.
@@ -24,15 +21,16 @@ pub(crate) fn ascending_exports(exports: &[u8], names: &[u8]) -> bool
     ensures { result ≡ ascending (exports_in (words_in exports.now) names.now) }
 {
     let n = exports.len() / 12;
-    let mut k: usize = 0;
-    while k + 1 < n {
-        if !is_before(
-            exports::export_name(exports, names, k),
-            exports::export_name(exports, names, k + 1),
-        ) {
+    if n == 0 {
+        return true;
+    }
+    let mut last = exports::export_name(exports, names, 0);
+    for k in 1..n {
+        let name = exports::export_name(exports, names, k);
+        if !is_before(last, name) {
             return false;
         }
-        k += 1;
+        last = name;
     }
     true
 }

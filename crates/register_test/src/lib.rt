@@ -76,15 +76,11 @@ fn slots_ok(missing: &[u8], count: u32) -> bool
     requires { 514 * count ≤ length missing.now }
     ensures { result ≡ slots_ok count missing.now }
 {
-    let mut k: u32 = 0;
-    let mut place: usize = 0;
-    while k < count {
-        let end = place + 514;
-        if !slot_ok(&missing[place..end]) {
+    for k in 0..count as usize {
+        let place = 514 * k;
+        if !slot_ok(&missing[place..place + 514]) {
             return false;
         }
-        place = end;
-        k += 1;
     }
     true
 }

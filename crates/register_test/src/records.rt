@@ -4,7 +4,6 @@ ghost use Rattle.window.specs.Name.{no_zero};
 ghost use Rattle.register.specs.Words.{words_in};
 ghost use Rattle.register.specs.Check.{name_ok, exports_end, fixed_ok, module_end, modules_ok};
 
-use register::record::End;
 use register::{record, words};
 
 // Whether the bytes have no zero.
@@ -12,12 +11,10 @@ pub(crate) fn no_zero(bytes: &[u8]) -> bool
     ensures { result ≡ no_zero bytes.now }
 {
     let mut none = true;
-    let mut i: usize = 0;
-    while i < bytes.len() {
-        if bytes[i] == 0 {
+    for b in bytes {
+        if *b == 0 {
             none = false;
         }
-        i += 1;
     }
     none
 }
@@ -41,21 +38,19 @@ fn name_ok(names: &[u8], q: usize, offset: u32, count: u32) -> bool
 }
 
 // Where the exports' names end, if each stands right after the one before.
-fn exports_end(exports: &[u8], names: &[u8], q: usize) -> End
+fn exports_end(exports: &[u8], names: &[u8], q: usize) -> Option<usize>
     ensures { result ≡ exports_end (length (words_in exports.now) / 3) (words_in exports.now) names.now 0 q }
 {
     let n = exports.len() / 12;
-    let mut k: usize = 0;
     let mut place = q;
-    while k < n {
+    for k in 0..n {
         let count = words::word(exports, 3 * k + 1);
         if !name_ok(names, place, words::word(exports, 3 * k), count) {
-            return End::Bad;
+            return None;
         }
         place += count as usize;
-        k += 1;
     }
-    End::At(place)
+    Some(place)
 }
 
 // Whether a record's eight first words are right and its other words are there.
@@ -78,17 +73,17 @@ fn fixed_ok(bytes: &[u8], names: &[u8], q: usize) -> bool
 }
 
 // Where the names of the record end that the bytes begin with.
-fn module_end(bytes: &[u8], names: &[u8], q: usize) -> End
+fn module_end(bytes: &[u8], names: &[u8], q: usize) -> Option<usize>
     ensures { result ≡ module_end (words_in bytes.now) names.now q }
 {
     if !fixed_ok(bytes, names, q) {
-        return End::Bad;
+        return None;
     }
     let from = 4 * (8 + (words::word(bytes, 5) as usize));
     let to = from + 12 * (words::word(bytes, 6) as usize);
     let list = &bytes[from..to];
     if !crate::ascending::ascending_exports(list, names) {
-        return End::Bad;
+        return None;
     }
     exports_end(list, names, q + (words::word(bytes, 4) as usize))
 }
@@ -99,19 +94,17 @@ pub(crate) fn modules_ok(records: &[u8], names: &[u8], count: u32) -> bool
 {
     let mut place: usize = 0;
     let mut q: usize = 0;
-    let mut k: u32 = 0;
-    while k < count {
+    for k in 0..count {
         let record = &records[place..];
         match module_end(record, names, q) {
-            End::Bad => {
+            None => {
                 return false;
             }
-            End::At(end) => {
+            Some(end) => {
                 q = end;
             }
         }
         place += 4 * record::module_size(record);
-        k += 1;
     }
     if records.len() / 4 != place / 4 {
         return false;

@@ -4,8 +4,7 @@ use mathlib.Core.Path.{◌≡◌, ap, subst, ◌∙◌}
 use mathlib.Core.Bool.{true, false}
 use mathlib.Core.List.{List, ◌++◌}
 use native.Mathlib.Omega.{arith}
-use lib.ListN.{length, take, drop, replicate, length-take, length-replicate}
-use lib.Seq.{take_all, take-append_seam}
+use lib.ListN.{length, drop, replicate, length-take, length-replicate}
 use Rattle.register.specs.Words.{part}
 use Rattle.register.specs.Module.{proper}
 use Rattle.register.specs.Decode.{register_of}
@@ -13,7 +12,7 @@ use Rattle.register.specs.CheckIs.{register-parts}
 use Rattle.linker_spec.specs.Outcome.{Buffers, buffers}
 use Rattle.linker_spec.specs.Refusals.{lent_register}
 use Rattle.text.specs.Text.{bytes, decimal_of, put}
-use Rattle.text.specs.Laws.{put-append, put_whole}
+use Rattle.text.specs.Laws.{put-append}
 use Rattle.session.specs.Head.{step_count, window_length, window_offset}
 use Rattle.session.specs.File.{is_session}
 use Rattle.session.specs.Parts.{session_parts}
@@ -29,24 +28,18 @@ pub text_bad
 unfolding session_text
 text_bad file q e h = (rw e h, bad_fits file e)
 
--- the window starts with the file's bytes, which a buffer of 32,768 bytes has room for
-pub window_laid
-    : (file first : List ℕ) {n : ℕ} {w : List ℕ} → is_session file ≡ true → first ≡ part file (window_offset file) (window_length file)
-    → ◌≡◌ {A = ℕ × List ℕ} (n, w) (put first (0, replicate 32768 0)) → take n w ≡ part file (window_offset file) (window_length file)
+-- a buffer of 32,768 bytes has room for the window's bytes
+pub window_fits
+    : (file : List ℕ) {first : List ℕ} → is_session file ≡ true → first ≡ part file (window_offset file) (window_length file)
+    → length first ≤ length (replicate {A = ℕ} 32768 0)
 unfolding part
-window_laid file first {n} {w} s e h =
-    let l = window_length file in
-    let o = window_offset file in
+window_fits file s e =
     let a = session_parts file s in
-    let z = length-replicate {A = ℕ} 32768 0 in
-    let b : length first ≤ 32768 = omega (arith, ap length e, length-take l (drop o file), a.1) in
-    let f = h ∙ put_whole first (replicate 32768 0) in
-    let g : n ≡ length first = ap (λ (p : ℕ × List ℕ). p.0) f ∙ omega (arith, z) in
-    let fits : take (length (replicate {A = ℕ} 32768 0)) first ≡ first =
-    take_all (length (replicate {A = ℕ} 32768 0)) first (omega (arith, z)) in
-    let i : w ≡ first ++ drop (length first) (replicate 32768 0) =
-    ap (λ (p : ℕ × List ℕ). p.1) f ∙ ap (λ t. t ++ drop (length first) (replicate 32768 0)) fits in
-    rw (i, g) (take-append_seam first _ ∙ e)
+    omega (arith, ap length e, length-take (window_length file) (drop (window_offset file) file), a.1, length-replicate {A = ℕ} 32768 0)
+
+-- the lent bytes are those that the text left
+pub in_buffer : {n : ℕ} {x y : List ℕ} {r : ℕ × List ℕ} {P : Type 0} → (◌≡◌ {A = ℕ × List ℕ} (n, y) r) × P → x ≡ y → (◌≡◌ {A = ℕ × List ℕ} (n, x) r) × P
+in_buffer h e = rw e h
 
 -- the heading, the step lines and the register's lines, one after another
 pub text_good

@@ -1,13 +1,13 @@
 -- What the steps that are left print and leave, from a place of the buffer on.
-use Rattle.std.specs.Prelude.{ℕ, suc, ◌+◌, ◌-◌, ◌≤◌, ◌<◌, ◌≡◌, List}
+use Rattle.std.specs.Prelude.{ℕ, suc, ◌+◌, ◌-◌, ◌≤◌, ◌<◌, ◌≡◌, List, Option}
 use Rattle.std.proofs.Math.Path.{refl}
 use Rattle.std.proofs.Common.{sym, ap, ◌∙◌, arith}
+use Rattle.linker_spec.specs.declared.call.Call.{Call}
 use Rattle.linker_spec.specs.Outcome.{Buffers}
 use Rattle.linker_spec.specs.Valid.{Valid}
 use Rattle.text.specs.Text.{put}
 use Rattle.text.specs.Laws.{put-append}
 use Rattle.session.specs.Head.{window_address}
-use Rattle.session.specs.declared.step.Step.{Step}
 use Rattle.session.specs.Steps.{step_at}
 use Rattle.session.specs.Lines.{step_line}
 use Rattle.session.specs.Run.{step_outcome}
@@ -20,13 +20,13 @@ unfoldable pub ahead : List ℕ → ℕ → ℕ → TextAndBuffers → TextAndBu
 ahead file n k (p, b) = (put (steps file n k b).0 p, (steps file n k b).1)
 
 -- what the step number k, at the window's address at, prints and leaves
-abbrev pub ran_step : Step → ℕ → ℕ → TextAndBuffers → TextAndBuffers
+abbrev pub ran_step : Option Call → ℕ → ℕ → TextAndBuffers → TextAndBuffers
 ran_step step at k (p, b) =
     let o = step_outcome step at b in
     (put (step_line (k + 1) step o.number o.value) p, o.left)
 
 -- the step has run, and a register stays one
-abbrev pub StepRan : Step → ℕ → ℕ → TextAndBuffers → TextAndBuffers → Type 0
+abbrev pub StepRan : Option Call → ℕ → ℕ → TextAndBuffers → TextAndBuffers → Type 0
 StepRan step at k before after = (after ≡ ran_step step at k before) × (Valid before.1 → Valid after.1)
 
 -- all of them have run

@@ -1,18 +1,12 @@
 -- The session file: what makes it one. Its head is in `session::head`, a step in `session::step`.
-use Rattle.std.specs.Prelude.{ℕ, zero, suc, ◌+◌, ◌*◌, List, Bool, true, false, ◌&&◌, length, leb}
-use Rattle.session.specs.declared.step.Step.{Step}
-use Rattle.session.specs.declared.step.Step.TheVariants.{Bad}
+use Rattle.std.specs.Prelude.{ℕ, zero, suc, ◌+◌, ◌*◌, List, Bool, true, ◌&&◌, length, leb, is_some}
 use Rattle.session.specs.Head.{step_count, step_table, window_length, window_offset}
 use Rattle.session.specs.Steps.{step_at}
 
-unfoldable pub is_step : Step → Bool
-is_step (Step.Call c) = true
-is_step Bad = false
-
--- the first n steps are steps
+-- the first n steps are calls
 unfoldable pub are_steps : List ℕ → ℕ → Bool
 are_steps file zero = true
-are_steps file (suc k) = are_steps file k && is_step (step_at file k)
+are_steps file (suc k) = are_steps file k && is_some (step_at file k)
 
 -- "At most 64 steps, window at most 32,768 bytes, file 20 to 49,152, parts inside it, calls 1 to 3, unused words 0"
 unfoldable pub is_session : List ℕ → Bool

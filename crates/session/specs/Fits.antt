@@ -1,5 +1,5 @@
 -- No text is longer than 139,264 bytes: that much the session program lends.
-use Rattle.std.specs.Prelude.{if◌then◌else◌, ℕ, zero, suc, ◌+◌, ◌*◌, ◌/◌, ◌%◌, ◌≤◌, ◌≡◌, refl, Bool, true, false, ◌&&◌, List, [], ◌∷◌, ◌++◌, length, ltb, leb}
+use Rattle.std.specs.Prelude.{if◌then◌else◌, ℕ, zero, suc, ◌+◌, ◌*◌, ◌/◌, ◌%◌, ◌≤◌, ◌≡◌, refl, Bool, true, false, ◌&&◌, List, [], ◌∷◌, ◌++◌, length, ltb, leb, Option, Some, None}
 use Rattle.std.proofs.Common.{arith, length-append, leb-true}
 use Rattle.window.specs.Tests.{both}
 use Rattle.window.specs.Name.{is_name}
@@ -11,8 +11,6 @@ use Rattle.linker_spec.specs.Refusals.{lent_register}
 use Rattle.text.specs.Text.{bytes, digit_of, digits_in, hex_of, decimal_of, pairs_of}
 use Rattle.linker_spec.specs.declared.call.Call.{Call}
 use Rattle.linker_spec.specs.declared.call.Call.TheVariants.{Initialize, Load, Unload}
-use Rattle.session.specs.declared.step.Step.{Step}
-use Rattle.session.specs.declared.step.Step.TheVariants.{Bad}
 use Rattle.session.specs.Head.{step_count}
 use Rattle.session.specs.Steps.{step_at}
 use Rattle.session.specs.File.{is_session}
@@ -52,12 +50,12 @@ call_most (Initialize base size) = omega arith
 call_most (Load l auto level) = omega arith
 call_most (Unload base) = omega arith
 
-name-at_most : (s : Step) → length (step_name s) ≤ 10
+name-at_most : (s : Option Call) → length (step_name s) ≤ 10
 unfolding step_name
-name-at_most (Step.Call c) = call_most c
-name-at_most Bad = omega arith
+name-at_most (Some c) = call_most c
+name-at_most None = omega arith
 
-step_most : (k : ℕ) (s : Step) (n v : ℕ) → length (step_line k s n v) ≤ 42
+step_most : (k : ℕ) (s : Option Call) (n v : ℕ) → length (step_line k s n v) ≤ 42
 unfolding step_line bytes
 step_most k s n v = simp length-append (omega (arith, decimal_most k, name-at_most s, decimal_most n, hex_most v))
 

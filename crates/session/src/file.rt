@@ -1,29 +1,21 @@
 // The session file, judged whole.
 ghost use Rattle.std.specs.Prelude.{◌≡◌};
-ghost use Rattle.session.specs.File.{is_step, are_steps, is_session};
+ghost use Rattle.session.specs.File.{are_steps, is_session};
 
 use crate::head::{are_parts_inside, in_limits, step_count};
-use crate::step::{Step, advance, new, next_step};
-
-fn is_step(step: Step) -> bool
-    ensures { result ≡ is_step step }
-{
-    match step {
-        Step::Call(_) => true,
-        Step::Bad => false,
-    }
-}
+use crate::step::Reader;
 
 // Whether the first `count` steps are calls: the reader goes through them.
 fn are_steps(file: &[u8], count: u32) -> bool
     ensures { result ≡ are_steps file.now count }
 {
-    let mut r = new(file);
+    let mut r = Reader::new(file);
+    // No `for`: the reader says where it stands (docs/CLAIMS.md, 169).
     while r.next < count {
-        if !is_step(next_step(r)) {
+        if r.next_step().is_none() {
             return false;
         }
-        r = advance(r);
+        r.advance();
     }
     true
 }

@@ -11,6 +11,7 @@ mod step;
 ghost use Rattle.std.specs.Prelude.{◌≡◌, true, ◌<◌, ◌≤◌, length};
 ghost use Rattle.register.specs.Decode.{is_register};
 ghost use Rattle.text.specs.Text.{put};
+ghost use Rattle.text.specs.Puts.{written};
 ghost use Rattle.linker_spec.specs.Outcome.{buffers, outcome};
 ghost use Rattle.session.specs.Head.{step_count};
 ghost use Rattle.session.specs.Run.{StepPromise};
@@ -22,12 +23,13 @@ use crate::file::is_session;
 use crate::head::{step_count, window_address, window_bytes};
 use crate::lines::put_step;
 use crate::register_lines::put_register;
-use crate::step::{Step, advance, new, next_step};
-use text::{put_decimal, put_text};
+use crate::step::Reader;
+use linker_spec::call::Call;
+use text::Text;
 
 // Runs a step.
 fn run_step(
-    step: Step,
+    step: Option<Call>,
     at: u32,
     window: &mut [u8],
     records: &mut [u8],
@@ -40,7 +42,7 @@ fn run_step(
     let mut touched: u32 = 0;
     let mut first: u32 = 0;
     match step {
-        Step::Call(call) => make_call(
+        Some(call) => make_call(
             call,
             at,
             window,
@@ -50,7 +52,7 @@ fn run_step(
             &mut touched,
             &mut first,
         ),
-        Step::Bad => Answered {
+        None => Answered {
             number: 0,
             value: 0,
         },
@@ -59,23 +61,23 @@ fn run_step(
 
 // Runs a step, number k from 0 on, and puts its line. The slices have one lifetime, so that run_steps lends them again for one.
 fn run_turn<'a>(
-    step: Step,
+    step: Option<Call>,
     k: u32,
     address: u32,
     window: &'a mut [u8],
     records: &'a mut [u8],
     names: &'a mut [u8],
     missing: &'a mut [u8],
-    out: &'a mut [u8],
-    at: usize,
-) -> usize
+    text: &mut Text,
+)
     requires { k < 64 }
-    ensures { StepRan step address k
-        ((at, out.old), buffers window.old records.old names.old missing.old)
-        ((result, out.new), buffers window.new records.new names.new missing.new) }
+    ensures ran { StepRan step address k
+        (written text.old, buffers window.old records.old names.old missing.old)
+        (written text.new, buffers window.new records.new names.new missing.new) }
+    ensures same { text.new.buffer.ghost_name ≡ text.old.buffer.ghost_name }
 {
     let answered = run_step(step, address, window, records, names, missing);
-    put_step(out, at, k + 1, step, answered.number, answered.value)
+    put_step(text, k + 1, step, answered.number, answered.value);
 }
 
 // Runs all steps, as the reader goes from one to the next, and puts their lines.
@@ -85,26 +87,23 @@ fn run_steps(
     records: &mut [u8],
     names: &mut [u8],
     missing: &mut [u8],
-    out: &mut [u8],
-    at: usize,
-) -> usize
+    text: &mut Text,
+)
     requires { (step_count file.now ≤ 64) × (is_register records.old names.old missing.old ≡ true) }
-    ensures { AllRan file.now (step_count file.now)
-        ((at, out.old), buffers window.old records.old names.old missing.old)
-        ((result, out.new), buffers window.new records.new names.new missing.new) }
+    ensures ran { AllRan file.now (step_count file.now)
+        (written text.old, buffers window.old records.old names.old missing.old)
+        (written text.new, buffers window.new records.new names.new missing.new) }
+    ensures same { text.new.buffer.ghost_name ≡ text.old.buffer.ghost_name }
 {
     let count = step_count(file);
     let address = window_address(file);
-    let mut i = at;
-    let mut r = new(file);
+    let mut r = Reader::new(file);
+    // No `for`: the reader says where it stands (docs/CLAIMS.md, 169).
     while r.next < count {
-        let step = next_step(r);
-        i = run_turn(
-            step, r.next, address, window, records, names, missing, out, i,
-        );
-        r = advance(r);
+        let step = r.next_step();
+        run_turn(step, r.next, address, window, records, names, missing, text);
+        r.advance();
     }
-    i
 }
 
 // Puts the text of a session, as far as there is room, and answers how many bytes that are. A buffer of 139,264 bytes has
@@ -113,25 +112,32 @@ pub fn session_text(file: &[u8], out: &mut [u8]) -> usize
     ensures { ((result, out.new) ≡ put (session_text file.now) (0, out.old))
         × (length (session_text file.now) ≤ 139264) }
 {
+    let mut text = Text {
+        buffer: out,
+        length: 0,
+    };
     if !is_session(file) {
-        return put_text(out, 0, b"session bad\n");
+        text.put(b"session bad\n");
+        return text.length;
     }
     let mut window = [0u8; 32768];
     let mut records = [0u8; 16384];
     let mut names = [0u8; 16384];
     let mut missing = [0u8; 32896];
-    let length = put_text(&mut window, 0, window_bytes(file));
-    let i = put_text(out, 0, b"session ");
-    let i = put_decimal(out, i, step_count(file));
-    let i = put_text(out, i, b"\n");
-    let i = run_steps(
+    let bytes = window_bytes(file);
+    let window = &mut window[..bytes.len()];
+    window.copy_from_slice(bytes);
+    text.put(b"session ");
+    text.put_decimal(step_count(file));
+    text.put(b"\n");
+    run_steps(
         file,
-        &mut window[..length],
+        window,
         &mut records,
         &mut names,
         &mut missing,
-        out,
-        i,
+        &mut text,
     );
-    put_register(out, i, &records, &names, &missing)
+    put_register(&mut text, &records, &names, &missing);
+    text.length
 }

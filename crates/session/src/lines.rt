@@ -1,57 +1,48 @@
 // The line that a session prints for a step, and its pieces.
-ghost use Rattle.std.specs.Prelude.{◌≡◌, ◌++◌};
-ghost use Rattle.text.specs.Text.{decimal_of, hex_of, put};
+ghost use Rattle.std.specs.Prelude.{◌++◌};
+ghost use Rattle.text.specs.Text.{decimal_of, hex_of};
+ghost use Rattle.text.specs.Puts.{Puts};
 ghost use Rattle.session.specs.Lines.{step_name, step_line};
 
-use crate::step::Step;
 use linker_spec::call::Call;
-use text::{put_decimal, put_hex, put_text};
+use text::Text;
 
 // Puts a text, and v after it in decimal.
-pub(crate) fn decimal_after(out: &mut [u8], at: usize, before: &[u8], v: u32) -> usize
-    ensures { (result, out.new) ≡ put (before.now ++ decimal_of v) (at, out.old) }
+pub(crate) fn decimal_after(text: &mut Text, before: &[u8], v: u32)
+    ensures { Puts (before.now ++ decimal_of v) text.old text.new }
 {
-    let i = put_text(out, at, before);
-    put_decimal(out, i, v)
+    text.put(before);
+    text.put_decimal(v);
 }
 
-// Puts a text, and v after it in hex.
-pub(crate) fn hex_after(out: &mut [u8], at: usize, before: &[u8], v: u32) -> usize
-    ensures { (result, out.new) ≡ put (before.now ++ hex_of v) (at, out.old) }
+// Puts a text, and v after it in hex. Not one function with a radix: the two definitions differ in their digits' number too.
+pub(crate) fn hex_after(text: &mut Text, before: &[u8], v: u32)
+    ensures { Puts (before.now ++ hex_of v) text.old text.new }
 {
-    let i = put_text(out, at, before);
-    put_hex(out, i, v)
+    text.put(before);
+    text.put_hex(v);
 }
 
 // Puts the name of the call that a step makes.
-fn put_call(out: &mut [u8], at: usize, step: Step) -> usize
-    ensures { (result, out.new) ≡ put (step_name step) (at, out.old) }
+fn put_call(text: &mut Text, step: Option<Call>)
+    ensures { Puts (step_name step) text.old text.new }
 {
-    let Step::Call(call) = step else {
-        return at;
-    };
-    match call {
-        Call::Initialize(_, _) => put_text(out, at, b"initialize"),
-        Call::Load(_, _, _) => put_text(out, at, b"load"),
-        Call::Unload(_) => put_text(out, at, b"unload"),
+    match step {
+        Some(Call::Initialize(_, _)) => text.put(b"initialize"),
+        Some(Call::Load(_, _, _)) => text.put(b"load"),
+        Some(Call::Unload(_)) => text.put(b"unload"),
+        None => {}
     }
 }
 
 // Puts the line of step k, which gave the number and the value.
-pub(crate) fn put_step(
-    out: &mut [u8],
-    at: usize,
-    k: u32,
-    step: Step,
-    number: u32,
-    value: u32,
-) -> usize
-    ensures { (result, out.new) ≡ put (step_line k step number value) (at, out.old) }
+pub(crate) fn put_step(text: &mut Text, k: u32, step: Option<Call>, number: u32, value: u32)
+    ensures { Puts (step_line k step number value) text.old text.new }
 {
-    let i = put_decimal(out, at, k);
-    let i = put_text(out, i, b" ");
-    let i = put_call(out, i, step);
-    let i = decimal_after(out, i, b" ", number);
-    let i = hex_after(out, i, b" ", value);
-    put_text(out, i, b"\n")
+    text.put_decimal(k);
+    text.put(b" ");
+    put_call(text, step);
+    decimal_after(text, b" ", number);
+    hex_after(text, b" ", value);
+    text.put(b"\n");
 }

@@ -4,95 +4,78 @@ ghost use Rattle.register.specs.Module.{Module};
 ghost use Rattle.register.specs.Decode.{is_register, register_of};
 ghost use Rattle.register.specs.Read.Read.{Encoded, modules_of, module_at};
 ghost use Rattle.register.specs.Read.Places.{RecordStands};
-ghost use Rattle.text.specs.Text.{put};
+ghost use Rattle.text.specs.Puts.{Puts};
 ghost use Rattle.session.specs.RegisterLines.Lines.{name_text, module_line, module_lines, missing_lines};
 
 use crate::lines::{decimal_after, hex_after};
 use register::read::{modules, record_at, record_end, record_name};
-use text::{put_decimal, put_pairs, put_text};
+use text::Text;
 
 // Puts a name's length, and its bytes if there are any.
-fn put_name(out: &mut [u8], at: usize, name: &[u8]) -> usize
+fn put_name(text: &mut Text, name: &[u8])
     requires { length name.now < 2 ^ 32 }
-    ensures { (result, out.new) ≡ put (name_text name.now) (at, out.old) }
+    ensures { Puts (name_text name.now) text.old text.new }
 {
     let n = name.len();
-    let i = put_decimal(out, at, n as u32);
+    text.put_decimal(n as u32);
     if n == 0 {
-        return i;
+        return;
     }
-    let i = put_text(out, i, b" ");
-    put_pairs(out, i, name)
+    text.put(b" ");
+    text.put_pairs(name);
 }
 
 // Puts the line of the module whose record stands at a place.
-fn put_module(out: &mut [u8], at: usize, records: &[u8], names: &[u8], place: usize) -> usize
+fn put_module(text: &mut Text, records: &[u8], names: &[u8], place: usize)
     requires { (m : Module) × RecordStands records.now names.now place m }
-    ensures { (result, out.new)
-        ≡ put (module_line (module_at records.now names.now place)) (at, out.old) }
+    ensures { Puts (module_line (module_at records.now names.now place)) text.old text.new }
 {
     let record = record_at(records, place);
-    let i = hex_after(out, at, b"module ", record.base);
-    let i = hex_after(out, i, b" ", record.size);
-    let i = decimal_after(out, i, b" ", record.auto_link);
-    let i = decimal_after(out, i, b" ", record.named);
-    let i = decimal_after(out, i, b" ", record.indexed);
-    let i = put_text(out, i, b" ");
-    let i = put_name(out, i, record_name(names, record));
-    put_text(out, i, b"\n")
+    hex_after(text, b"module ", record.base);
+    hex_after(text, b" ", record.size);
+    decimal_after(text, b" ", record.auto_link);
+    decimal_after(text, b" ", record.named);
+    decimal_after(text, b" ", record.indexed);
+    text.put(b" ");
+    put_name(text, record_name(names, record));
+    text.put(b"\n");
 }
 
 // Puts the lines of all modules, in load order.
-fn put_modules(out: &mut [u8], at: usize, records: &[u8], names: &[u8]) -> usize
+fn put_modules(text: &mut Text, records: &[u8], names: &[u8])
     requires { Encoded records.now names.now }
-    ensures { (result, out.new)
-        ≡ put (module_lines (modules_of records.now names.now)) (at, out.old) }
+    ensures { Puts (module_lines (modules_of records.now names.now)) text.old text.new }
 {
     let count = modules::module_count(records);
-    let mut i = at;
     let mut place: usize = 32;
-    let mut k: u32 = 0;
-    while k < count {
-        i = put_module(out, i, records, names, place);
+    for _k in 0..count {
+        put_module(text, records, names, place);
         place = record_end(record_at(records, place));
-        k += 1;
     }
-    i
 }
 
 // Puts the count of the missing names, and a line for each.
-fn put_missing(out: &mut [u8], at: usize, records: &[u8], missing: &[u8]) -> usize
+fn put_missing(text: &mut Text, records: &[u8], missing: &[u8])
     requires { (names : List ℕ) × is_register records.now names missing.now ≡ true }
-    ensures { (names : List ℕ) → (result, out.new)
-        ≡ put (missing_lines (register_of records.now names missing.now).missing) (at, out.old) }
+    ensures { (names : List ℕ) → Puts (missing_lines (register_of records.now names missing.now).missing) text.old text.new }
 {
     let count = modules::missing_count(records);
-    let mut i = decimal_after(out, at, b"missing ", count);
-    i = put_text(out, i, b"\n");
-    let mut k: u32 = 0;
-    while k < count {
-        i = put_name(out, i, modules::missing_name(missing, k));
-        i = put_text(out, i, b"\n");
-        k += 1;
+    decimal_after(text, b"missing ", count);
+    text.put(b"\n");
+    for k in 0..count {
+        put_name(text, modules::missing_name(missing, k));
+        text.put(b"\n");
     }
-    i
 }
 
 // Puts the lines of a register: its modules, and its missing names.
-pub(crate) fn put_register(
-    out: &mut [u8],
-    at: usize,
-    records: &[u8],
-    names: &[u8],
-    missing: &[u8],
-) -> usize
+pub(crate) fn put_register(text: &mut Text, records: &[u8], names: &[u8], missing: &[u8])
     requires { is_register records.now names.now missing.now ≡ true }
-    ensures { (result, out.new)
-        ≡ put
+    ensures { Puts
         (module_lines (register_of records.now names.now missing.now).modules
         ++ missing_lines (register_of records.now names.now missing.now).missing)
-        (at, out.old) }
+        text.old text.new }
 {
-    let i = put_modules(out, at, records, names);
-    put_missing(out, i, records, missing)
+    put_modules(text, records, names);
+    put_missing(text, records, missing);
 }

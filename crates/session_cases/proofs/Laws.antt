@@ -1,5 +1,5 @@
 -- From the branches to the definitions of `Cases`.
-use Rattle.std.specs.Prelude.{if◌then◌else◌}
+use Rattle.std.specs.Prelude.{if◌then◌else◌, Option, Some, None, slice_range}
 use Prim.Native.Nat.{ℕ, ◌+◌, ◌/◌, ◌≤◌, ◌<◌}
 use mathlib.Core.Path.{◌≡◌, refl, sym, ap, subst, ◌∙◌}
 use mathlib.Core.List.{List}
@@ -8,33 +8,31 @@ use native.Mathlib.Omega.{arith}
 use lib.ListN.{length, take, get_or, replicate}
 use lib.Seq.{length-take-le}
 use lib.Dec.{leb}
+use Rattle.std.proofs.Math.Nat.{sub-zero}
 use borrow.Author.Tests.{le-leb, lt-leb}
 use Rattle.register.specs.Words.{words_in}
-use Rattle.case_reader.specs.declared.append.NextPlace.{NextPlace}
-use Rattle.case_reader.specs.declared.append.NextPlace.TheVariants.{At, Full}
 use Rattle.case_reader.specs.Pieces.{pieces}
 use Rattle.text.specs.Text.{put}
 use Rattle.text.specs.Laws.{put-within}
 use Rattle.session.specs.Session.{session_text}
 use Rattle.session_cases.specs.Cases.{placed, text_of, and_then, case_over, case_at}
 use Rattle.session_cases.specs.declared.Case.{Case}
-use Rattle.session_cases.specs.declared.Case.TheVariants.{Text, Unreadable}
 
 -- the buffer, too short or long enough
 module _ (next : ℕ) (session : List ℕ) (n : ℕ) (out : List ℕ) where
-  pub short : length session < n → ◌≡◌ {A = Case × List ℕ} (Unreadable, out) (text_of next session n out)
+  pub short : length session < n → ◌≡◌ {A = Option Case × List ℕ} (None, out) (text_of next session n out)
   unfolding text_of
   short h = rw (lt-leb n (length session) h)
 
   pub enough
-      : {i : ℕ} {l : List ℕ} → n ≤ length session → ◌≡◌ {A = ℕ × List ℕ} (i, l) (put (session_text (take n session)) (0, out))
-      → ◌≡◌ {A = Case × List ℕ} (Text next i, l) (text_of next session n out)
+      : {i : ℕ} {s l : List ℕ} → n ≤ length session → s ≡ slice_range session 0 n → ◌≡◌ {A = ℕ × List ℕ} (i, l) (put (session_text s) (0, out))
+      → ◌≡◌ {A = Option Case × List ℕ} (Some (record { next = next; length = i }), l) (text_of next session n out)
   unfolding text_of placed
-  enough h e = rw (le-leb n (length session) h) (ap (placed next) e)
+  enough h f e = let g = rw sub-zero at f in rw (le-leb n (length session) h, ← g) (ap (placed next) e)
 
 -- the place, past the file or not
 module _ (file : List ℕ) (at : ℕ) (out : List ℕ) where
-  pub past : length file / 4 < at + 2 → ◌≡◌ {A = Case × List ℕ} (Unreadable, out) (case_at file at out)
+  pub past : length file / 4 < at + 2 → ◌≡◌ {A = Option Case × List ℕ} (None, out) (case_at file at out)
   unfolding case_at
   past h = rw (lt-leb (at + 2) (length file / 4) h)
 
@@ -43,22 +41,22 @@ module _ (file : List ℕ) (at : ℕ) (out : List ℕ) where
   there h = rw (le-leb (at + 2) (length file / 4) h)
 
 -- the pieces, left out or laid
-module _ (file : List ℕ) (at : ℕ) (b : List ℕ) {r : NextPlace} {l : List ℕ} {n k : ℕ} (e : n ≡ k)
-    (p : ◌≡◌ {A = NextPlace × List ℕ} (r, l) (pieces n file at b)) (f : ℕ → List ℕ → Case × List ℕ) (out : List ℕ) where
-  pub stop : r ≡ Full → ◌≡◌ {A = Case × List ℕ} (Unreadable, out) (and_then (pieces k file at b) f out)
+module _ (file : List ℕ) (at : ℕ) (b : List ℕ) {r : Option ℕ} {l : List ℕ} {n k : ℕ} (e : n ≡ k)
+    (p : ◌≡◌ {A = Option ℕ × List ℕ} (r, l) (pieces n file at b)) (f : ℕ → List ℕ → Option Case × List ℕ) (out : List ℕ) where
+  pub stop : r ≡ None → ◌≡◌ {A = Option Case × List ℕ} (None, out) (and_then (pieces k file at b) f out)
   unfolding and_then
   stop z = rw (← e, ← p, z)
 
-  pub on : {next : ℕ} → r ≡ At next → f next l ≡ and_then (pieces k file at b) f out
+  pub on : {next : ℕ} → r ≡ Some next → f next l ≡ and_then (pieces k file at b) f out
   unfolding and_then
   on z = rw (← e, ← p, z)
 
 -- a case's text ends within the buffer
-written : Case → ℕ
-written (Text next i) = i
-written Unreadable = 0
+written : Option Case → ℕ
+written (Some c) = c.length
+written None = 0
 
-abbrev TextWithin : Case × List ℕ → Type 0
+abbrev TextWithin : Option Case × List ℕ → Type 0
 TextWithin q = written q.0 ≤ length q.1
 
 text_within : (next : ℕ) (session : List ℕ) (n : ℕ) (out : List ℕ) → TextWithin (text_of next session n out)
@@ -67,16 +65,16 @@ text_within next session n out = go (leb n (length session))
   where
     go
         : (b : Bool)
-        → TextWithin (if◌then◌else◌ {A = Case × List ℕ} b (placed next (put (session_text (take n session)) (0, out))) (Unreadable, out))
+        → TextWithin (if◌then◌else◌ {A = Option Case × List ℕ} b (placed next (put (session_text (take n session)) (0, out))) (None, out))
     go true = (put-within (session_text (take n session)) 0 out (omega arith) refl).0
     go false = omega arith
 
 then-within
-    : (r : NextPlace × List ℕ) (f : ℕ → List ℕ → Case × List ℕ) (out : List ℕ) → ((e : ℕ) (b : List ℕ) → TextWithin (f e b))
+    : (r : Option ℕ × List ℕ) (f : ℕ → List ℕ → Option Case × List ℕ) (out : List ℕ) → ((e : ℕ) (b : List ℕ) → TextWithin (f e b))
     → TextWithin (and_then r f out)
 unfolding and_then written
-then-within (At e, b) f out h = h e b
-then-within (Full, b) f out h = omega arith
+then-within (Some e, b) f out h = h e b
+then-within (None, b) f out h = omega arith
 
 at-within : (file : List ℕ) (at : ℕ) (out : List ℕ) → TextWithin (case_at file at out)
 unfolding case_at case_over written
@@ -84,14 +82,14 @@ at-within file at out = go (leb (at + 2) (length file / 4))
   where
     go
         : (b : Bool)
-        → TextWithin (if◌then◌else◌ {A = Case × List ℕ} b (case_over (replicate 49156 0) file (words_in file) at out) (Unreadable, out))
+        → TextWithin (if◌then◌else◌ {A = Option Case × List ℕ} b (case_over (replicate 49156 0) file (words_in file) at out) (None, out))
     go true = then-within _ _ out (λ next session. text_within next session (get_or (words_in file) at 0) out)
     go false = omega arith
 
 pub within
-    : (file : List ℕ) (at : ℕ) (out : List ℕ) {r : Case} {l : List ℕ} {next i : ℕ}
-    → ◌≡◌ {A = Case × List ℕ} (r, l) (case_at file at out) → r ≡ Text next i → (i ≤ length l) × (i ≡ length (take i l))
+    : (file : List ℕ) (at : ℕ) (out : List ℕ) {r : Option Case} {l : List ℕ} {c : Case}
+    → ◌≡◌ {A = Option Case × List ℕ} (r, l) (case_at file at out) → r ≡ Some c → (c.length ≤ length l) × (c.length ≡ length (take c.length l))
 unfolding written
-within file at out {l = l} {i = i} e z =
-    let h : i ≤ length l = subst TextWithin (sym e ∙ ap (λ c. (c, l)) z) (at-within file at out) in
-    (h, sym (length-take-le i l h))
+within file at out {l = l} {c = c} e z =
+    let h : c.length ≤ length l = subst TextWithin (sym e ∙ ap (λ o. (o, l)) z) (at-within file at out) in
+    (h, sym (length-take-le c.length l h))

@@ -6,7 +6,6 @@
 ghost use Rattle.std.specs.Prelude.{◌≡◌};
 ghost use Rattle.session_cases.specs.Cases.{text_of, case_at};
 
-use case_reader::append::NextPlace;
 use case_reader::put_pieces;
 use reading::read_full;
 use register::words::word;
@@ -14,11 +13,11 @@ use session::session_text;
 use std::io;
 use std::io::Write;
 
-// The place of the next case and the length of this one's text, or that it cannot be read.
+// The place of the next case, and the length of this one's text.
 #[derive(Clone, Copy)]
-enum Case {
-    Text(usize, usize),
-    Unreadable,
+struct Case {
+    next: usize,
+    length: usize,
 }
 
 fn main(rt: HostRuntime) -> io::Result<()> {
@@ -31,53 +30,41 @@ fn run_cases<W: Write>(out: &mut W, file: &[u8]) -> io::Result<()> {
     let mut text = [0u8; 139264];
     let count = word(file, 0);
     let mut at: usize = 1;
-    let mut k: u32 = 0;
-    while k < count {
+    for k in 0..count {
         print_number(out, k)?;
-        match run_case(file, at, &mut text) {
-            Case::Text(next, length) => {
-                at = next;
-                out.write_all(b"\n")?;
-                out.write_all(&text[..length])?;
-            }
-            Case::Unreadable => {
-                return out.write_all(b" unreadable\n");
-            }
-        }
-        k += 1;
+        let Some(case) = run_case(file, at, &mut text) else {
+            return out.write_all(b" unreadable\n");
+        };
+        at = case.next;
+        out.write_all(b"\n")?;
+        out.write_all(&text[..case.length])?;
     }
     Ok(())
 }
 
-// Builds the session file of the case at place `at` and puts its text.
-fn run_case(file: &[u8], at: usize, out: &mut [u8]) -> Case
+// Builds the session file of the case at place `at` and puts its text; none where the case cannot be read.
+fn run_case(file: &[u8], at: usize, out: &mut [u8]) -> Option<Case>
     ensures { (result, out.new) ≡ case_at file.now at out.old }
 {
     let mut session = [0u8; 49156];
     let all = file.len() / 4;
     if all < 2 {
-        return Case::Unreadable;
+        return None;
     }
     if all - 2 < at {
-        return Case::Unreadable;
+        return None;
     }
     let n = word(file, at);
-    let NextPlace::At(next) = put_pieces(&mut session, file, at + 2, word(file, at + 1)) else {
-        return Case::Unreadable;
-    };
+    let next = put_pieces(&mut session, file, at + 2, word(file, at + 1))?;
     put_case(next, &session, n, out)
 }
 
-// Puts the text of the session file that the first n bytes of the buffer are.
-fn put_case(next: usize, session: &[u8], n: u32, out: &mut [u8]) -> Case
+// Puts the text of the session file that the first n bytes of the buffer are; none where there are not so many.
+fn put_case(next: usize, session: &[u8], n: u32, out: &mut [u8]) -> Option<Case>
     ensures { (result, out.new) ≡ text_of next session.now n out.old }
 {
-    let end = n as usize;
-    if session.len() < end {
-        return Case::Unreadable;
-    }
-    let length = session_text(&session[..end], out);
-    Case::Text(next, length)
+    let length = session_text(session.get(..n as usize)?, out);
+    Some(Case { next, length })
 }
 
 // Prints the number of case k, counted from 1.

@@ -57,12 +57,11 @@ module _ (radix i rest : ℕ) (l : List ℕ) (h : i < length l) where
 -- one byte in two digits
 
 pub pair-more
-    : (bytes : List ℕ) (k : ℕ) (p : ℕ × List ℕ) {a b : ℕ} → k < length bytes → a ≡ digit_of (get_or bytes k 0 / 16)
-    → b ≡ digit_of (get_or bytes k 0 % 16)
+    : (bytes : List ℕ) (k : ℕ) (p : ℕ × List ℕ) {v a b : ℕ} → k < length bytes → v ≡ get_or bytes k 0 → a ≡ digit_of (v / 16) → b ≡ digit_of (v % 16)
     → put (pairs_of (drop (k + 1) bytes)) (put (a ∷ b ∷ []) p) ≡ put (pairs_of (drop k bytes)) p
 unfolding pairs_of
-pair-more bytes k p h e f =
-    rw (e, f, add-one k, drop-cons bytes k 0 h) (sym (put-append (_ ∷ _ ∷ []) (pairs_of (drop (suc k) bytes)) p))
+pair-more bytes k p h w e f =
+    rw (e, f, w, add-one k, drop-cons bytes k 0 h) (sym (put-append (_ ∷ _ ∷ []) (pairs_of (drop (suc k) bytes)) p))
 
 pub pairs-done : (bytes : List ℕ) (p : ℕ × List ℕ) {k : ℕ} → length bytes ≤ k → p ≡ put (pairs_of (drop k bytes)) p
 unfolding put pairs_of

@@ -1,4 +1,6 @@
 -- Document 01: "A name is the bytes before a zero, at most 512. Address 0 reads as the empty name. Names compare as raw bytes."
+use Rattle.std.specs.declared.cmp.Ordering.{Ordering}
+use Rattle.std.specs.declared.cmp.Ordering.TheVariants.{Less, Equal, Greater}
 use Rattle.std.specs.Prelude.{if◌then◌else◌, ◌≡◌, ℕ, zero, suc, ◌+◌, ◌^◌, ◌<◌, ◌≤◌, Bool, true, false, not, ◌&&◌, ltb, ◌≢◌, ◌⊎◌, List, [], ◌∷◌, ◌++◌, length, take, drop, ◌==◌, nat_eq, nat_le, nat_lt, slice_index, slice_index_or}
 use Rattle.std.proofs.Math.Path.{refl, ap}
 use Rattle.std.proofs.Common.{sym, ◌∙◌, inl, inr, length-append, length-drop, length-take-le, get_or-take, get_or-drop, eq-eqb, ne_eqb, le-leb, lt-ltb, le-ltb, ltb-true, ltb-false}
@@ -11,8 +13,6 @@ use Rattle.window.specs.Bytes.{byte_at-add, place_on}
 use Rattle.window.specs.Tests.{both}
 use Rattle.window.specs.Access.{Prog, ret, ◌>>=◌, get8, run, run_bind, Reads, reads_bind}
 use Rattle.window.specs.Within.{In, Within, within_bind}
-use Rattle.window.specs.declared.name.NameOrder.{NameOrder}
-use Rattle.window.specs.declared.name.NameOrder.TheVariants.{Before, Same, After}
 
 -- "A name is the bytes before a zero, at most 512": here those from p on, at most n; the zero, or the n-th byte, is the last one read
 unfoldable pub name_from : ℕ → ℕ → Prog (List ℕ)
@@ -178,19 +178,19 @@ module _ (name old : List ℕ) {n : ℕ} {buffer : List ℕ} (e : (n, buffer) �
   name_taken = name-length ∙ ap length (sym name_is)
 
 -- "Names compare as raw bytes": the first byte that differs decides, and a shorter name stands before its extensions
-unfoldable pub order_of : List ℕ → List ℕ → NameOrder
-order_of [] [] = Same
-order_of [] (b ∷ t) = Before
-order_of (a ∷ s) [] = After
-order_of (a ∷ s) (b ∷ t) = if nat_lt a b then Before else (if ltb b a then After else order_of s t)
+unfoldable pub order_of : List ℕ → List ℕ → Ordering
+order_of [] [] = Equal
+order_of [] (b ∷ t) = Less
+order_of (a ∷ s) [] = Greater
+order_of (a ∷ s) (b ∷ t) = if nat_lt a b then Less else (if ltb b a then Greater else order_of s t)
 
 -- it is an order: the same only for the same name, turned round by an exchange, and transitive
-pub order_self : (a : List ℕ) → order_of a a ≡ Same
+pub order_self : (a : List ℕ) → order_of a a ≡ Equal
 unfolding order_of
 order_self [] = refl
 order_self (a ∷ s) = rw (le-ltb a a (omega arith)) (order_self s)
 
-pub order_same : (a b : List ℕ) → order_of a b ≡ Same → a ≡ b
+pub order_same : (a b : List ℕ) → order_of a b ≡ Equal → a ≡ b
 unfolding order_of
 order_same [] [] e = refl
 order_same [] (b ∷ t) e = cc
@@ -198,18 +198,18 @@ order_same (a ∷ s) [] e = cc
 order_same (a ∷ s) (b ∷ t) e = go (nat_lt a b) (nat_lt b a) refl refl e (order_same s t)
   where
     go
-        : (x y : Bool) → nat_lt a b ≡ x → nat_lt b a ≡ y → (if x then Before else (if y then After else order_of s t)) ≡ Same
-        → (order_of s t ≡ Same → s ≡ t) → ◌≡◌ {A = List ℕ} (a ∷ s) (b ∷ t)
+        : (x y : Bool) → nat_lt a b ≡ x → nat_lt b a ≡ y → (if x then Less else (if y then Greater else order_of s t)) ≡ Equal
+        → (order_of s t ≡ Equal → s ≡ t) → ◌≡◌ {A = List ℕ} (a ∷ s) (b ∷ t)
     go true y p q f ih = cc
     go false true p q f ih = cc
     go false false p q f ih =
         let e : a ≡ b = omega (arith, ltb-false a b p, ltb-false b a q) in
         rw (e, ih f)
 
-abbrev pub turned : NameOrder → NameOrder
-turned Before = After
-turned Same = Same
-turned After = Before
+abbrev pub turned : Ordering → Ordering
+turned Less = Greater
+turned Equal = Equal
+turned Greater = Less
 
 pub order_turned : (a b : List ℕ) → order_of b a ≡ turned (order_of a b)
 unfolding order_of
@@ -220,34 +220,34 @@ order_turned (a ∷ s) (b ∷ t) = go (nat_lt a b) (nat_lt b a) refl refl (order
   where
     go
         : (x y : Bool) → nat_lt a b ≡ x → nat_lt b a ≡ y → order_of t s ≡ turned (order_of s t)
-        → (if y then Before else (if x then After else order_of t s)) ≡ turned (if x then Before else (if y then After else order_of s t))
+        → (if y then Less else (if x then Greater else order_of t s)) ≡ turned (if x then Less else (if y then Greater else order_of s t))
     go true true p q ih = absurd (omega (arith, ltb-true a b p, ltb-true b a q))
     go true false p q ih = refl
     go false true p q ih = refl
     go false false p q ih = ih
 
--- what `Before` says of two names with a first byte
+-- what `Less` says of two names with a first byte
 before_cases
-    : (a b : ℕ) (s t : List ℕ) → order_of (a ∷ s) (b ∷ t) ≡ Before → (a < b) ⊎ ((a ≡ b) × (order_of s t ≡ Before))
+    : (a b : ℕ) (s t : List ℕ) → order_of (a ∷ s) (b ∷ t) ≡ Less → (a < b) ⊎ ((a ≡ b) × (order_of s t ≡ Less))
 unfolding order_of
 before_cases a b s t = go (nat_lt a b) (nat_lt b a) refl refl
   where
     go
-        : (x y : Bool) → nat_lt a b ≡ x → nat_lt b a ≡ y → (if x then Before else (if y then After else order_of s t)) ≡ Before
-        → (a < b) ⊎ ((a ≡ b) × (order_of s t ≡ Before))
+        : (x y : Bool) → nat_lt a b ≡ x → nat_lt b a ≡ y → (if x then Less else (if y then Greater else order_of s t)) ≡ Less
+        → (a < b) ⊎ ((a ≡ b) × (order_of s t ≡ Less))
     go true y p q e = inl (ltb-true a b p)
     go false true p q e = let z : ◌≡◌ {A = ℕ} 0 1 = cc in absurd (omega arith)
     go false false p q e = let l = ltb-false a b p in let m = ltb-false b a q in inr (omega arith, e)
 
-before_first : (a b : ℕ) (s t : List ℕ) → a < b → order_of (a ∷ s) (b ∷ t) ≡ Before
+before_first : (a b : ℕ) (s t : List ℕ) → a < b → order_of (a ∷ s) (b ∷ t) ≡ Less
 unfolding order_of
 before_first a b s t h = rw (lt-ltb a b h)
 
-before_rest : (a b : ℕ) (s t : List ℕ) → a ≡ b → order_of s t ≡ Before → order_of (a ∷ s) (b ∷ t) ≡ Before
+before_rest : (a b : ℕ) (s t : List ℕ) → a ≡ b → order_of s t ≡ Less → order_of (a ∷ s) (b ∷ t) ≡ Less
 unfolding order_of
 before_rest a b s t e h = rw (le-ltb a b (omega arith), le-ltb b a (omega arith)) h
 
-pub before_trans : (a b c : List ℕ) → order_of a b ≡ Before → order_of b c ≡ Before → order_of a c ≡ Before
+pub before_trans : (a b c : List ℕ) → order_of a b ≡ Less → order_of b c ≡ Less → order_of a c ≡ Less
 unfolding order_of
 before_trans [] [] c p q = cc
 before_trans [] (b ∷ t) [] p q = cc
@@ -257,8 +257,8 @@ before_trans (a ∷ s) (b ∷ t) [] p q = cc
 before_trans (a ∷ s) (b ∷ t) (c ∷ u) p q = go (before_cases a b s t p) (before_cases b c t u q) (before_trans s t u)
   where
     go
-        : (a < b) ⊎ ((a ≡ b) × (order_of s t ≡ Before)) → (b < c) ⊎ ((b ≡ c) × (order_of t u ≡ Before))
-        → (order_of s t ≡ Before → order_of t u ≡ Before → order_of s u ≡ Before) → order_of (a ∷ s) (c ∷ u) ≡ Before
+        : (a < b) ⊎ ((a ≡ b) × (order_of s t ≡ Less)) → (b < c) ⊎ ((b ≡ c) × (order_of t u ≡ Less))
+        → (order_of s t ≡ Less → order_of t u ≡ Less → order_of s u ≡ Less) → order_of (a ∷ s) (c ∷ u) ≡ Less
     go (inl h) (inl g) ih = before_first a c s u (omega arith)
     go (inl h) (inr g) ih = before_first a c s u (omega arith)
     go (inr h) (inl g) ih = before_first a c s u (omega arith)

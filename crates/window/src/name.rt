@@ -6,8 +6,10 @@ ghost use Rattle.window.specs.Trace.{run_t};
 ghost use Rattle.window.specs.Name.{name_at, name_from, no_zero, laid_over, order_of, ended};
 
 use crate::name_rows;
+use std::cmp::Ordering;
 
-// Reads the name at `address` into `buffer` and gives its length; the bytes of `buffer` past the name stay.
+// Reads the name at `address` into `buffer` and gives its length; the bytes of `buffer` past the name stay. With the name as result,
+// lent from `buffer`, no clause could say so of those bytes.
 pub fn read_name(at: u32, w: &[u8], trace: &mut [u8], address: u32, buffer: &mut [u8; 512]) -> usize
     ensures { ((result, buffer.new) ≡ laid_over (run_t at (name_at address) (w.now, trace.old)).0 buffer.old) × ((w.now, trace.new) ≡ (run_t at (name_at address) (w.now, trace.old)).1) }
 {
@@ -49,18 +51,16 @@ fn read_into(at: u32, w: &[u8], trace: &mut [u8], address: u32, buffer: &mut [u8
     if in_row(i, 512, w.len()) {
         return copy_name(&w[i..], buffer);
     }
-    let mut n: usize = 0;
     let mut p = address;
-    while n < 512 {
+    for n in 0..512 {
         let b = crate::read8(at, w, trace, p);
         if b == 0 {
             return n;
         }
         buffer[n] = b;
-        n += 1;
         p = std::num::wrapping_add_u32(p, 1);
     }
-    n
+    512
 }
 
 // Makes the accesses of the name at `address` and keeps no byte of it: none at all where 512 bytes are in a row inside, since the
@@ -83,14 +83,6 @@ pub fn touch_name(at: u32, w: &[u8], trace: &mut [u8], address: u32)
     }
 }
 
-// How one name stands to another.
-#[derive(Clone, Copy)]
-pub enum NameOrder {
-    Before,
-    Same,
-    After,
-}
-
 // The lesser of two lengths.
 fn shorter(a: usize, b: usize) -> usize
     ensures { (result ≤ a) × (result ≤ b) }
@@ -108,42 +100,39 @@ fn alike(a: &[u8], b: &[u8], n: usize) -> usize
     ensures { (result ≤ n) × (4 ≤ n - result → word_in a.now result ≢ word_in b.now result)
         × (order_of (drop result a.now) (drop result b.now) ≡ order_of a.now b.now) }
 {
-    let mut i: usize = 0;
-    while 4 <= n - i {
+    for k in 0..n / 4 {
+        let i = 4 * k;
         if crate::load32(a, i) != crate::load32(b, i) {
             return i;
         }
-        i += 4;
     }
-    i
+    4 * (n / 4)
 }
 
 // The order of what two names have from a place on.
-fn compare_from(a: &[u8], b: &[u8], from: usize) -> NameOrder
+fn compare_from(a: &[u8], b: &[u8], from: usize) -> Ordering
     requires { (from ≤ length a.now) × (from ≤ length b.now) }
     ensures { result ≡ order_of (drop from a.now) (drop from b.now) }
 {
-    let mut i = from;
-    while i < a.len() {
+    for i in from..a.len() {
         if b.len() <= i {
-            return NameOrder::After;
+            return Ordering::Greater;
         }
         if a[i] < b[i] {
-            return NameOrder::Before;
+            return Ordering::Less;
         }
         if b[i] < a[i] {
-            return NameOrder::After;
+            return Ordering::Greater;
         }
-        i += 1;
     }
-    if i < b.len() {
-        return NameOrder::Before;
+    if a.len() < b.len() {
+        return Ordering::Less;
     }
-    NameOrder::Same
+    Ordering::Equal
 }
 
 // The order of two names as raw bytes, a shorter name before its extensions.
-pub fn compare_names(a: &[u8], b: &[u8]) -> NameOrder
+pub fn compare_names(a: &[u8], b: &[u8]) -> Ordering
     ensures { result ≡ order_of a.now b.now }
 {
     let n = shorter(a.len(), b.len());
@@ -152,9 +141,9 @@ pub fn compare_names(a: &[u8], b: &[u8]) -> NameOrder
         return compare_from(a, b, i);
     }
     if crate::high32(b, i) < crate::high32(a, i) {
-        return NameOrder::After;
+        return Ordering::Greater;
     }
-    NameOrder::Before
+    Ordering::Less
 }
 
 // Whether the `count` bytes from place i on are in a row, and all of them among n.
@@ -172,7 +161,7 @@ fn in_row(i: usize, count: usize, n: usize) -> bool
 
 // The order of a name, which has no zero, and the one that a row of bytes begins with: a zero or the row's end ends it.
 // A zero among as many bytes as the name has is less than the name's byte there, so only the next byte is tested.
-fn compare_ended(name: &[u8], row: &[u8]) -> NameOrder
+fn compare_ended(name: &[u8], row: &[u8]) -> Ordering
     ensures { no_zero name.now ≡ true → result ≡ order_of name.now (ended row.now) }
 {
     let n = name.len();
@@ -183,7 +172,7 @@ fn compare_ended(name: &[u8], row: &[u8]) -> NameOrder
 }
 
 // The order of a name, which has no zero, and the one at `address`, which is compared where it stands.
-pub fn compare_name_at(at: u32, w: &[u8], name: &[u8], address: u32) -> NameOrder
+pub fn compare_name_at(at: u32, w: &[u8], name: &[u8], address: u32) -> Ordering
     ensures { no_zero name.now ≡ true → result ≡ order_of name.now (run at (name_at address) w.now).0 }
 {
     if address != 0 {
@@ -198,7 +187,7 @@ pub fn compare_name_at(at: u32, w: &[u8], name: &[u8], address: u32) -> NameOrde
 }
 
 // The order of the names at two addresses, of which the first is copied.
-fn compare_copied(at: u32, w: &[u8], first: u32, second: u32) -> NameOrder
+fn compare_copied(at: u32, w: &[u8], first: u32, second: u32) -> Ordering
     ensures { result ≡ order_of (run at (name_at first) w.now).0 (run at (name_at second) w.now).0 }
 {
     let mut buffer = [0u8; 512];
@@ -207,7 +196,7 @@ fn compare_copied(at: u32, w: &[u8], first: u32, second: u32) -> NameOrder
 }
 
 // The order of the names at two addresses, which are compared where they stand if 512 bytes from each on are inside.
-pub fn compare_names_at(at: u32, w: &[u8], first: u32, second: u32) -> NameOrder
+pub fn compare_names_at(at: u32, w: &[u8], first: u32, second: u32) -> Ordering
     ensures { result ≡ order_of (run at (name_at first) w.now).0 (run at (name_at second) w.now).0 }
 {
     let i = crate::place_of(at, first);

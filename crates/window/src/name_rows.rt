@@ -3,7 +3,7 @@ ghost use Rattle.std.specs.Prelude.{◌≡◌, ◌+◌, ◌-◌, ◌≤◌, true
 ghost use Rattle.window.specs.Word.{word_in};
 ghost use Rattle.window.specs.Name.{order_of, ended, NonZero};
 
-use crate::name::NameOrder;
+use std::cmp::Ordering;
 
 // Whether one of the four bytes from i on is 0.
 fn has_zero(a: &[u8], i: usize) -> bool
@@ -31,42 +31,39 @@ fn rows_alike(a: &[u8], b: &[u8]) -> usize
         × (order_of (ended (drop result a.now)) (ended (drop result b.now)) ≡ order_of (ended a.now) (ended b.now)) }
 {
     let n = a.len();
-    let mut i: usize = 0;
-    while 4 <= n - i {
+    for k in 0..n / 4 {
+        let i = 4 * k;
         if crate::load32(a, i) != crate::load32(b, i) {
             return i;
         }
         if has_zero(a, i) {
             return i;
         }
-        i += 4;
     }
-    i
+    4 * (n / 4)
 }
 
 // The order of the names that two rows of one length begin with from a place on.
-fn compare_rows_from(a: &[u8], b: &[u8], from: usize) -> NameOrder
+fn compare_rows_from(a: &[u8], b: &[u8], from: usize) -> Ordering
     requires { (length a.now ≡ length b.now) × (from ≤ length a.now) }
     ensures { result ≡ order_of (ended (drop from a.now)) (ended (drop from b.now)) }
 {
-    let mut i = from;
-    while i < a.len() {
+    for i in from..a.len() {
         if a[i] < b[i] {
-            return NameOrder::Before;
+            return Ordering::Less;
         }
         if b[i] < a[i] {
-            return NameOrder::After;
+            return Ordering::Greater;
         }
         if a[i] == 0 {
-            return NameOrder::Same;
+            return Ordering::Equal;
         }
-        i += 1;
     }
-    NameOrder::Same
+    Ordering::Equal
 }
 
 // The order of the names that two rows of one length begin with: a zero or the row's end ends each.
-pub(crate) fn compare_rows(a: &[u8], b: &[u8]) -> NameOrder
+pub(crate) fn compare_rows(a: &[u8], b: &[u8]) -> Ordering
     requires { length a.now ≡ length b.now }
     ensures { result ≡ order_of (ended a.now) (ended b.now) }
 {
@@ -78,7 +75,7 @@ pub(crate) fn compare_rows(a: &[u8], b: &[u8]) -> NameOrder
         return compare_rows_from(a, b, i);
     }
     if crate::high32(b, i) < crate::high32(a, i) {
-        return NameOrder::After;
+        return Ordering::Greater;
     }
-    NameOrder::Before
+    Ordering::Less
 }

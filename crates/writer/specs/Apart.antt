@@ -2,7 +2,7 @@
 use Rattle.std.specs.Prelude.{ℕ, ◌+◌, ◌-◌, ◌<◌, List, Bool, true, false, not, ◌&&◌, ◌||◌, leb}
 use Rattle.history.specs.Image.{externals, internals, count}
 use Rattle.writer_spec.specs.All.{all_below}
-use Rattle.writer_spec.specs.Words.{places_apart, word_of}
+use Rattle.writer_spec.specs.Words.{word_count, places_apart, far_apart, word_of}
 use Rattle.writer_spec.specs.declared.words.WordPlace.{WordPlace}
 use Rattle.writer_spec.specs.declared.words.WordPlace.TheVariants.{InImage, InData, InBss, Nowhere}
 use Rattle.writer_spec.specs.declared.words.Room.{Room}
@@ -32,6 +32,10 @@ module _ (F : ℕ → ℕ) (kinds : List ℕ) (room : Room) where
   -- or, with `last` the greatest key of those, it is past it
   unfoldable pub clear_of : WordPlace → (i j last : ℕ) → Bool
   clear_of w i j last = not (is_somewhere w) || (leb (last + 4) (key_of w) || apart_from w i j)
+
+  -- a word overlaps none in the lent areas, in each place, if it starts past the image's end
+  unfoldable pub far_from : WordPlace → Bool
+  far_from w = all_below (word_count F) (λ k. far_apart room w (word_of F kinds room k))
 
 -- the number of the word external i or internal j
 abbrev pub next_number : Bool → (external i j : ℕ) → ℕ

@@ -4,9 +4,10 @@ ghost use Rattle.writer_spec.specs.Description.{file_of, up_page};
 ghost use Rattle.writer_spec.specs.Words.{words_good};
 ghost use Rattle.writer_spec.specs.Accepts.{laid_out, accepts};
 
+use crate::bytes::{EXTERNALS, INTERNALS};
+use crate::words::Words;
 use crate::{apart, batches, bytes, packed, runs, strings, touched, words};
 use layout::header;
-use writer_spec::words::Room;
 
 // The relocation kinds that write a word.
 const WORD_KINDS: [u8; 3] = [2, 3, 10];
@@ -15,40 +16,34 @@ const WORD_KINDS: [u8; 3] = [2, 3, 10];
 const MOST: usize = 0xFFFF_F000;
 
 // Whether all relocated words are as a well-laid image has them.
-fn words_good(bytes: &[u8], kinds: &[u8], room: Room) -> bool
-    ensures { result ≡ words_good (file_of bytes.now) kinds.now room }
+#[tactic(auto, unfolding(writer_spec::specs::Words::words_good))]
+fn words_good(words: &Words) -> bool
+    ensures { result ≡ words_good (file_of words.now.bytes.now) words.now.kinds.now words.now.room }
 {
-    if !words::words_inside(bytes, kinds, room) {
-        return false;
-    }
-    if !apart::words_apart(bytes, kinds, room) {
-        return false;
-    }
-    if !apart::far_words_apart(bytes, kinds, room) {
-        return false;
-    }
-    touched::words_off(bytes, kinds, room)
+    words::words_inside(words)
+        && apart::words_apart(words)
+        && apart::far_words_apart(words)
+        && touched::words_off(words)
 }
 
 // Whether an image of these bytes and this size has a place, and its handler, runs, batches and words are in order in each.
+#[tactic(auto, unfolding(writer_spec::specs::Accepts::laid_out))]
 pub fn laid_out(bytes: &[u8], kinds: &[u8], size: u32) -> bool
     ensures { result ≡ laid_out (file_of bytes.now) kinds.now size }
 {
     let room = words::room_of(bytes, size);
-    if !words::place_exists(room) {
-        return false;
-    }
     let handler = bytes::word(bytes, header::ON_UNRESOLVED_SEGMENT_TAG as usize);
-    if !words::usable(bytes, handler) {
-        return false;
-    }
-    if !runs::runs_good(bytes) {
-        return false;
-    }
-    if !batches::batches_good(bytes) {
-        return false;
-    }
-    words_good(bytes, kinds, room)
+    words::place_exists(room)
+        && words::usable(bytes, handler)
+        && runs::runs_good(bytes)
+        && batches::batches_good(bytes)
+        && words_good(&Words {
+            bytes,
+            kinds,
+            room,
+            external_count: EXTERNALS.count(bytes),
+            internal_count: INTERNALS.count(bytes),
+        })
 }
 
 // The size of the image that a description makes.
@@ -60,17 +55,12 @@ pub fn image_size(length: usize) -> u32
 }
 
 // Whether the writer takes a description.
+#[tactic(auto, using(crate::proofs::accepts::Laws::too_long), unfolding(writer_spec::specs::Accepts::accepts))]
 pub fn accepts(description: &[u8]) -> bool
     ensures { result ≡ accepts description.now }
 {
-    if MOST < description.len() {
-        return false;
-    }
-    if !packed::packed(description) {
-        return false;
-    }
-    if !strings::named(description) {
-        return false;
-    }
-    laid_out(description, &WORD_KINDS, image_size(description.len()))
+    description.len() <= MOST
+        && packed::packed(description)
+        && strings::named(description)
+        && laid_out(description, &WORD_KINDS, image_size(description.len()))
 }

@@ -1,12 +1,13 @@
 // A description or an image read by offsets: bytes, words, entries of its tables and segments. Past the end all bytes are 0.
-ghost use Rattle.std.specs.Prelude.{◌≡◌, ◌+◌, ◌<◌, length};
+ghost use Rattle.std.specs.Prelude.{◌≡◌, ◌+◌, ◌-◌, ◌^◌, ◌<◌, ◌≤◌, length};
 ghost use Rattle.window.specs.Mirror.{word};
-ghost use Rattle.history.specs.Image.{segments, entry, file_segment};
+ghost use Rattle.history.specs.Image.{start, count, entry, file_segment};
 ghost use Rattle.writer_spec.specs.Description.{file_of, table_at};
 
 use layout::format::{Segment, SegmentType};
 use layout::{format, header};
 
+#[tactic(auto, unfolding(writer_spec::specs::Description::file_of))]
 pub fn byte(bytes: &[u8], o: usize) -> u8
     ensures { result ≡ file_of bytes.now o }
 {
@@ -53,32 +54,98 @@ pub fn count(bytes: &[u8], field: u32) -> u32
     word(bytes, (field as usize) + 4)
 }
 
-// The offset of entry i of the table whose offset stands at `field`, with `width` bytes an entry.
-pub fn entry(bytes: &[u8], field: u32, width: u32, i: u32) -> usize
-    ensures { result ≡ entry (file_of bytes.now) (table_at field width) i }
-{
-    (word(bytes, field as usize) as usize) + (i as usize) * (width as usize)
+// A table of the file: where its offset stands in the header, its count being the next word, and how many bytes an entry has.
+#[derive(Clone, Copy)]
+pub struct EntryTable {
+    pub field: u32,
+    pub width: u32,
 }
 
-// The word at `o` of that entry.
-pub fn entry_word(bytes: &[u8], field: u32, width: u32, i: u32, o: u32) -> u32
-    ensures { result ≡ word (file_of bytes.now) (entry (file_of bytes.now) (table_at field width) i + o) }
-{
-    word(bytes, entry(bytes, field, width, i) + (o as usize))
+pub const SEGMENTS: EntryTable = EntryTable {
+    field: header::SEGMENT_TABLE_OFFSET,
+    width: format::SEGMENT_ENTRY_SIZE,
+};
+
+pub const NAMED_EXPORTS: EntryTable = EntryTable {
+    field: header::EXPORT_NAMED_SYMBOL_TABLE_OFFSET,
+    width: format::EXPORT_NAMED_SYMBOL_ENTRY_SIZE,
+};
+
+pub const INDEXED_EXPORTS: EntryTable = EntryTable {
+    field: header::EXPORT_INDEXED_SYMBOL_TABLE_OFFSET,
+    width: format::EXPORT_INDEXED_SYMBOL_ENTRY_SIZE,
+};
+
+pub const MODULE_ENTRIES: EntryTable = EntryTable {
+    field: header::IMPORT_MODULE_TABLE_OFFSET,
+    width: format::IMPORT_MODULE_ENTRY_SIZE,
+};
+
+pub const EXTERNALS: EntryTable = EntryTable {
+    field: header::EXTERNAL_RELOCATION_TABLE_OFFSET,
+    width: format::RELOCATION_ENTRY_SIZE,
+};
+
+pub const NAMED_IMPORTS: EntryTable = EntryTable {
+    field: header::IMPORT_NAMED_SYMBOL_TABLE_OFFSET,
+    width: format::IMPORT_NAMED_SYMBOL_ENTRY_SIZE,
+};
+
+pub const INDEXED_IMPORTS: EntryTable = EntryTable {
+    field: header::IMPORT_INDEXED_SYMBOL_TABLE_OFFSET,
+    width: format::IMPORT_INDEXED_SYMBOL_ENTRY_SIZE,
+};
+
+pub const ANONYMOUS_IMPORTS: EntryTable = EntryTable {
+    field: header::IMPORT_ANONYMOUS_SYMBOL_TABLE_OFFSET,
+    width: format::IMPORT_ANONYMOUS_SYMBOL_ENTRY_SIZE,
+};
+
+pub const INTERNALS: EntryTable = EntryTable {
+    field: header::INTERNAL_RELOCATION_TABLE_OFFSET,
+    width: format::RELOCATION_ENTRY_SIZE,
+};
+
+impl EntryTable {
+    #[tactic(auto, unfolding(history::specs::Image::start))]
+    pub fn start(self, bytes: &[u8]) -> u32
+        ensures { result ≡ start (file_of bytes.now) (table_at self.field self.width) }
+    {
+        word(bytes, self.field as usize)
+    }
+
+    #[tactic(auto, unfolding(history::specs::Image::count))]
+    pub fn count(self, bytes: &[u8]) -> u32
+        ensures { result ≡ count (file_of bytes.now) (table_at self.field self.width) }
+    {
+        count(bytes, self.field)
+    }
+
+    // The offset of entry i.
+    #[tactic(auto, unfolding(history::specs::Image::entry))]
+    pub fn entry(self, bytes: &[u8], i: u32) -> usize
+        ensures place { result ≡ entry (file_of bytes.now) (table_at self.field self.width) i }
+        ensures fits { result ≤ 2 ^ 64 - 2 ^ 32 }
+    {
+        (self.start(bytes) as usize) + (i as usize) * (self.width as usize)
+    }
+
+    // The word at `o` of entry i.
+    pub fn entry_word(self, bytes: &[u8], i: u32, o: u32) -> u32
+        ensures { result ≡ word (file_of bytes.now) (entry (file_of bytes.now) (table_at self.field self.width) i + o) }
+    {
+        word(bytes, self.entry(bytes, i) + (o as usize))
+    }
 }
 
+#[tactic(auto, unfolding(history::specs::Image::file_segment))]
 pub fn segment(bytes: &[u8], i: u32) -> Segment
     ensures { result ≡ file_segment (file_of bytes.now) i }
 {
-    let at = entry(
-        bytes,
-        header::SEGMENT_TABLE_OFFSET,
-        format::SEGMENT_ENTRY_SIZE,
-        i,
-    );
+    let at = SEGMENTS.entry(bytes, i);
     Segment {
         offset: word(bytes, at),
         size: word(bytes, at + 4),
-        kind: SegmentType::from_raw(word(bytes, at + 8)),
+        kind: SegmentType::from(word(bytes, at + 8)),
     }
 }

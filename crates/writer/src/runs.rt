@@ -1,171 +1,130 @@
 // Whether the runs of module entries are runs of the header's tables of imports, and have no import in common.
-ghost use Rattle.std.specs.Prelude.{◌≡◌, ◌<◌, max};
-ghost use Rattle.history.specs.Image.{count, module_entries};
+ghost use Rattle.std.specs.Prelude.{◌≡◌, ◌+◌, ◌*◌, ◌≤◌};
 ghost use Rattle.writer_spec.specs.All.{all_below};
 ghost use Rattle.writer_spec.specs.Description.{file_of, table_at};
-ghost use Rattle.writer_spec.specs.Runs.{run_pointer, run_length, is_run, runs_inside, runs_meet_not, runs_apart, runs_good};
+ghost use Rattle.writer.specs.Runs.{run_at, imports_of};
+ghost use Rattle.writer_spec.specs.Runs.{anonymous_run, run_pointer, run_length, is_run, runs_inside, runs_meet_not, runs_apart, runs_good};
 
-use crate::bytes;
-use layout::{format, header};
+use crate::bytes::{ANONYMOUS_IMPORTS, EntryTable, INDEXED_IMPORTS, MODULE_ENTRIES};
 
-// Where a module entry has the pointer of its indexed and of its anonymous run; the count is the next word.
-pub(crate) const INDEXED_RUN: u32 = 4;
-
-pub(crate) const ANONYMOUS_RUN: u32 = 12;
-
-pub(crate) fn run_pointer(bytes: &[u8], run: u32, j: u32) -> u32
-    requires { run < 16 }
-    ensures { result ≡ run_pointer (file_of bytes.now) run j }
-{
-    bytes::entry_word(
-        bytes,
-        header::IMPORT_MODULE_TABLE_OFFSET,
-        format::IMPORT_MODULE_ENTRY_SIZE,
-        j,
-        run,
-    )
+// Which of a module entry's two runs.
+#[derive(Clone, Copy)]
+pub(crate) enum Run {
+    Indexed,
+    Anonymous,
 }
 
-pub(crate) fn run_length(bytes: &[u8], run: u32, j: u32) -> u32
-    requires { run < 16 }
-    ensures { result ≡ run_length (file_of bytes.now) run j }
-{
-    bytes::entry_word(
-        bytes,
-        header::IMPORT_MODULE_TABLE_OFFSET,
-        format::IMPORT_MODULE_ENTRY_SIZE,
-        j,
-        run + 4,
-    )
-}
-
-// Whether `length` entries from `pointer` on are entries of the table whose offset stands at `field`, with 8 bytes an entry.
-fn is_run(bytes: &[u8], field: u32, pointer: u32, length: u32) -> bool
-    ensures { result ≡ is_run (file_of bytes.now) (table_at field 8) pointer length }
-{
-    if length == 0 {
-        return true;
-    }
-    let start = bytes::word(bytes, field as usize);
-    if pointer < start {
-        return false;
-    }
-    if (pointer - start) % 8 != 0 {
-        return false;
-    }
-    (((pointer - start) / 8) as usize) + (length as usize) <= (bytes::count(bytes, field) as usize)
-}
-
-// Whether each module entry's run at `run` is a run of that table.
-fn runs_inside(bytes: &[u8], field: u32, run: u32) -> bool
-    requires { run < 16 }
-    ensures { result ≡ runs_inside (file_of bytes.now) (table_at field 8) run }
-{
-    let all = bytes::count(bytes, header::IMPORT_MODULE_TABLE_OFFSET);
-    let mut j: u32 = 0;
-    while j < all {
-        if !is_run(
-            bytes,
-            field,
-            run_pointer(bytes, run, j),
-            run_length(bytes, run, j),
-        ) {
-            return false;
+impl Run {
+    // Where a module entry has its pointer; its count is the next word.
+    pub(crate) fn offset(self) -> u32
+        ensures place { result ≡ run_at self }
+        ensures small { result ≤ anonymous_run }
+    {
+        match self {
+            Run::Indexed => 4,
+            Run::Anonymous => 12,
         }
-        j += 1;
     }
-    true
+
+    // The table of imports whose entries it has.
+    pub(crate) fn imports(self) -> EntryTable
+        ensures { table_at result.field result.width ≡ imports_of self }
+    {
+        match self {
+            Run::Indexed => INDEXED_IMPORTS,
+            Run::Anonymous => ANONYMOUS_IMPORTS,
+        }
+    }
+}
+
+// Entries of a table, one after another: where the first stands, and how many they are.
+#[derive(Clone, Copy)]
+pub(crate) struct Entries {
+    pub(crate) pointer: u32,
+    pub(crate) length: u32,
+}
+
+// The run of module entry j.
+#[tactic(auto, unfolding(writer_spec::specs::Runs::run_pointer, writer_spec::specs::Runs::run_length))]
+pub(crate) fn run_of(bytes: &[u8], run: Run, j: u32) -> Entries
+    ensures pointer { result.pointer ≡ run_pointer (file_of bytes.now) (run_at run) j }
+    ensures length { result.length ≡ run_length (file_of bytes.now) (run_at run) j }
+{
+    Entries {
+        pointer: MODULE_ENTRIES.entry_word(bytes, j, run.offset()),
+        length: MODULE_ENTRIES.entry_word(bytes, j, run.offset() + 4),
+    }
+}
+
+// Whether these are entries of a table with 8 bytes an entry.
+#[tactic(auto, unfolding(writer_spec::specs::Runs::is_run))]
+fn is_run(bytes: &[u8], table: EntryTable, run: Entries) -> bool
+    ensures { result ≡ is_run (file_of bytes.now) (table_at table.field table.width) run.pointer run.length }
+{
+    let start = table.start(bytes);
+    run.length == 0
+        || start <= run.pointer
+            && (run.pointer - start) % 8 == 0
+            && (((run.pointer - start) / 8) as usize) + (run.length as usize)
+                <= (table.count(bytes) as usize)
+}
+
+// Whether each module entry's run is a run of its table.
+fn runs_inside(bytes: &[u8], run: Run) -> bool
+    ensures { result ≡ runs_inside (file_of bytes.now) (imports_of run) (run_at run) }
+{
+    (0..MODULE_ENTRIES.count(bytes)).all(|j| is_run(bytes, run.imports(), run_of(bytes, run, j)))
+}
+
+// Where the entries of a run end.
+fn end_of(run: Entries) -> usize
+    ensures { result ≡ run.pointer + 8 * run.length }
+{
+    (run.pointer as usize) + 8 * (run.length as usize)
 }
 
 // Whether two runs have no entry in common.
-fn runs_meet_not(p: u32, n: u32, q: u32, m: u32) -> bool
-    ensures { result ≡ runs_meet_not p n q m }
+#[tactic(auto, unfolding(writer_spec::specs::Runs::runs_meet_not))]
+fn runs_meet_not(a: Entries, b: Entries) -> bool
+    ensures { result ≡ runs_meet_not a.pointer a.length b.pointer b.length }
 {
-    if n == 0 {
-        return true;
-    }
-    if m == 0 {
-        return true;
-    }
-    if (p as usize) + 8 * (n as usize) <= (q as usize) {
-        return true;
-    }
-    (q as usize) + 8 * (m as usize) <= (p as usize)
+    a.length == 0
+        || b.length == 0
+        || end_of(a) <= (b.pointer as usize)
+        || end_of(b) <= (a.pointer as usize)
 }
 
-// Whether a run of `length` entries from `pointer` on meets none of the first j entries' runs.
-fn run_meets_none(bytes: &[u8], run: u32, j: u32, pointer: u32, length: u32) -> bool
-    requires { run < 16 }
-    ensures { result ≡ all_below j (λ i. runs_meet_not (run_pointer (file_of bytes.now) run i) (run_length (file_of bytes.now) run i) pointer length) }
+// Whether these entries meet none of the first j entries' runs.
+fn run_meets_none(bytes: &[u8], run: Run, j: u32, entries: Entries) -> bool
+    ensures { result ≡ all_below j (λ i. runs_meet_not (run_pointer (file_of bytes.now) (run_at run) i) (run_length (file_of bytes.now) (run_at run) i) entries.pointer entries.length) }
 {
-    let mut i: u32 = 0;
-    while i < j {
-        if !runs_meet_not(
-            run_pointer(bytes, run, i),
-            run_length(bytes, run, i),
-            pointer,
-            length,
-        ) {
-            return false;
-        }
-        i += 1;
-    }
-    true
+    (0..j).all(|i| runs_meet_not(run_of(bytes, run, i), entries))
 }
 
 // Whether no two runs at `run` have an entry in common. One that starts past the end of all before it meets none of them.
-fn runs_apart(bytes: &[u8], run: u32) -> bool
-    requires { run < 16 }
-    ensures { result ≡ runs_apart (file_of bytes.now) run }
+fn runs_apart(bytes: &[u8], run: Run) -> bool
+    ensures { result ≡ runs_apart (file_of bytes.now) (run_at run) }
 {
-    let all = bytes::count(bytes, header::IMPORT_MODULE_TABLE_OFFSET);
-    let mut end: usize = 0;
-    let mut j: u32 = 0;
-    while j < all {
-        let pointer = run_pointer(bytes, run, j);
-        let length = run_length(bytes, run, j);
-        if length != 0 {
-            if (pointer as usize) < end {
-                if !run_meets_none(bytes, run, j, pointer, length) {
-                    return false;
-                }
+    let mut end = 0;
+    for j in 0..MODULE_ENTRIES.count(bytes) {
+        let entries = run_of(bytes, run, j);
+        if entries.length != 0 {
+            if (entries.pointer as usize) < end && !run_meets_none(bytes, run, j, entries) {
+                return false;
             }
-            end = greater(end, (pointer as usize) + 8 * (length as usize));
+            end = end.max(end_of(entries));
         }
-        j += 1;
     }
     true
 }
 
-pub(crate) fn greater(a: usize, b: usize) -> usize
-    ensures { result ≡ max a b }
-{
-    if a < b {
-        return b;
-    }
-    a
-}
-
 // Whether all runs are as a well-laid image has them.
+#[tactic(auto, unfolding(writer_spec::specs::Runs::runs_good))]
 pub fn runs_good(bytes: &[u8]) -> bool
     ensures { result ≡ runs_good (file_of bytes.now) }
 {
-    if !runs_inside(
-        bytes,
-        header::IMPORT_INDEXED_SYMBOL_TABLE_OFFSET,
-        INDEXED_RUN,
-    ) {
-        return false;
-    }
-    if !runs_inside(
-        bytes,
-        header::IMPORT_ANONYMOUS_SYMBOL_TABLE_OFFSET,
-        ANONYMOUS_RUN,
-    ) {
-        return false;
-    }
-    if !runs_apart(bytes, INDEXED_RUN) {
-        return false;
-    }
-    runs_apart(bytes, ANONYMOUS_RUN)
+    runs_inside(bytes, Run::Indexed)
+        && runs_inside(bytes, Run::Anonymous)
+        && runs_apart(bytes, Run::Indexed)
+        && runs_apart(bytes, Run::Anonymous)
 }

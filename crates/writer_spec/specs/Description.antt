@@ -1,6 +1,6 @@
 -- Document 02, Ask 1: "from a description with a header of counts, offsets and tags .. it makes a CRO image". A description has the form of an
 -- image: a header of 0x138 bytes, then its parts. F gives its byte at each offset.
-use Rattle.std.specs.Prelude.{if◌then◌else◌, ℕ, zero, suc, ◌+◌, ◌-◌, ◌*◌, ◌/◌, List, [], ◌∷◌, ◌++◌, Bool, true, false, ◌&&◌, length, get_or, eqb, ltb}
+use Rattle.std.specs.Prelude.{if◌then◌else◌, ℕ, zero, suc, ◌+◌, ◌-◌, ◌*◌, ◌/◌, List, [], ◌∷◌, ◌++◌, Option, Some, None, option_and_then, Bool, true, false, ◌&&◌, length, get_or, eqb, ltb}
 use Rattle.window.specs.Mirror.{word, put4}
 use Rattle.layout.specs.Header.{magic, name_offset, next_cro, file_size, bss_size, fixed_size, module_name_offset, module_name_size, export_strings_offset, export_strings_size, export_tree_num, import_strings_offset, import_strings_size, static_anonymous_symbol_num, static_relocation_table_offset, static_relocation_num, header_size}
 use Rattle.layout.specs.Tables.{table_entry_sizes}
@@ -8,8 +8,6 @@ use Rattle.layout.specs.declared.format.SegmentType.{SegmentType}
 use Rattle.layout.specs.declared.format.SegmentType.TheVariants.{Code, RoData, Data, Bss}
 use Rattle.history.specs.Image.{Table, segments, named_exports, module_entries, named_imports, count, entry, file_segment}
 use Rattle.writer_spec.specs.All.{all_below}
-use Rattle.writer_spec.specs.declared.packed.Reached.{Reached}
-use Rattle.writer_spec.specs.declared.packed.Reached.TheVariants.{At, Nowhere}
 
 -- bytes by their offset, 0 past the end
 unfoldable pub file_of : List ℕ → ℕ → ℕ
@@ -41,15 +39,10 @@ in_file RoData = true
 in_file Data = true
 in_file Bss = false
 
--- where one was in order, go on after it
-abbrev pub and_then : Reached → (ℕ → Reached) → Reached
-and_then (At pos) f = f pos
-and_then Nowhere f = Nowhere
-
--- all was in order, and the last ends there
-abbrev pub ends_at : Reached → ℕ → Bool
-ends_at (At pos) end = eqb pos end
-ends_at Nowhere end = false
+-- all was in order, so that there is a position after it, and the last ends there
+abbrev pub ends_at : Option ℕ → ℕ → Bool
+ends_at (Some pos) end = eqb pos end
+ends_at None end = false
 
 -- "a name above 512 bytes" is none: with its zero it has at most 513
 abbrev pub name_room : ℕ
@@ -82,12 +75,12 @@ module _ (F : ℕ → ℕ) where
   pair_blocks (suc n) k = pair_block k ∷ pair_blocks n (suc k)
 
   -- "start each at the next multiple of 4", "Pad bytes are 0": from position pos on, up to the end of the last
-  unfoldable pub block_after : (pos offset size : ℕ) → Reached
-  block_after pos offset size = if eqb offset (up4 pos) && zeros pos (up4 pos - pos) then At (offset + size) else Nowhere
+  unfoldable pub block_after : (pos offset size : ℕ) → Option ℕ
+  block_after pos offset size = if eqb offset (up4 pos) && zeros pos (up4 pos - pos) then Some (offset + size) else None
 
-  unfoldable pub packed_from : ℕ → List Block → Reached
-  packed_from pos [] = At pos
-  packed_from pos (b ∷ bs) = and_then (block_after pos b.offset b.size) (λ next. packed_from next bs)
+  unfoldable pub packed_from : ℕ → List Block → Option ℕ
+  packed_from pos [] = Some pos
+  packed_from pos (b ∷ bs) = option_and_then (λ next. packed_from next bs) (block_after pos b.offset b.size)
 
   -- "other tables empty": the export tree, static anonymous symbols and static relocations
   unfoldable pub others_empty : Bool
@@ -105,13 +98,13 @@ module _ (F : ℕ → ℕ) where
   nonzeros (suc n) p = if eqb (F p) 0 then 0 else suc (nonzeros n (suc p))
 
   -- "strings without gap in their entries' order": from position pos on, the strings of these pointers
-  unfoldable pub string_after : (pos p : ℕ) → Reached
+  unfoldable pub string_after : (pos p : ℕ) → Option ℕ
   string_after pos p =
-      if eqb p pos && ltb (nonzeros name_room p) name_room then At (pos + (nonzeros name_room p + 1)) else Nowhere
+      if eqb p pos && ltb (nonzeros name_room p) name_room then Some (pos + (nonzeros name_room p + 1)) else None
 
-  unfoldable pub strings_from : ℕ → List ℕ → Reached
-  strings_from pos [] = At pos
-  strings_from pos (p ∷ ps) = and_then (string_after pos p) (λ next. strings_from next ps)
+  unfoldable pub strings_from : ℕ → List ℕ → Option ℕ
+  strings_from pos [] = Some pos
+  strings_from pos (p ∷ ps) = option_and_then (λ next. strings_from next ps) (string_after pos p)
 
   -- the first words of n entries of a table, from entry i on
   unfoldable pub pointers : Table → (n i : ℕ) → List ℕ

@@ -11,16 +11,17 @@ returns-then-all-at c = outside _ _ _ c.if-all-at.true
 pub returns-then-all-at-2 : goal.returns-then-all-at-2
 returns-then-all-at-2 c = cut _ _ _ c.word-n.ensures (omega arith) c.if-all-at-2.true
 
-pub returns-in-At : goal.returns-in-At
+pub returns : goal.returns
 unfolding placed
-returns-in-At c =
+returns c =
     let p = c.put_bytes in
-    ap (placed _) (ap (λ r. (r, p.new.buffer)) (sym c.in-At.is))
+    ap (placed _) (ap (λ r. (r, p.new.buffer)) (sym c.in_ok-put_bytes.was))
     ∙ inside _ _ _ c.word-n.ensures c.word.ensures (omega arith) (omega arith) p.ensures
 
-pub returns-in-Full : goal.returns-in-Full
+pub returns-in_err-put_bytes : goal.returns-in_err-put_bytes
 unfolding placed
-returns-in-Full c =
+returns-in_err-put_bytes c =
     let p = c.put_bytes in
-    ap (placed _) (ap (λ r. (r, p.new.buffer)) (sym c.in-Full.is))
-    ∙ inside _ _ _ c.word-n.ensures c.word.ensures (omega arith) (omega arith) p.ensures
+    rw c.from_residual.ensures
+    (ap (placed _) (ap (λ r. (r, p.new.buffer)) (sym c.in_err-put_bytes.was))
+    ∙ inside _ _ _ c.word-n.ensures c.word.ensures (omega arith) (omega arith) p.ensures)

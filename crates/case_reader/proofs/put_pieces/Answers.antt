@@ -1,28 +1,21 @@
-use mathlib.Core.Path.{◌≡◌, refl, ◌∙◌}
+use mathlib.Core.Path.{◌≡◌, ◌∙◌}
+use Prim.Native.Nat.{◌+◌, ◌-◌}
 use native.Mathlib.Omega.{arith}
 use Rattle.case_reader.specs.Pieces.{pieces}
 use Rattle.case_reader.proofs.Laws.{pieces-stop, pieces_on}
 use Rattle.case_reader.proofs.put_pieces.Goals as goal
 
-pub loop-left-init : goal.loop-left-init
-loop-left-init c = (refl, refl)
+pub returns-in_err-place : goal.returns-in_err-place
+returns-in_err-place c =
+    rw c.from_residual.ensures (pieces-stop _ _ _ _ (omega arith) c.put_piece.ensures c.in_err-place.was ∙ c.loop-k.invariant.1)
 
-pub put_piece-requires : goal.put_piece-requires
-put_piece-requires c = tt
-
-pub returns-in-Full : goal.returns-in-Full
-returns-in-Full c =
-    let l = c.loop-left in
-    pieces-stop _ _ _ _ (omega arith) c.put_piece.ensures c.in-Full.is ∙ l.invariant.1
-
-pub loop-left-preserved : goal.loop-left-preserved
-loop-left-preserved c =
-    let l = c.loop-left in (
-      omega arith,
-      pieces_on _ _ _ _ (omega arith) c.put_piece.ensures c.in-At.is
-          ∙ l.invariant.1,
-    )
+pub loop-k-preserved : goal.loop-k-preserved
+loop-k-preserved c =
+    let l = c.loop-k in
+    let n = c.args.count in
+    let e : n - (l._k + 1) ≡ n - l._k - 1 = omega arith in
+    (c.put_piece.auto.buffer ∙ l.invariant.0, rw e (pieces_on _ _ _ _ (omega arith) c.put_piece.ensures c.in_ok-place.was ∙ l.invariant.1))
 
 pub returns : goal.returns
 unfolding pieces
-returns c = let z : c.loop-left.left ≡ 0 = omega arith in rw z at c.loop-left.invariant.1
+returns c = let z : c.args.count - c.loop-k._k ≡ 0 = omega arith in rw z at c.loop-k.invariant.1

@@ -1,8 +1,7 @@
 -- What the words of a desk's bytes say of its places.
 use Rattle.std.specs.Prelude.{if◌then◌else◌}
-use Rattle.std.proofs.Common.{◌≡◌, ℕ, zero, suc, ◌+◌, ◌-◌, ◌*◌, ◌<◌, ◌≤◌, Bool, true, false, leb, List, [], length, get_or, drop, sym, refl, ap, ◌∙◌, arith, length-take, get_or-drop, get_or-take, le-leb, leb-false, leb-true}
+use Rattle.std.proofs.Common.{◌≡◌, ℕ, zero, suc, ◌+◌, ◌-◌, ◌*◌, ◌<◌, ◌≤◌, min, Bool, true, false, leb, List, [], length, get_or, drop, sym, refl, ap, ◌∙◌, arith, length-take, get_or-drop, get_or-take, leb-false, leb-true}
 use lib.ListN.{get_or-eq_default}
-use borrow.Author.Tests.{lt-leb}
 use Rattle.register.specs.Words.{part, words_in, length-words}
 use Rattle.register.specs.Lists.{length_part}
 use Rattle.desk_spec.specs.Desk.{Place, place, place_at, oldest}
@@ -10,11 +9,12 @@ use Rattle.desk_spec.specs.Bytes.{at_most, place_start, place_in, places_in, des
 
 -- a count above its limit is the limit
 
-pub at_limit : (limit n : ℕ) → limit ≤ n → limit ≡ at_most limit n
-at_limit limit n h = rw (le-leb limit n h)
-
-pub below_limit : (limit n : ℕ) → n < limit → n ≡ at_most limit n
-below_limit limit n h = rw (lt-leb limit n h)
+pub limited : (limit n : ℕ) → min n limit ≡ at_most limit n
+limited limit n = go (leb limit n) refl
+  where
+    go : (b : Bool) → leb limit n ≡ b → min n limit ≡ (if b then limit else n)
+    go true e = let h = leb-true limit n e in omega arith
+    go false e = let h = leb-false limit n e in omega arith
 
 pub within_limit : (limit n : ℕ) → at_most limit n ≤ limit
 within_limit limit n = go (leb limit n) refl

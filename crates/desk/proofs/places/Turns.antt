@@ -1,9 +1,7 @@
 -- Whose place is whose, whose turn it is, and what `send` answers.
-use Rattle.std.specs.Prelude.{if◌then◌else◌}
-use Rattle.std.proofs.Common.{◌≡◌, ℕ, suc, ◌+◌, ◌<◌, ◌≤◌, Bool, true, false, ◌||◌, ltb, leb, List, [], ◌∷◌, length, drop, sym, refl, ap, ◌∙◌, add-one, arith, drop_of_length-le, drop-cons, ltb-false, le-ltb, lt-ltb, eq-eqb, ne_eqb, le-leb}
+use Rattle.std.specs.Prelude.{if◌then◌else◌, MatchOption}
+use Rattle.std.proofs.Common.{◌≡◌, ℕ, suc, ◌+◌, ◌<◌, ◌≤◌, Bool, true, false, ◌||◌, ltb, leb, List, [], ◌∷◌, length, drop, refl, ap, ◌∙◌, add-one, arith, drop_of_length-le, drop-cons, ltb-false, le-ltb, lt-ltb, eq-eqb, ne_eqb, le-leb, Option, Some, None}
 use borrow.Author.Tests.{lt-leb}
-use Rattle.desk_spec.specs.declared.place.Turn.{Turn}
-use Rattle.desk_spec.specs.declared.place.Turn.TheVariants.{Nobody, Of}
 use Rattle.desk_spec.specs.declared.place.Change.TheVariants.{Sent}
 use Rattle.desk_spec.specs.Desk.{Place, place, place_at, place_of, no_room_for, changed, first_waiting, or_else, turn_of}
 use Rattle.desk_spec.specs.Bytes.{desk_of, place_word, with_desk}
@@ -35,7 +33,7 @@ module _ (caller : ℕ) (places : List Place) (i : ℕ) where
 -- the first place at which a buffer waits
 
 module _ (places : List Place) (i : ℕ) where
-  pub waits_here : i < length places → (place_word (place_at places i) 1 ≡ 0 → ⊥) → Of i ≡ first_waiting i (drop i places)
+  pub waits_here : i < length places → (place_word (place_at places i) 1 ≡ 0 → ⊥) → Some i ≡ first_waiting i (drop i places)
   unfolding place_word first_waiting
   waits_here h n = rw (places_from places i h, ne_eqb _ _ n)
 
@@ -43,38 +41,41 @@ module _ (places : List Place) (i : ℕ) where
   unfolding place_word first_waiting
   waits_later h e = rw (places_from places i h, eq-eqb _ _ e) (ap (λ k. first_waiting k (drop (i + 1) places)) (add-one i))
 
-  pub waits_nowhere : length places ≤ i → Nobody ≡ first_waiting i (drop i places)
+  pub waits_nowhere : length places ≤ i → None ≡ first_waiting i (drop i places)
   unfolding first_waiting
   waits_nowhere h = rw (drop_of_length-le places h)
 
-not_nobody : {i : ℕ} → Nobody ≡ Of i → ⊥
+not_nobody : {i : ℕ} → None ≡ Some i → ⊥
 not_nobody e = let z : ◌≡◌ {A = ℕ} 0 1 = cc in omega arith
 
 -- whose turn it is
 
-pub turn-short : (bytes : List ℕ) → length bytes < 592 → Nobody ≡ turn_at bytes
+pub turn-short : (bytes : List ℕ) → length bytes < 592 → None ≡ turn_at bytes
 unfolding turn_at
 turn-short bytes h = rw (lt-ltb (length bytes) 592 h)
 
-module _ (bytes : List ℕ) (long : 592 ≤ length bytes) {n : ℕ} (en : n ≡ (desk_of bytes).next) {t : Turn}
+module _ (bytes : List ℕ) (long : 592 ≤ length bytes) {n : ℕ} (en : n ≡ (desk_of bytes).next) {t : Option ℕ}
     (et : t ≡ first_waiting n (drop n (desk_of bytes).places)) where
   turn_is : or_else t (first_waiting 0 (desk_of bytes).places) ≡ turn_at bytes
   unfolding turn_at turn_of
   turn_is = rw (le-ltb (length bytes) 592 long, et, en)
 
-  pub turn_on : {i : ℕ} → t ≡ Of i → Of i ≡ turn_at bytes
-  turn_on {i} e = ap (λ u. or_else u (first_waiting 0 (desk_of bytes).places)) (sym e) ∙ turn_is
-
-  pub turn_round : t ≡ Nobody → first_waiting 0 (desk_of bytes).places ≡ turn_at bytes
-  turn_round e = ap (λ u. or_else u (first_waiting 0 (desk_of bytes).places)) (sym e) ∙ turn_is
+  -- what was found from `next` on, or round from the start
+  pub turn_found
+      : {r : Option ℕ} {P : Type 0} → MatchOption t P (λ i. r ≡ Some i) → (P → r ≡ first_waiting 0 (desk_of bytes).places) → r ≡ turn_at bytes
+  turn_found {r} {P} m f = go t _ _ turn_is m f
+    where
+      go : (t u v : Option ℕ) → or_else t u ≡ v → MatchOption t P (λ i. r ≡ Some i) → (P → r ≡ u) → r ≡ v
+      go None u v e m f = f m ∙ e
+      go (Some i) u v e m f = m ∙ e
 
 -- a turn that serves a place is at a desk that has it
-pub turn_inside : (bytes : List ℕ) (i : ℕ) → turn_at bytes ≡ Of i → (592 ≤ length bytes) × (i < length (desk_of bytes).places)
+pub turn_inside : (bytes : List ℕ) (i : ℕ) → turn_at bytes ≡ Some i → (592 ≤ length bytes) × (i < length (desk_of bytes).places)
 unfolding turn_at
 turn_inside bytes i e = go (ltb (length bytes) 592) refl e
   where
     go
-        : (b : Bool) → ltb (length bytes) 592 ≡ b → (if b then Nobody else turn_of (desk_of bytes)) ≡ Of i
+        : (b : Bool) → ltb (length bytes) 592 ≡ b → (if b then None else turn_of (desk_of bytes)) ≡ Some i
         → (592 ≤ length bytes) × (i < length (desk_of bytes).places)
     go true b e = absurd (not_nobody e)
     go false b e = (ltb-false (length bytes) 592 b, waits-within (desk_of bytes).places i (turn_serves (desk_of bytes) i e).0)

@@ -1,6 +1,6 @@
 -- A desk's bytes as they are copied and written, a word at a time.
-use Rattle.std.proofs.Common.{◌≡◌, ℕ, zero, suc, ◌+◌, ◌*◌, ◌<◌, ◌≤◌, List, [], ◌∷◌, ◌++◌, length, get_or, take, set, sym, refl, ap, ◌∙◌, append-nil, add-one, arith, drop_of_length-le, length-take-le, get_or-take, take-take}
-use lib.Seq.{sets, paste, paste-suc}
+use Rattle.std.proofs.Common.{◌≡◌, ℕ, zero, suc, ◌+◌, ◌*◌, ◌≤◌, List, [], ◌∷◌, ◌++◌, length, get_or, take, sym, refl, ap, ◌∙◌, add-one, arith, get_or-take, take-take}
+use lib.Seq.{sets}
 use Rattle.window.specs.Word.{set_word_in}
 use Rattle.register.specs.Words.{part, words_in, flat, words_take}
 use Rattle.register.specs.Append.Sets.{push_laid}
@@ -46,22 +46,6 @@ module _ (bytes : List ℕ) {copy : List ℕ} (e : copy ≡ take 592 bytes) wher
   pub copy_desk : desk_of copy ≡ desk_of bytes
   unfolding desk_of
   copy_desk = ap (λ l. desk_in (words_in l)) e ∙ ap desk_in (words_take 148 bytes) ∙ desk_of-take (words_in bytes) 148 (omega arith)
-
-  pub copy_length : 592 ≤ length bytes → 592 ≡ length copy
-  copy_length long = sym (ap length e ∙ length-take-le 592 bytes long)
-
--- bytes copied one after another, from the start
-
-pub one_copied
-    : (from to : List ℕ) (i : ℕ) → i < length from → i < length to → set (paste to 0 from i) i (get_or from i 0) ≡ paste to 0 from (i + 1)
-one_copied from to i in-from in-to =
-    let e : i ≡ 0 + i = omega arith in
-    ap (λ k. set (paste to 0 from i) k (get_or from i 0)) e
-    ∙ paste-suc to 0 from i 0 (omega arith) in-from
-    ∙ ap (paste to 0 from) (sym (add-one i))
-
-pub all_copied : (from to : List ℕ) (n : ℕ) → length to ≡ n → paste to 0 from n ≡ take n from
-all_copied from to n e = let h : length to ≤ 0 + n = omega arith in rw (drop_of_length-le to h, append-nil)
 
 -- words written one after another
 

@@ -6,9 +6,10 @@ use Rattle.window.specs.Access.{Prog, ◌>>=◌}
 use Rattle.window.specs.Within.{Low, Agree}
 use Rattle.window.specs.Mirror.{run_m}
 use Rattle.register.specs.Module.{Module, Register}
-use Rattle.linker_spec.specs.declared.rebase.Rebased.{Rebased}
+use Rattle.linker_spec.specs.Refusal.{Rebased}
 use Rattle.linker_spec.specs.Relocation.{reset_external_relocations}
-use Rattle.linker_spec.specs.Calls.{Answer, NotACro, BadSegment, add_record}
+use Rattle.linker_spec.specs.Calls.{Answer, add_record, Refused}
+use Rattle.linker_spec.specs.declared.refusal.Refusal.TheVariants.{NotACro, BadSegment}
 use Rattle.history.specs.LoadedModule.{Image, base_of, size_of, Area}
 use Rattle.history.specs.WellLaid.{WellLaid}
 use Rattle.history.specs.Steps.Wp.{Memory, Does, SameOutside, run_m_bind, does_ret, does_then, does_wider}
@@ -51,8 +52,8 @@ module _ (S : ℕ → Type 0) (Q : Answer → Memory → Type 0) (m : Image) (la
       go
           : (x : Rebased) (M : Memory) → M ≡ (run_m step B).1 → RebaseLeaves m x M → SameOutside (Area m) B M
           → Does S (add_record records names r at (size_of m.load_call) auto next x) Q M
-      go x M e (inl z) k = rw z (does_ret S (refuses NotACro M (inl refl) k))
-      go x M e (inr (inl z)) k = rw z (does_ret S (refuses BadSegment M (inr refl) k))
+      go x M e (inl z) k = rw z (does_ret S (refuses (Refused NotACro) M (inl refl) k))
+      go x M e (inr (inl z)) k = rw z (does_ret S (refuses (Refused BadSegment) M (inr refl) k))
       go x M e (inr (inr h)) k =
           let reset = reset_stands m laid low bytes h.1 h.2 in
           let both : Does (Area m) (step >>= λ _. reset_external_relocations at) (λ _ _. Unit {0}) B =

@@ -1,10 +1,8 @@
 -- What `load` does after the record is read: the new module, number n, enters the list, is linked, serves the others and is fixed.
-use Rattle.std.specs.Prelude.{ℕ, suc, ◌≤◌, ◌<◌, ◌≡◌, refl, ◌≢◌, List, [], ◌∷◌, ◌++◌, true, false, length}
+use Rattle.std.specs.Prelude.{ℕ, suc, ◌≤◌, ◌<◌, ◌≡◌, refl, ◌≢◌, List, [], ◌∷◌, ◌++◌, true, false, length, Some, None}
 use Rattle.std.proofs.Common.{sym, ap, ◌∙◌, arith}
-use Rattle.std.proofs.Math.Option.{none}
 use Rattle.std.proofs.Math.Decide.{ℕ_discrete}
 use Rattle.window.specs.Access.{Prog, ◌>>=◌}
-use Rattle.register.specs.declared.words.Crs.TheVariants.{Known}
 use Rattle.register.specs.Module.{Module, Register}
 use Rattle.register.specs.Change.{appended}
 use Rattle.linker_spec.specs.declared.rebase.LoadArguments.{LoadArguments}
@@ -89,7 +87,7 @@ module _ (E : Modules) (sound : Sound E) where
       (once : (t : ℕ) → t < suc n → (i : Import) (j k p q : ℕ) → j < suc n → k < suc n → Exports (E.image j) (E.image t) i p
       → Exports (E.image k) (E.image t) i q → j ≡ k)
       (names : (j k : ℕ) → j < suc n → k < suc n → module_name (E.image j).file ≡ module_name (E.image k).file → j ≡ k)
-      (r : Register) (recs : RecordedAll E.image r.modules) (many : length r.modules ≡ n) (crs : r.crs ≡ Known (b 0))
+      (r : Register) (recs : RecordedAll E.image r.modules) (many : length r.modules ≡ n) (crs : r.crs ≡ Some (b 0))
       (k : Module) (rec : Recorded (E.image n) k) where
     abbrev ms : List Module
     ms = r.modules ++ (k ∷ [])
@@ -114,7 +112,7 @@ module _ (E : Modules) (sound : Sound E) where
     enters_list w h = rw crs (enters E sound nonzero n few some w h)
 
     -- its own imports
-    module _ {φ : ℕ → Links} {x y : ℕ → ℕ} {M : Memory} (fresh : φ n ≡ λ _. none) (w : AllModulesShow E φ x y M) where
+    module _ {φ : ℕ → Links} {x y : ℕ → ℕ} {M : Memory} (fresh : φ n ≡ λ _. None) (w : AllModulesShow E φ x y M) where
       imports_modules_show
           : {A : Type 0} (missing : List (List ℕ)) (f : List (List ℕ) → Prog A) {Q : A → Memory → Type 0}
           → ((ψ : Links) (xs : List (List ℕ)) (N : Memory) → LinksResolved (suc n) E.image (E.image n) ψ → AllModulesShow E (put φ n ψ) x y N → Does S (f xs) Q N)
@@ -168,7 +166,7 @@ module _ (E : Modules) (sound : Sound E) where
         : (l : LoadArguments) → l.base ≡ b n → l.size ≡ size_of (E.image n).load_call → (level : ℕ) → level ≢ 2 → level ≢ 3 → {Q : Answer → Memory → Type 0}
         → ((fixed : ℕ) (missing : List (List ℕ)) (N : Memory) (φ : ℕ → Links) (x y : ℕ → ℕ) → AllModulesShow (fixed_modules E n level) φ x y N
         → ListWords b (suc n) x y → AllResolved φ → Q (Done fixed (missing_now (appended r k) missing)) N)
-        → {φ : ℕ → Links} {x y : ℕ → ℕ} {M : Memory} → φ n ≡ (λ _. none) → ((j : ℕ) → j < n → LinksResolved n E.image (E.image j) (φ j))
+        → {φ : ℕ → Links} {x y : ℕ → ℕ} {M : Memory} → φ n ≡ (λ _. None) → ((j : ℕ) → j < n → LinksResolved n E.image (E.image j) (φ j))
         → AllModulesShow E φ x y M → ListWords b n x y → Does S (linked r l true level k) Q M
     unfolding linked appended
     links_in l at size level c d {Q} end {φ} {x} {y} {M} fresh rest w h =

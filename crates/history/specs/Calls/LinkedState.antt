@@ -1,9 +1,8 @@
 -- Between calls: the modules stand and are listed, their links are at rest, and the register has their records.
-use Rattle.std.specs.Prelude.{ℕ, zero, suc, pred, ◌<◌, ◌≡◌, refl, ◌≢◌, List, [], ◌∷◌, length}
+use Rattle.std.specs.Prelude.{ℕ, zero, suc, pred, ◌<◌, ◌≡◌, refl, ◌≢◌, List, [], ◌∷◌, length, Some}
 use Rattle.std.proofs.Common.{sym, ◌∙◌, arith}
 use Rattle.std.proofs.Math.Decide.{dec_lt, ℕ_discrete}
 use Rattle.window.specs.Within.{Low}
-use Rattle.register.specs.declared.words.Crs.TheVariants.{Known}
 use Rattle.register.specs.Module.{Module, Register}
 use Rattle.history.specs.LoadedModule.{Image, base_of, Area}
 use Rattle.history.specs.WellLaid.{WellLaid}
@@ -32,7 +31,7 @@ pub record LinkedState (C : Modules) (φ : ℕ → Links) (next previous : ℕ �
 pub record RegisterMatches (C : Modules) (r : Register) : Type 0 where
   pub recorded : RecordedAll C.image r.modules
   pub many : length r.modules ≡ C.number
-  pub crs : r.crs ≡ Known (base_in C 0)
+  pub crs : r.crs ≡ Some (base_in C 0)
 
 -- at rest: with some links and list words
 pub record AtRest (C : Modules) (r : Register) (M : Memory) : Type 0 where

@@ -1,22 +1,21 @@
 -- `load` of a well-laid module: a refusal, or one module more, all listed again and all links at rest.
 use Prim.Native.Nat.{ℕ, suc, ◌^◌, ◌<◌}
-use Rattle.std.specs.Prelude.{if◌then◌else◌, ◌≡◌, refl, ◌≢◌, List, Bool, false}
+use Rattle.std.specs.Prelude.{if◌then◌else◌, ◌≡◌, refl, ◌≢◌, List, Bool, false, Some, None}
 use Rattle.std.proofs.Common.{sym, ◌∙◌, inl, inr, arith}
 use Rattle.std.proofs.Math.Path.{ap}
-use Rattle.std.proofs.Math.Option.{none}
 use Rattle.std.proofs.Math.Bool.{true}
 use Rattle.std.proofs.Math.Decide.{ℕ_discrete}
 use Rattle.window.specs.Access.{ret}
 use Rattle.window.specs.Within.{Low, Agree}
 use Rattle.window.specs.Mirror.{word}
 use Rattle.layout.specs.Header.{next_cro, previous_cro}
-use Rattle.register.specs.declared.words.Crs.TheVariants.{Known}
 use Rattle.register.specs.Module.{Module, Register}
 use Rattle.register.specs.Change.{appended}
 use Rattle.linker_spec.specs.declared.rebase.LoadArguments.{LoadArguments}
 use Rattle.linker_spec.specs.Exports.{read_module}
 use Rattle.linker_spec.specs.Calls as calls
-use Rattle.linker_spec.specs.Calls.{Answer, NotACro, BadSegment, NoRoom, Done, fits, rebase, missing_now, linked}
+use Rattle.linker_spec.specs.Calls.{Answer, Done, fits, rebase, missing_now, linked, Refused}
+use Rattle.linker_spec.specs.declared.refusal.Refusal.TheVariants.{NoRoom}
 use Rattle.history.specs.Below.{length_more}
 use Rattle.history.specs.Image.{module_name}
 use Rattle.history.specs.LoadedModule.{loaded, Image, base_of, Area}
@@ -53,11 +52,7 @@ pub record LoadSucceeded (C : Modules) (l : LoadArguments) (m : Image) (level : 
 -- what is said of the answer
 unfoldable pub LoadAnswered : Modules → LoadArguments → Image → ℕ → Memory → Answer → Memory → Type 0
 LoadAnswered C l m level B (Done v s) N = LoadSucceeded C l m level B s N
-LoadAnswered C l m level B NotACro N = Unit {0}
-LoadAnswered C l m level B BadSegment N = Unit {0}
-LoadAnswered C l m level B Answer.BadWindow N = Unit {0}
-LoadAnswered C l m level B Answer.NoRegister N = Unit {0}
-LoadAnswered C l m level B NoRoom N = Unit {0}
+LoadAnswered C l m level B (Refused refusal) N = Unit {0}
 LoadAnswered C l m level B Answer.NotLoaded N = Unit {0}
 
 -- the areas of all and of the new one
@@ -80,20 +75,20 @@ module _ (C : Modules) (m : Image) (laid : WellLaid m) (low : Low (Area m))
   -- the new one stands beside the others, without links
   modules_show_new
       : (N : Memory) → Arrived m B N
-      → AllModulesShow (extended C m N) (put φ n (λ _. none)) (put x n (word m.file next_cro)) (put y n (word m.file previous_cro)) N
+      → AllModulesShow (extended C m N) (put φ n (λ _. None)) (put x n (word m.file next_cro)) (put y n (word m.file previous_cro)) N
   modules_show_new N h =
       record {
         stands =
             each C m N
-            (λ k z U. Stands z U (put φ n (λ _. none) k) (put x n (word m.file next_cro) k) (put y n (word m.file previous_cro) k) N) old
-            (rw (put_same φ n (λ _. none), put_same x n (word m.file next_cro), put_same y n (word m.file previous_cro)) h.stands);
+            (λ k z U. Stands z U (put φ n (λ _. None) k) (put x n (word m.file next_cro) k) (put y n (word m.file previous_cro) k) N) old
+            (rw (put_same φ n (λ _. None), put_same x n (word m.file next_cro), put_same y n (word m.file previous_cro)) h.stands);
       }
     where
       old : (k : ℕ) → k < n
-          → Stands (C.image k) (C.rest k) (put φ n (λ _. none) k) (put x n (word m.file next_cro) k) (put y n (word m.file previous_cro) k) N
+          → Stands (C.image k) (C.rest k) (put φ n (λ _. None) k) (put x n (word m.file next_cro) k) (put y n (word m.file previous_cro) k) N
       old k l =
           let o : k ≢ n = λ e. absurd (omega (arith, e)) in
-          rw (put_other φ n (λ _. none) k o, put_other x n (word m.file next_cro) k o, put_other y n (word m.file previous_cro) k o)
+          rw (put_other φ n (λ _. None) k o, put_other x n (word m.file next_cro) k o, put_other y n (word m.file previous_cro) k o)
           (record {
             shows =
                 shows_agree (C.image k) (linked_state.sound.laid k l) (λ q s. sym (h.outside q (λ u. off k q l s u))) (linked_state.modules_show.stands k l).shows;
@@ -124,8 +119,8 @@ module _ (C : Modules) (m : Image) (laid : WellLaid m) (low : Low (Area m))
       old-recorded =
           recorded-same C.image E.image r.modules (λ k l. sym (image_old C m T k (rw register_matches.many at l))) register_matches.recorded
 
-      old-crs : r.crs ≡ Known (base_in E 0)
-      old-crs = register_matches.crs ∙ ap Known (old_base 0 linked_state.some)
+      old-crs : r.crs ≡ Some (base_in E 0)
+      old-crs = register_matches.crs ∙ ap Some (old_base 0 linked_state.some)
 
       book_new : (k : Module) → Recorded m k → (missing : List (List ℕ)) → RegisterMatches E (missing_now (appended r k) missing)
       unfolding missing_now appended
@@ -220,7 +215,7 @@ module _ (C : Modules) (l : LoadArguments) (auto : Bool) (level : ℕ) (f : ℕ 
           }
 
       joins : (N : Memory) → Brought m (rebase l) B N → (k : Module) → Recorded m k → (fit : Bool)
-          → Does S (if fit then linked r l true level k else ret NoRoom) Q N
+          → Does S (if fit then linked r l true level k else ret (Refused NoRoom)) Q N
       joins N g k rec false = does_ret S tt
       joins N g k rec true =
           let new = image_new C m N in
@@ -228,7 +223,7 @@ module _ (C : Modules) (l : LoadArguments) (auto : Bool) (level : ℕ) (f : ℕ 
           (new_nonzero C m laid low off linked_state N nonzero) C.number refl linked_state.some (rw new refl) once names r
           (old-recorded C m laid low off linked_state N r register_matches) register_matches.many (old-crs C m laid low off linked_state N r register_matches) k (rw new rec) l (rw new refl)
           (rw new refl) level c d {Q = Q} (λ fixed missing L ψ u v w h rest. came N g k rec missing L ψ u v w h rest)
-          (put_same φ C.number (λ _. none)) (resolved_old C m laid low off linked_state N (λ _. none)) (modules_show_new C m laid low off linked_state N g.loaded_modules)
+          (put_same φ C.number (λ _. None)) (resolved_old C m laid low off linked_state N (λ _. None)) (modules_show_new C m laid low off linked_state N g.loaded_modules)
           (listed-old C m laid low off linked_state N (word f next_cro) (word f previous_cro))
 
       after : (N : Memory) → Brought m (rebase l) B N → Does S (recorded recordRoom name_room r l.base l.size true (linked r l true level)) Q N

@@ -1,9 +1,8 @@
 -- `initialize` of a well-laid CRS with no module before it: a refusal, or the CRS stands alone, without links and list words.
 use Prim.Native.Nat.{ℕ, zero, suc, ◌<◌}
-use Rattle.std.specs.Prelude.{if◌then◌else◌, ◌≡◌, ◌≢◌, [], Bool, false}
+use Rattle.std.specs.Prelude.{if◌then◌else◌, ◌≡◌, ◌≢◌, [], Bool, false, None}
 use Rattle.std.proofs.Math.Path.{refl, sym}
 use Rattle.std.proofs.Common.{inl, inr, lit<}
-use Rattle.std.proofs.Math.Option.{none}
 use Rattle.std.proofs.Math.Bool.{true}
 use native.Mathlib.Omega.{arith}
 use Rattle.window.specs.Access.{Prog, ret, ◌>>=◌}
@@ -15,7 +14,8 @@ use Rattle.register.specs.Module.{Module, Register}
 use Rattle.register.specs.Change.{appended, with_crs}
 use Rattle.linker_spec.specs.Exports.{read_module}
 use Rattle.linker_spec.specs.Calls as calls
-use Rattle.linker_spec.specs.Calls.{Answer, NotACro, BadSegment, NoRoom, Done, fits, rebase_static}
+use Rattle.linker_spec.specs.Calls.{Answer, Done, fits, rebase_static, Refused}
+use Rattle.linker_spec.specs.declared.refusal.Refusal.TheVariants.{NoRoom}
 use Rattle.history.specs.LoadedModule.{initialized, Image, base_of, Area}
 use Rattle.history.specs.Imports.{Exporter}
 use Rattle.history.specs.WellLaid.{WellLaid}
@@ -41,7 +41,7 @@ alone m T = record { number = 1; image = λ _. m; rest = λ _. T }
 -- T is what the bytes before the call say, those of its areas alone
 pub record Started (m : Image) (B : Memory) (s : Register) (N : Memory) : Type 0 where
   pub rest : Memory
-  pub linked_state : LinkedState (alone m rest) (λ _ _. none) (λ _. 0) (λ _. 0) N
+  pub linked_state : LinkedState (alone m rest) (λ _ _. None) (λ _. 0) (λ _. 0) N
   pub register_matches : RegisterMatches (alone m rest) s
   pub bytes : rest ≡ brought (rebase_static (base_of m.load_call)) (base_of m.load_call) B
   pub alike : (D : Memory) → Agree (Area m) B D → Agree (Area m) rest (brought (rebase_static (base_of m.load_call)) (base_of m.load_call) D)
@@ -49,11 +49,7 @@ pub record Started (m : Image) (B : Memory) (s : Register) (N : Memory) : Type 0
 -- what is said of the answer
 unfoldable pub Begun : Image → Memory → Answer → Memory → Type 0
 Begun m B (Done v s) N = Started m B s N
-Begun m B NotACro N = Unit {0}
-Begun m B BadSegment N = Unit {0}
-Begun m B Answer.BadWindow N = Unit {0}
-Begun m B Answer.NoRegister N = Unit {0}
-Begun m B NoRoom N = Unit {0}
+Begun m B (Refused refusal) N = Unit {0}
 Begun m B Answer.NotLoaded N = Unit {0}
 
 module _ (m : Image) (laid : WellLaid m) (low : Low (Area m)) {T : Memory} (view : View m T) where
@@ -66,8 +62,8 @@ module _ (m : Image) (laid : WellLaid m) (low : Low (Area m)) {T : Memory} (view
 
   -- both list words are cleared
   clears
-      : {A : Type 0} (f : Unit {0} → Prog A) {Q : A → Memory → Type 0} {M : Memory} (a b : ℕ) → AllModulesShow C (λ _ _. none) (λ _. a) (λ _. b) M
-      → ((N : Memory) → AllModulesShow C (λ _ _. none) (λ _. 0) (λ _. 0) N → Does (Area m) (f tt) Q N)
+      : {A : Type 0} (f : Unit {0} → Prog A) {Q : A → Memory → Type 0} {M : Memory} (a b : ℕ) → AllModulesShow C (λ _ _. None) (λ _. a) (λ _. b) M
+      → ((N : Memory) → AllModulesShow C (λ _ _. None) (λ _. 0) (λ _. 0) N → Does (Area m) (f tt) Q N)
       → Does (Area m) (set_field (base_of m.load_call) next_cro 0 >>= λ _. set_field (base_of m.load_call) previous_cro 0 >>= f) Q M
   clears f a b w next =
       does_then (Area m) (set_field (base_of m.load_call) next_cro 0) _
@@ -77,7 +73,7 @@ module _ (m : Image) (laid : WellLaid m) (low : Low (Area m)) {T : Memory} (view
       (does_wider (All C sound_alone) (Area m) (λ q s. s.2) (sets_previous C sound_alone 0 0 (lit< tt) g.0))
       (λ _ L h. next L (record { stands = λ k l. cleared h.0 k l })))
     where
-      cleared : {L : Memory} → AllModulesShow C (λ _ _. none) (put (λ _. a) 0 0) (put (λ _. b) 0 0) L → (k : ℕ) → k < 1 → Stands m T (λ _. none) 0 0 L
+      cleared : {L : Memory} → AllModulesShow C (λ _ _. None) (put (λ _. a) 0 0) (put (λ _. b) 0 0) L → (k : ℕ) → k < 1 → Stands m T (λ _. None) 0 0 L
       cleared t zero l = rw (put_same (λ _. a) 0 0, put_same (λ _. b) 0 0) at (t.stands 0 l)
       cleared t (suc k) l = absurd (omega arith)
 
@@ -88,7 +84,7 @@ module _ (m : Image) (laid : WellLaid m) (low : Low (Area m)) {T : Memory} (view
 
 -- the CRS is no exporter to itself
 resolved_alone : (base size : ℕ) (f : ℕ → ℕ)
-    → LinksResolved 1 (λ _. record { load_call = initialized base size; file = f }) (record { load_call = initialized base size; file = f }) (λ _. none)
+    → LinksResolved 1 (λ _. record { load_call = initialized base size; file = f }) (record { load_call = initialized base size; file = f }) (λ _. None)
 unfolding Exporter
 resolved_alone base size f =
     record { found = λ i l e b k g p h. absurd (h.1 refl refl); missing = λ i l e b o. refl; others = λ e o. refl }
@@ -118,7 +114,7 @@ module _ (base size : ℕ) (f : ℕ → ℕ) where
       refuses a N (inr e) k = rw e tt
 
       joins : (N : Memory) → Brought m (rebase_static base) B N → (k : Module) → Recorded m k → (fit : Bool)
-          → Does S (if fit then calls.initialized r base k else ret NoRoom) (Begun m B) N
+          → Does S (if fit then calls.initialized r base k else ret (Refused NoRoom)) (Begun m B) N
       joins N g k rec false = does_ret S tt
       joins N g k rec true =
           clears m laid low g.loaded_modules.view _ (word f next_cro) (word f previous_cro) (record { stands = λ j l. g.loaded_modules.stands })

@@ -1,13 +1,11 @@
 -- An unload: the others' links to the module go, it leaves its list and gets its offsets back; the others are at rest without it.
 use Prim.Native.Nat.{ℕ, pred, ◌+◌, ◌<◌}
-use Rattle.std.specs.Prelude.{◌≡◌}
+use Rattle.std.specs.Prelude.{◌≡◌, Option, Some}
 use Rattle.std.proofs.Math.Path.{refl, ap}
 use Rattle.std.proofs.Common.{sym, ◌∙◌}
 use native.Mathlib.Omega.{arith}
 use Rattle.std.proofs.Math.ListN.{length}
 use Rattle.window.specs.Access.{ret, ◌>>◌}
-use Rattle.register.specs.declared.words.Crs.{Crs}
-use Rattle.register.specs.declared.words.Crs.TheVariants.{Known}
 use Rattle.register.specs.Module.{Register}
 use Rattle.register.specs.Change.{without, removed}
 use Rattle.linker_spec.specs.Lists.{unregister}
@@ -44,7 +42,7 @@ module _ (C : Modules) (sound : Sound C) (unlike : Unlike C) where
 
     -- number d leaves its list and gets its offsets back
     pub goes
-        : {A : Type 0} (a : A) (crs : Crs) → crs ≡ Known (b 0) → {φ : ℕ → Links} {x y : ℕ → ℕ} {M : Memory} → AllModulesShow C φ x y M
+        : {A : Type 0} (a : A) (crs : Option ℕ) → crs ≡ Some (b 0) → {φ : ℕ → Links} {x y : ℕ → ℕ} {M : Memory} → AllModulesShow C φ x y M
         → ListWords b C.number x y → Does S (unlisted crs (b d) >> (unrebase (b d) >> ret a)) (λ c N. (c ≡ a) × OthersShow φ N) M
     unfolding unlisted
     goes a crs e {φ} {x} {y} w h =
@@ -101,6 +99,6 @@ module _ (C : Modules) (sound : Sound C) (unlike : Unlike C) where
                       (s.linked_state.links (skip d k) i) (g.2 (skip d k) i (skip-not d k));
                 };
             register_matches =
-                record { recorded = recs; many = fewer-many; crs = s.register_matches.crs ∙ ap (λ k. Known (b k)) (sym (skip-low d 0 above)) };
+                record { recorded = recs; many = fewer-many; crs = s.register_matches.crs ∙ ap (λ k. Some (b k)) (sym (skip-low d 0 above)) };
           },
         ))))

@@ -1,5 +1,5 @@
 -- Reading at any stage of a rebase: the tables' starts and counts, and a segment as the file has it.
-use Rattle.std.specs.Prelude.{ℕ, ◌+◌, ◌-◌, ◌*◌, ◌≤◌, ◌<◌, ◌≡◌, refl, List}
+use Rattle.std.specs.Prelude.{ℕ, ◌+◌, ◌-◌, ◌*◌, ◌≤◌, ◌<◌, ◌≡◌, refl, List, Some}
 use native.Mathlib.Omega.{arith}
 use Rattle.std.proofs.Common.{lit<, lit≤, lt-ltb}
 use Rattle.window.specs.Memory.{◌⊕◌}
@@ -8,7 +8,6 @@ use Rattle.window.specs.Within.{Low}
 use Rattle.window.specs.Mirror.{word}
 use Rattle.layout.specs.Header.{segment_num, segment_table_offset}
 use Rattle.layout.specs.Segments.{field, segment_entry, segment}
-use Rattle.layout.specs.declared.segments.FoundSegment.TheVariants.{Found}
 use Rattle.history.specs.Below.{AllBelow, below}
 use Rattle.history.specs.Image.{tables, segments, start, count, entry, file_segment}
 use Rattle.history.specs.LoadedModule.{Image, base_of, size_of, moved_offset, Area}
@@ -109,7 +108,7 @@ module _ (m : Image) (laid : WellLaid m) (low : Low (Area m)) where
           (reads_then S (get32 (base + (entry F segments i + 4))) _ _ (reads_part 4 (lit≤ tt))
           (reads_then S (get32 (base + (entry F segments i + 8))) _ _ (reads_part 8 (lit≤ tt)) (reads_ret S _))))
 
-      pub reads_file-segment : ReadsValue S (segment base i) (Found (file_segment F i)) M
+      pub reads_file-segment : ReadsValue S (segment base i) (Some (file_segment F i)) M
       unfolding segment tables
       reads_file-segment =
           reads_then S (field base segment_num) _ (count F segments) (reads_count 0 (lit< tt))

@@ -1,6 +1,6 @@
 -- Internal relocations write nothing but internal relocated words, so the view stays.
 use Prim.Native.Nat.{ℕ, ◌+◌, ◌≤◌, ◌<◌}
-use Rattle.std.specs.Prelude.{if◌then◌else◌, ◌≡◌}
+use Rattle.std.specs.Prelude.{if◌then◌else◌, ◌≡◌, Option, Some, None}
 use Rattle.std.proofs.Math.Path.{refl}
 use Rattle.std.proofs.Common.{sym, ◌∙◌, lit<, lit≤}
 use native.Mathlib.Omega.{arith}
@@ -16,9 +16,6 @@ use Rattle.layout.specs.Format.{relocation_type, tag_segment, tag_offset}
 use Rattle.layout.specs.Relocation.Relocation.{relocated_word, patch, apply_relocation}
 use Rattle.layout.specs.Segments.{field, entry_at, segment, address_in}
 use Rattle.layout.specs.declared.format.Segment.{Segment}
-use Rattle.layout.specs.declared.segments.FoundSegment.{FoundSegment}
-use Rattle.layout.specs.declared.segments.FoundSegment.TheVariants.{Found, Missing}
-use Rattle.layout.specs.declared.segments.Address.TheVariants.{At}
 use Rattle.linker_spec.specs.Rebase.{at_offset}
 use Rattle.linker_spec.specs.Relocation.{write_place, relocate_from, relocate_into, apply_internal_relocation, apply_internal_relocations}
 use Rattle.history.specs.Image.{tables, segments, internals, start, count, entry, file_segment, tag, kind, symbol_segment, addend}
@@ -130,11 +127,11 @@ module _ (m : Image) (laid : WellLaid m) (low : Low (Area m)) where
 
       address_is
           : tag_segment t < count F segments → tag_offset t < (file_segment F (tag_segment t)).size
-          → address m t ≡ At (segment_place m (tag_segment t) ⊕ tag_offset t)
+          → address m t ≡ Some (segment_place m (tag_segment t) ⊕ tag_offset t)
       unfolding address placed_segment address_in
       address_is a b = rw (lt-ltb (tag_segment t) (count F segments) a, lt-ltb (tag_offset t) (file_segment F (tag_segment t)).size b) refl
 
-      abbrev into : FoundSegment → Prog (Unit {0})
+      abbrev into : Option Segment → Prog (Unit {0})
       into x = relocate_into base (old_place m) x t (kind F internals j) (symbol_segment F j) (addend F internals j)
 
       relocates_inner : Does S (into (placed_segment m (tag_segment t))) (λ _ L. SameOutside (InternalByte m) M L) N
@@ -143,7 +140,7 @@ module _ (m : Image) (laid : WellLaid m) (low : Low (Area m)) where
         where
           found
               : Dec (tag_segment t < count F segments)
-              → Does S (into (if ltb (tag_segment t) (count F segments) then Found (placed (tag_segment t)) else Missing)) (λ _ L. SameOutside (InternalByte m) M L) N
+              → Does S (into (if ltb (tag_segment t) (count F segments) then Some (placed (tag_segment t)) else None)) (λ _ L. SameOutside (InternalByte m) M L) N
           found (no a) = rw (le-ltb (tag_segment t) (count F segments) (omega arith)) (does_ret S n)
           found (yes a) = rw (lt-ltb (tag_segment t) (count F segments) a) (usable (dec_lt (tag_offset t) (file_segment F (tag_segment t)).size))
             where
@@ -153,12 +150,12 @@ module _ (m : Image) (laid : WellLaid m) (low : Low (Area m)) where
               target : ℕ
               target = write_place (file_segment F (tag_segment t)).kind (old_place m) (tag_offset t) resolved
 
-              from : FoundSegment → Prog (Unit {0})
+              from : Option Segment → Prog (Unit {0})
               from x = relocate_from x target (kind F internals j) (addend F internals j) resolved
 
               symbol
                   : tag_offset t < (file_segment F (tag_segment t)).size → Dec (symbol_segment F j < count F segments)
-                  → Does S (from (if ltb (symbol_segment F j) (count F segments) then Found (placed (symbol_segment F j)) else Missing))
+                  → Does S (from (if ltb (symbol_segment F j) (count F segments) then Some (placed (symbol_segment F j)) else None))
                   (λ _ L. SameOutside (InternalByte m) M L) N
               symbol b (no c) = rw (le-ltb (symbol_segment F j) (count F segments) (omega arith)) (does_ret S n)
               symbol b (yes c) =
@@ -168,7 +165,7 @@ module _ (m : Image) (laid : WellLaid m) (low : Low (Area m)) where
 
               usable
                   : Dec (tag_offset t < (file_segment F (tag_segment t)).size)
-                  → Does S (into (Found (placed (tag_segment t)))) (λ _ L. SameOutside (InternalByte m) M L) N
+                  → Does S (into (Some (placed (tag_segment t)))) (λ _ L. SameOutside (InternalByte m) M L) N
               usable (no b) = rw (le-ltb (tag_offset t) (file_segment F (tag_segment t)).size (omega arith)) (does_ret S n)
               usable (yes b) =
                   rw (lt-ltb (tag_offset t) (file_segment F (tag_segment t)).size b)

@@ -1,5 +1,5 @@
 -- One segment of a load: refused, or written back with its place.
-use Rattle.std.specs.Prelude.{if◌then◌else◌, ℕ, ◌+◌, ◌^◌, ◌<◌, ◌≡◌, refl, ◌⊎◌, List, Bool, true, false, eqb, ltb}
+use Rattle.std.specs.Prelude.{if◌then◌else◌, ℕ, ◌+◌, ◌^◌, ◌<◌, ◌≡◌, refl, ◌⊎◌, List, Bool, true, false, eqb, ltb, Option, None, Some}
 use Rattle.std.proofs.Common.{ap, ◌∙◌, inl, inr, lit<, eq-eqb, ne_eqb}
 use native.Mathlib.Omega.{arith}
 use Rattle.std.proofs.Math.Decide.{ℕ_discrete}
@@ -13,8 +13,6 @@ use Rattle.layout.specs.declared.format.Segment.{Segment}
 use Rattle.layout.specs.declared.format.SegmentType.{SegmentType}
 use Rattle.layout.specs.declared.format.SegmentType.TheVariants.{Code, RoData, Data, Bss}
 use Rattle.linker_spec.specs.declared.rebase.LoadArguments.{LoadArguments}
-use Rattle.linker_spec.specs.declared.rebase.Placed.{Placed}
-use Rattle.linker_spec.specs.declared.rebase.Placed.TheVariants.{Refused, Put}
 use Rattle.linker_spec.specs.Rebase.{at_offset, moved_place, lent_place, place}
 use Rattle.history.specs.Image.{tables, segments, start, count, entry}
 use Rattle.history.specs.LoadedModule.{Image, base_of, moved_offset, loaded_place, old_for, Area}
@@ -51,29 +49,33 @@ three-words M p a b c ha hb hc = (
     off : (N : Memory) (x v y : ℕ) → ((q : ℕ) → In y 4 q → In x 4 q → ⊥) → word (put4 N x v) y ≡ word N y
     off N x v y o = word-off N (put4 N x v) (In x 4) y (λ q n. put4-off N x v q n) o
 
+-- a segment with its place, and Data's old place
+abbrev placing : Segment → ℕ → Option (Segment × ℕ)
+placing s old = Some (s, old)
+
 -- a segment is refused, or put where the image says
-abbrev pub Puts : Placed → LoadArguments → Segment → SegmentType → ℕ → Type 0
-Puts x l s k old = (x ≡ Refused) ⊎ (x ≡ Put (at_offset s (loaded_place l s k)) (old_for s k l.base old))
+abbrev pub Puts : Option (Segment × ℕ) → LoadArguments → Segment → SegmentType → ℕ → Type 0
+Puts x l s k old = (x ≡ None) ⊎ (x ≡ placing (at_offset s (loaded_place l s k)) (old_for s k l.base old))
 
 moved_cases
     : (l : LoadArguments) (s : Segment) (old : ℕ)
-    → (moved_place l s old ≡ Refused) ⊎ (moved_place l s old ≡ Put (at_offset s (moved_offset l.base s.offset)) old)
+    → (moved_place l s old ≡ None) ⊎ (moved_place l s old ≡ placing (at_offset s (moved_offset l.base s.offset)) old)
 unfolding moved_place moved_offset
 moved_cases l s old = go (ℕ_discrete s.offset 0)
   where
-    pick : (b : Bool) (x : Placed) → ((if b then Refused else x) ≡ Refused) ⊎ ((if b then Refused else x) ≡ x)
+    pick : (b : Bool) (x : Option (Segment × ℕ)) → ((if b then None else x) ≡ None) ⊎ ((if b then None else x) ≡ x)
     pick true x = inl refl
     pick false x = inr refl
 
     go
         : Dec (s.offset ≡ 0)
-        → ((if eqb s.offset 0 then Put s old
-        else (if ltb (l.base ⊕ l.size) (s.offset ⊕ l.base) then Refused else Put (at_offset s (s.offset ⊕ l.base)) old)) ≡ Refused)
-        ⊎ ((if eqb s.offset 0 then Put s old
-        else (if ltb (l.base ⊕ l.size) (s.offset ⊕ l.base) then Refused else Put (at_offset s (s.offset ⊕ l.base)) old))
-        ≡ Put (at_offset s (if eqb s.offset 0 then 0 else s.offset ⊕ l.base)) old)
-    go (yes e) = inr (rw (eq-eqb s.offset 0 e) (ap (λ x. Put (at_offset s x) old) e))
-    go (no n) = rw (ne_eqb s.offset 0 n) (pick (ltb (l.base ⊕ l.size) (s.offset ⊕ l.base)) (Put (at_offset s (s.offset ⊕ l.base)) old))
+        → ((if eqb s.offset 0 then placing s old
+        else (if ltb (l.base ⊕ l.size) (s.offset ⊕ l.base) then None else placing (at_offset s (s.offset ⊕ l.base)) old)) ≡ None)
+        ⊎ ((if eqb s.offset 0 then placing s old
+        else (if ltb (l.base ⊕ l.size) (s.offset ⊕ l.base) then None else placing (at_offset s (s.offset ⊕ l.base)) old))
+        ≡ placing (at_offset s (if eqb s.offset 0 then 0 else s.offset ⊕ l.base)) old)
+    go (yes e) = inr (rw (eq-eqb s.offset 0 e) (ap (λ x. placing (at_offset s x) old) e))
+    go (no n) = rw (ne_eqb s.offset 0 n) (pick (ltb (l.base ⊕ l.size) (s.offset ⊕ l.base)) (placing (at_offset s (s.offset ⊕ l.base)) old))
 
 pub place_cases : (l : LoadArguments) (s : Segment) (k : SegmentType) (old : ℕ) → Puts (place l s k old) l s k old
 unfolding place loaded_place old_for lent_place
@@ -83,9 +85,9 @@ place_cases l s Data old = go (eqb s.size 0) (ltb l.data_segment_size s.size)
   where
     go
         : (c d : Bool)
-        → ((if c then moved_place l s old else (if d then Refused else Put (at_offset s l.data_segment) (s.offset ⊕ l.base))) ≡ Refused)
-        ⊎ ((if c then moved_place l s old else (if d then Refused else Put (at_offset s l.data_segment) (s.offset ⊕ l.base)))
-        ≡ Put (at_offset s (if c then moved_offset l.base s.offset else l.data_segment)) (if c then old else s.offset ⊕ l.base))
+        → ((if c then moved_place l s old else (if d then None else placing (at_offset s l.data_segment) (s.offset ⊕ l.base))) ≡ None)
+        ⊎ ((if c then moved_place l s old else (if d then None else placing (at_offset s l.data_segment) (s.offset ⊕ l.base)))
+        ≡ placing (at_offset s (if c then moved_offset l.base s.offset else l.data_segment)) (if c then old else s.offset ⊕ l.base))
     go true d = moved_cases l s old
     go false true = inl refl
     go false false = inr refl
@@ -93,9 +95,9 @@ place_cases l s Bss old = go (eqb s.size 0) (ltb l.bss_segment_size s.size)
   where
     go
         : (c d : Bool)
-        → ((if c then moved_place l s old else (if d then Refused else Put (at_offset s l.bss_segment) old)) ≡ Refused)
-        ⊎ ((if c then moved_place l s old else (if d then Refused else Put (at_offset s l.bss_segment) old))
-        ≡ Put (at_offset s (if c then moved_offset l.base s.offset else l.bss_segment)) old)
+        → ((if c then moved_place l s old else (if d then None else placing (at_offset s l.bss_segment) old)) ≡ None)
+        ⊎ ((if c then moved_place l s old else (if d then None else placing (at_offset s l.bss_segment) old))
+        ≡ placing (at_offset s (if c then moved_offset l.base s.offset else l.bss_segment)) old)
     go true d = moved_cases l s old
     go false true = inl refl
     go false false = inr refl

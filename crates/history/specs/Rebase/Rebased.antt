@@ -1,5 +1,5 @@
 -- What a rebase leaves: no module, a refused segment, or an image that shows its view.
-use Rattle.std.specs.Prelude.{if◌then◌else◌, ℕ, ◌+◌, ◌^◌, ◌≤◌, ◌<◌, ◌≡◌, ◌⊎◌, Bool}
+use Rattle.std.specs.Prelude.{if◌then◌else◌, ℕ, ◌+◌, ◌^◌, ◌≤◌, ◌<◌, ◌≡◌, ◌⊎◌, Bool, Option, Some, None, Ok, Err}
 use Rattle.std.proofs.Math.Path.{refl, ap}
 use Rattle.std.proofs.Common.{sym, inl, inr, lit≤}
 use Rattle.std.proofs.Math.Bool.{true, false}
@@ -12,12 +12,11 @@ use Rattle.layout.specs.Header.{magic}
 use Rattle.layout.specs.Format.{segment_type}
 use Rattle.layout.specs.Tables.{pointer_tables}
 use Rattle.linker_spec.specs.declared.rebase.LoadArguments.{LoadArguments}
-use Rattle.linker_spec.specs.declared.rebase.Moved.{Moved}
-use Rattle.linker_spec.specs.declared.rebase.Moved.TheVariants.{Bad, OldPlace}
-use Rattle.linker_spec.specs.declared.rebase.Rebased.{Rebased}
+use Rattle.linker_spec.specs.Refusal.{Rebased}
 use Rattle.linker_spec.specs.Rebase.{is_magic, move_header, move_segments, look_at_segments, move_tables}
 use Rattle.linker_spec.specs.Relocation.{apply_internal_relocations}
 use Rattle.linker_spec.specs.Calls.{relocate, rebase_with, rebase, rebase_static}
+use Rattle.linker_spec.specs.declared.refusal.RebaseError.{RebaseError}
 use Rattle.history.specs.Image.{segments, entry, file_segment}
 use Rattle.history.specs.LoadedModule.{initialized, loaded, Image, base_of, place_of, old_among, segment_place, old_place, Area}
 use Rattle.history.specs.WellLaid.{header, InPart, Touched, internal, WellLaid}
@@ -33,7 +32,7 @@ use Rattle.history.specs.Rebase.Internal.{InternalByte, internal_does}
 module _ (m : Image) where
   -- a module that is not refused shows its view, its header moved
   unfoldable pub RebaseLeaves : Rebased → Memory → Type 0
-  RebaseLeaves x N = (x ≡ Rebased.NotACro) ⊎ (x ≡ Rebased.BadSegment) ⊎ ((x ≡ Rebased.Done) × View m N × Headed m N)
+  RebaseLeaves x N = (x ≡ Err RebaseError.NotACro) ⊎ (x ≡ Err RebaseError.BadSegment) ⊎ ((x ≡ Ok tt) × View m N × Headed m N)
 
 module _ (m : Image) (laid : WellLaid m) (low : Low (Area m)) where
   abbrev F : ℕ → ℕ
@@ -46,8 +45,8 @@ module _ (m : Image) (laid : WellLaid m) (low : Low (Area m)) where
   S = Area m
 
   -- what the segments' step leaves
-  abbrev pub Segmented : Moved → Memory → Type 0
-  Segmented x N = (x ≡ Bad) ⊎ ((x ≡ OldPlace (old_place m)) × PartlyRebased m unmoved N × Rows m N)
+  abbrev pub Segmented : Option ℕ → Memory → Type 0
+  Segmented x N = (x ≡ None) ⊎ ((x ≡ Some (old_place m)) × PartlyRebased m unmoved N × Rows m N)
 
   inner_header : {M N : Memory} → SameOutside (InternalByte m) M N → Headed m M → Headed m N
   unfolding InPart Touched
@@ -55,7 +54,7 @@ module _ (m : Image) (laid : WellLaid m) (low : Low (Area m)) where
       headed_same m
       (λ o l. n (base + o) (λ c. laid.in_place_lem.words-off (internal c.0) c.1 c.2 header o (omega arith) tt c.3)) h
 
-  relocated : (x : Moved) (M : Memory) → Segmented x M → Does S (relocate base x) (RebaseLeaves m) M
+  relocated : (x : Option ℕ) (M : Memory) → Segmented x M → Does S (relocate base x) (RebaseLeaves m) M
   unfolding relocate RebaseLeaves
   relocated x M (inl e) = rw e (does_ret S (inr (inl refl)))
   relocated x M (inr h) =
@@ -70,7 +69,7 @@ module _ (m : Image) (laid : WellLaid m) (low : Low (Area m)) where
       (refl, k.0, inner_header k.1 (record { fields = g.0.fields; header-plain = g.0.header-plain })))))))
 
   pub rebased_with
-      : {B : Memory} → AsInFile m B → (step : Prog Moved)
+      : {B : Memory} → AsInFile m B → (step : Prog (Option ℕ))
       → ((M : Memory) → PartlyRebased m unmoved M → FileRows m M → Does S step Segmented M) → Does S (rebase_with base step) (RebaseLeaves m) B
   unfolding rebase_with RebaseLeaves
   rebased_with {B} fresh step f =
@@ -81,7 +80,7 @@ module _ (m : Image) (laid : WellLaid m) (low : Low (Area m)) where
       (does_read S (get32 (base + magic)) _ (word B (base + magic)) (reads_get32 S _ (four_at m laid low magic (omega (arith, i))) refl)
       (go (is_magic (word B (base + magic)))))
     where
-      go : (c : Bool) → Does S (if c then (move_header true base >>= λ _. step >>= λ x. relocate base x) else ret Rebased.NotACro) (RebaseLeaves m) B
+      go : (c : Bool) → Does S (if c then (move_header true base >>= λ _. step >>= λ x. relocate base x) else ret (Err RebaseError.NotACro)) (RebaseLeaves m) B
       go true =
           does_then S (move_header true base) _ (header_does m laid low fresh)
           (λ _ M h. does_then S step _ (f M h.0 h.1) (λ x N g. relocated x N g))
@@ -126,7 +125,7 @@ module _ (at size : ℕ) (f : ℕ → ℕ) where
     pub rebased_static : {B : Memory} → AsInFile m₀ B → Does (Area m₀) (rebase_static at) (RebaseLeaves m₀) B
     unfolding rebase_static
     rebased_static fresh =
-        rebased_with m₀ laid low fresh (look_at_segments at >> ret (OldPlace 0))
+        rebased_with m₀ laid low fresh (look_at_segments at >> ret (Some 0))
         (λ M s r.
         does_then (Area m₀) (look_at_segments at) _ (looks m₀ laid low s r)
-        (λ _ N e. rw e (does_ret (Area m₀) (inr (ap OldPlace (sym old_0), s, file-row r)))))
+        (λ _ N e. rw e (does_ret (Area m₀) (inr (ap Some (sym old_0), s, file-row r)))))

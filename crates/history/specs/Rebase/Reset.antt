@@ -1,5 +1,5 @@
 -- The external reset: every external word gets the handler's address and every mark is cleared; nothing else changes.
-use Rattle.std.specs.Prelude.{ℕ, ◌+◌, ◌≤◌, ◌<◌, ◌≡◌, ◌⊎◌}
+use Rattle.std.specs.Prelude.{ℕ, ◌+◌, ◌≤◌, ◌<◌, ◌≡◌, ◌⊎◌, Option, Some, None}
 use Rattle.std.proofs.Math.Path.{refl}
 use Rattle.std.proofs.Common.{sym, ◌∙◌, inl, inr, lit<, ne_eqb}
 use native.Mathlib.Omega.{arith}
@@ -12,8 +12,6 @@ use Rattle.layout.specs.Header.{relocation_entry_size, external_relocation_table
 use Rattle.layout.specs.Format.{relocation_type}
 use Rattle.layout.specs.Relocation.Relocation.{relocated_word, patch, apply_relocation}
 use Rattle.layout.specs.Segments.{field, entry_at, tag_to_address}
-use Rattle.layout.specs.declared.segments.Address.{Address}
-use Rattle.layout.specs.declared.segments.Address.TheVariants.{At, Nowhere}
 use Rattle.linker_spec.specs.Relocation.{unresolved_symbol, relocate_at, reset_entry, reset_external_relocations}
 use Rattle.history.specs.Image.{tables, externals, start, count, entry, tag, kind, addend}
 use Rattle.history.specs.LoadedModule.{Image, base_of, moved_offset, address, handler, Area}
@@ -85,10 +83,10 @@ module _ (m : Image) (laid : WellLaid m) (low : Low (Area m)) where
     symbol_set {N} j a l = go (address m (tag F externals j)) refl
       where
         go
-            : (x : Address) → address m (tag F externals j) ≡ x
+            : (x : Option ℕ) → address m (tag F externals j) ≡ x
             → Does S (relocate_at x (kind F externals j) (addend F externals j) a) (λ _ L. HasSymbol m a j L × SameOutside (WordOf m j) N L) N
-        go Nowhere e = does_ret S ((λ p k i h. absurd (nowhere_no p (sym e ∙ word_address m laid low v 0 0 j p h))), λ q o. refl)
-        go (At p) e = at-sort (sort (relocation_type (kind F externals j)))
+        go None e = does_ret S ((λ p k i h. absurd (nowhere_no p (sym e ∙ word_address m laid low v 0 0 j p h))), λ q o. refl)
+        go (Some p) e = at-sort (sort (relocation_type (kind F externals j)))
           where
             at-sort
                 : Sort (relocation_type (kind F externals j))

@@ -1,5 +1,5 @@
 -- The segments of a load: one is refused, or each is put in its place; `initialize` only looks at them.
-use Rattle.std.specs.Prelude.{ℕ, suc, ◌+◌, ◌-◌, ◌^◌, ◌≤◌, ◌<◌, ◌≡◌, refl, Bool, ◌⊎◌, List}
+use Rattle.std.specs.Prelude.{ℕ, suc, ◌+◌, ◌-◌, ◌^◌, ◌≤◌, ◌<◌, ◌≡◌, refl, Bool, ◌⊎◌, List, Some, Option, None}
 use Rattle.std.proofs.Math.Path.{ap}
 use Rattle.std.proofs.Common.{◌∙◌, inl, inr, lit<}
 use native.Mathlib.Omega.{arith}
@@ -10,10 +10,7 @@ use Rattle.layout.specs.Header.{segment_num}
 use Rattle.layout.specs.Format.{segment_type, segment_type_number, segment_type-number}
 use Rattle.layout.specs.Segments.{field, segment, set_segment}
 use Rattle.layout.specs.declared.format.Segment.{Segment}
-use Rattle.layout.specs.declared.segments.FoundSegment.TheVariants.{Found}
 use Rattle.linker_spec.specs.declared.rebase.LoadArguments.{LoadArguments}
-use Rattle.linker_spec.specs.declared.rebase.Moved.{Moved}
-use Rattle.linker_spec.specs.declared.rebase.Moved.TheVariants.{Bad, OldPlace}
 use Rattle.linker_spec.specs.Rebase.{at_offset, place, write_back, move_found, move_segment, move_segments, look_at_segments}
 use Rattle.history.specs.Image.{tables, segments, count, entry, file_segment}
 use Rattle.history.specs.LoadedModule.{loaded, Image, base_of, loaded_place, place_of, old_among, segment_place, old_place, Area}
@@ -77,7 +74,7 @@ module _ (m : Image) (laid : WellLaid m) (low : Low (Area m)) where
       (does_loop S {A = Unit {0}} (λ i _. segment base i >> ret tt) (λ _ _ N. N ≡ M) 0 (count F segments) tt M
       (λ j b N z l e.
       rw e
-      (does_read S (segment base j) _ (Found (file_segment F j)) (reads_file-segment m laid low s j (omega arith) (λ k h. f j k (omega arith) h))
+      (does_read S (segment base j) _ (Some (file_segment F j)) (reads_file-segment m laid low s j (omega arith) (λ k h. f j k (omega arith) h))
       (does_ret S refl))) refl)
 
 -- a load that is not refused leaves every segment in its place, and gives the old place
@@ -91,8 +88,8 @@ module _ (l : LoadArguments) (auto : Bool) (level : ℕ) (f : ℕ → ℕ) where
     abbrev old : ℕ → ℕ
     old j = old_among j (loaded l auto level) (file_segment f)
 
-    abbrev So : ℕ → Moved → Memory → Type 0
-    So j a N = (a ≡ Bad) ⊎ ((a ≡ OldPlace (old j)) × TurnsMade (EntryByte m₁ laid low) (Row m₁) M j N)
+    abbrev So : ℕ → Option ℕ → Memory → Type 0
+    So j a N = (a ≡ None) ⊎ ((a ≡ Some (old j)) × TurnsMade (EntryByte m₁ laid low) (Row m₁) M j N)
 
     row_now
         : (j : ℕ) (L : Memory) → word L (l.base + entry f segments j) ≡ loaded_place l (file_segment f j) (file_segment f j).kind
@@ -112,11 +109,11 @@ module _ (l : LoadArguments) (auto : Bool) (level : ℕ) (f : ℕ → ℕ) where
 
     turn
         : (j : ℕ) (N : Memory) → j < count f segments → TurnsMade (EntryByte m₁ laid low) (Row m₁) M j N
-        → Does (Area m₁) (move_segment l j (OldPlace (old j))) (So (suc j)) N
+        → Does (Area m₁) (move_segment l j (Some (old j))) (So (suc j)) N
     unfolding move_segment move_found write_back old_among
     turn j N h t =
         let st = stays m₁ laid low j (omega arith) s t.kept in
-        does_read (Area m₁) (segment l.base j) _ (Found (file_segment f j))
+        does_read (Area m₁) (segment l.base j) _ (Some (file_segment f j))
         (reads_file-segment m₁ laid low st j h (still m₁ laid low j h rows t.kept))
         (go st (place_cases l (file_segment f j) (file_segment f j).kind (old j)))
       where
@@ -140,22 +137,22 @@ module _ (l : LoadArguments) (auto : Bool) (level : ℕ) (f : ℕ → ℕ) where
             ))))
 
     pub segments_move
-        : Does (Area m₁) (move_segments l) (λ x N. (x ≡ Bad) ⊎ ((x ≡ OldPlace (old_place m₁)) × PartlyRebased m₁ ζ N × Rows m₁ N)) M
+        : Does (Area m₁) (move_segments l) (λ x N. (x ≡ None) ⊎ ((x ≡ Some (old_place m₁)) × PartlyRebased m₁ ζ N × Rows m₁ N)) M
     unfolding move_segments move_segment old_among old_place tables
     segments_move =
         let z : 0 + count f segments ≡ count f segments = omega arith in
         does_mono (Area m₁)
         (does_read (Area m₁) (field l.base segment_num) _ (count f segments) (reads_count m₁ laid low s 0 (lit< tt))
         (rw z at
-        (does_loop (Area m₁) (move_segment l) So 0 (count f segments) (OldPlace 0) M (λ j a N g h t. step j a N (omega arith) t)
+        (does_loop (Area m₁) (move_segment l) So 0 (count f segments) (Some 0) M (λ j a N g h t. step j a N (omega arith) t)
         (inr (refl, none_turned (EntryByte m₁ laid low) (Row m₁) M)))))
         (λ x N h. ends x N h)
       where
-        step : (j : ℕ) (a : Moved) (N : Memory) → j < count f segments → So j a N → Does (Area m₁) (move_segment l j a) (So (suc j)) N
+        step : (j : ℕ) (a : Option ℕ) (N : Memory) → j < count f segments → So j a N → Does (Area m₁) (move_segment l j a) (So (suc j)) N
         step j a N h (inl e) = rw e (does_ret (Area m₁) (inl refl))
         step j a N h (inr g) = rw g.0 (turn j N h g.1)
 
         ends
-            : (x : Moved) (N : Memory) → So (count f segments) x N → (x ≡ Bad) ⊎ ((x ≡ OldPlace (old_place m₁)) × PartlyRebased m₁ ζ N × Rows m₁ N)
+            : (x : Option ℕ) (N : Memory) → So (count f segments) x N → (x ≡ None) ⊎ ((x ≡ Some (old_place m₁)) × PartlyRebased m₁ ζ N × Rows m₁ N)
         ends x N (inl e) = inl e
         ends x N (inr g) = inr (g.0, stays m₁ laid low (count f segments) (omega arith) s g.1.kept, g.1.done)

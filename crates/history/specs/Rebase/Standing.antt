@@ -1,8 +1,7 @@
 -- After a rebase and the external reset a module stands without links, its list words as the file has them.
-use Rattle.std.specs.Prelude.{ℕ, ◌+◌, ◌*◌, ◌/◌, ◌≤◌, ◌<◌, ◌≡◌, refl}
+use Rattle.std.specs.Prelude.{ℕ, ◌+◌, ◌*◌, ◌/◌, ◌≤◌, ◌<◌, ◌≡◌, refl, None}
 use Rattle.std.proofs.Math.Path.{ap}
 use Rattle.std.proofs.Common.{◌∙◌, inl, inr, arith, lit<, lit≤}
-use Rattle.std.proofs.Math.Option.{none}
 use Rattle.window.specs.Bytes.{byte_of}
 use Rattle.window.specs.Within.{Low}
 use Rattle.window.specs.Mirror.{word}
@@ -70,7 +69,7 @@ module _ (m : Image) (laid : WellLaid m) (low : Low (Area m)) where
     pub reset_stands
         : {M : Memory} → View m M → Headed m M
         → Does (Area m) (reset_external_relocations base)
-        (λ _ N. View m N × Headed m N × Stands m N (λ _. none) (word F next_cro) (word F previous_cro) N) M
+        (λ _ N. View m N × Headed m N × Stands m N (λ _. None) (word F next_cro) (word F previous_cro) N) M
     unfolding symbols marks symbol_for mark_for
     reset_stands v h =
         does_mono (Area m) (reset_does m laid low v)

@@ -1,5 +1,5 @@
 -- Unrebasing a module that shows its view touches only its own areas: its tables lie past the header that says where they are.
-use Rattle.std.specs.Prelude.{if◌then◌else◌, ℕ, ◌+◌, ◌*◌, ◌≤◌, ◌<◌, ◌≡◌, refl, Bool, eqb}
+use Rattle.std.specs.Prelude.{if◌then◌else◌, ℕ, ◌+◌, ◌*◌, ◌≤◌, ◌<◌, ◌≡◌, refl, Bool, eqb, Option, Some, None}
 use Rattle.std.proofs.Common.{ap, ◌∙◌, inl, inr, lit<, lit≤, lt-ltb}
 use mathlib.Core.List.{List, [], ◌∷◌}
 use Rattle.std.proofs.Math.Bool.{true, false}
@@ -15,8 +15,6 @@ use Rattle.layout.specs.Format.{segment_type_number}
 use Rattle.layout.specs.Tables.{pointer_table, pointer_tables}
 use Rattle.layout.specs.Segments.{field, set_field, entry_at, segment_entry, set_segment_entry, segment, set_segment}
 use Rattle.layout.specs.declared.format.Segment.{Segment}
-use Rattle.layout.specs.declared.segments.FoundSegment.{FoundSegment}
-use Rattle.layout.specs.declared.segments.FoundSegment.TheVariants.{Found, Missing}
 use Rattle.linker_spec.specs.Rebase.{moved, move_word, move_header, move_pointers, move_table, move_tables}
 use Rattle.linker_spec.specs.Unrebase.{leaves_as, unmove_found, unmove_segment, unmove_segments, unrebase}
 use Rattle.history.specs.Image.{tables, segments, start, count, entry}
@@ -234,9 +232,9 @@ module _ (m : Image) (laid : WellLaid m) (low : Low (Area m)) where
     unfolding unmove_segment unmove_found
     unmove_any = does_then S (segment at i) _ segment-any (λ s N e. rw e (go s))
       where
-        go : (s : FoundSegment) → Does S (unmove_found at i s) (λ _ N. HeaderLocatesTables m N) M
-        go Missing = does_ret S h
-        go (Found s) = set-any (leaves_as at s s.kind)
+        go : (s : Option Segment) → Does S (unmove_found at i s) (λ _ N. HeaderLocatesTables m N) M
+        go None = does_ret S h
+        go (Some s) = set-any (leaves_as at s s.kind)
 
   segments-any : {M : Memory} → HeaderLocatesTables m M → Does S (unmove_segments at) (λ _ N. HeaderLocatesTables m N) M
   unfolding unmove_segments tables

@@ -1,5 +1,5 @@
 -- A call that gives 0: its window and register were good, and what it leaves is what its program answered.
-use Rattle.std.specs.Prelude.{ℕ, ◌*◌, ◌^◌, ◌≤◌, ◌≡◌, refl, List, Bool, true, false, not, length, eqb}
+use Rattle.std.specs.Prelude.{ℕ, ◌*◌, ◌^◌, ◌≤◌, ◌≡◌, refl, List, Bool, true, false, not, length, eqb, Ok, Err}
 use Rattle.std.proofs.Common.{sym, ap, ◌∙◌, arith, eqb-true}
 use Rattle.window.specs.Memory.{good_window}
 use Rattle.window.specs.Access.{Prog, run}
@@ -14,7 +14,7 @@ use Rattle.register.specs.Slots.{length-slots}
 use Rattle.register.specs.Change.{appended, removed, without}
 use Rattle.register.specs.Buffers.{Below, encode_records, encode_names, encode_missing, encode_encodes}
 use Rattle.linker_spec.specs.declared.rebase.LoadArguments.{LoadArguments}
-use Rattle.linker_spec.specs.declared.rebase.Rebased.{Rebased}
+use Rattle.linker_spec.specs.Refusal.{Rebased}
 use Rattle.linker_spec.specs.Relocation.{reset_external_relocations}
 use Rattle.linker_spec.specs.Exports.{read_module}
 use Rattle.linker_spec.specs.Imports.{apply_import_named_symbols, apply_module_imports, apply_exports_to_loaded}
@@ -22,13 +22,15 @@ use Rattle.linker_spec.specs.Resets.{reset_importers}
 use Rattle.linker_spec.specs.Fix.{fix}
 use Rattle.linker_spec.specs.Unrebase.{unrebase}
 use Rattle.linker_spec.specs.Calls as calls
-use Rattle.linker_spec.specs.Calls.{Answer, NotACro, BadSegment, BadWindow, NoRegister, NoRoom, NotLoaded, Done, number, rebase, rebase_static, fits, add_record, initialized, listed, linked, unknown, stands, first_with_base, unlisted, leave}
+use Rattle.linker_spec.specs.Calls.{Answer, NotLoaded, Done, number, rebase, rebase_static, fits, add_record, initialized, listed, linked, unknown, stands, first_with_base, unlisted, leave, Refused}
 use Rattle.linker_spec.specs.Outcome.{Buffers, register_after, outcome_of, call_outcome}
 use Rattle.linker_spec.specs.Refusals.{lent_register}
 use Rattle.linker_spec.specs.AnyResult.{AnyResult, gives_run, gives_then, gives_if}
 use Rattle.linker_spec.specs.Valid.{Valid}
 use Rattle.linker_spec.specs.declared.call.Call.{Call}
 use Rattle.linker_spec.specs.declared.call.Call.TheVariants.{Initialize, Load, Unload}
+use Rattle.linker_spec.specs.declared.refusal.RebaseError.{RebaseError}
+use Rattle.linker_spec.specs.Refusal.{refusal-not-0}
 use Rattle.history.specs.Sessions.{given, CallRecord, expected, done}
 use Rattle.history.specs.Windows.{program, given-program}
 
@@ -72,21 +74,13 @@ pub data Finished (a : Answer) : Type 0 where
 
 pub finished : (a : Answer) → number a ≡ 0 → Finished a
 unfolding number
-finished NotACro e = absurd (omega arith)
-finished BadSegment e = absurd (omega arith)
-finished BadWindow e = absurd (omega arith)
-finished NoRegister e = absurd (omega arith)
-finished NoRoom e = absurd (omega arith)
+finished (Refused refusal) e = absurd (refusal-not-0 refusal e)
 finished NotLoaded e = kept refl
 finished (Done v s) e = did v s refl
 
 -- a call that brings a module never answers that nothing was to be done
 abbrev NotKept : Answer → Type 0
-NotKept NotACro = Unit {0}
-NotKept BadSegment = Unit {0}
-NotKept BadWindow = Unit {0}
-NotKept NoRegister = Unit {0}
-NotKept NoRoom = Unit {0}
+NotKept (Refused refusal) = Unit {0}
 NotKept NotLoaded = ⊥
 NotKept (Done v s) = Unit {0}
 
@@ -94,9 +88,9 @@ enter-not
     : (records names : ℕ) (r : Register) (base size : ℕ) (auto : Bool) (next : Module → Prog Answer) → ((m : Module) → AnyResult NotKept (next m))
     → (x : Rebased) → AnyResult NotKept (add_record records names r base size auto next x)
 unfolding add_record AnyResult
-enter-not records names r base size auto next h Rebased.NotACro = tt
-enter-not records names r base size auto next h Rebased.BadSegment = tt
-enter-not records names r base size auto next h Rebased.Done =
+enter-not records names r base size auto next h (Err RebaseError.NotACro) = tt
+enter-not records names r base size auto next h (Err RebaseError.BadSegment) = tt
+enter-not records names r base size auto next h (Ok _) =
     gives_then NotKept _ (reset_external_relocations base)
     (λ _. gives_then NotKept _ (read_module base size auto) (λ m. gives_if NotKept (fits records names r m) _ _ (h m) tt))
 
@@ -143,11 +137,7 @@ left-done c at b p v s e =
 
 not-kept : (a : Answer) → NotKept a → number a ≡ 0 → (v : ℕ) × (s : Register) × (a ≡ Done v s)
 unfolding number
-not-kept NotACro k e = absurd (omega arith)
-not-kept BadSegment k e = absurd (omega arith)
-not-kept BadWindow k e = absurd (omega arith)
-not-kept NoRegister k e = absurd (omega arith)
-not-kept NoRoom k e = absurd (omega arith)
+not-kept (Refused refusal) k e = absurd (refusal-not-0 refusal e)
 not-kept NotLoaded k e = absurd k
 not-kept (Done v s) k e = (v, s, refl)
 

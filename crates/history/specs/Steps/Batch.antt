@@ -1,6 +1,6 @@
 -- A batch: its entries get a symbol, and its first entry the mark.
 use Prim.Native.Nat.{ℕ, zero, suc, ◌+◌, ◌%◌, ◌≤◌, ◌<◌}
-use Rattle.std.specs.Prelude.{if◌then◌else◌, ◌≡◌, ◌≢◌, Bool, true, false}
+use Rattle.std.specs.Prelude.{if◌then◌else◌, ◌≡◌, ◌≢◌, Bool, true, false, Option, Some, None}
 use Rattle.std.proofs.Math.Path.{refl, sym, ap}
 use Rattle.std.proofs.Common.{◌∙◌, arith, lit<, eq-eqb, ne_eqb}
 use Rattle.std.proofs.Math.Decide.{ℕ_discrete}
@@ -14,10 +14,6 @@ use Rattle.layout.specs.Relocation.Relocation.{relocated_word, patch, apply_relo
 use Rattle.layout.specs.Segments.{tag_to_address}
 use Rattle.layout.specs.declared.format.RelocationType.{RelocationType}
 use Rattle.layout.specs.declared.format.RelocationType.TheVariants.{AbsoluteAddress, RelativeAddress, ThumbBranch, ArmBranch, ModifyArmBranch, AlignedRelativeAddress, Unknown}
-use Rattle.layout.specs.declared.relocation.Patch.{Patch}
-use Rattle.layout.specs.declared.relocation.Patch.TheVariants.{Word}
-use Rattle.layout.specs.declared.segments.Address.{Address}
-use Rattle.layout.specs.declared.segments.Address.TheVariants.{At, Nowhere}
 use Rattle.linker_spec.specs.Relocation.{relocate_at, walk, batch_limit, mark, apply_relocation_batch, batch_is_resolved}
 use Rattle.history.specs.Image.{externals, count, entry, tag, kind, addend, end_mark}
 use Rattle.history.specs.LoadedModule.{Image, base_of, size_of, address, Area}
@@ -31,8 +27,8 @@ use Rattle.history.specs.Steps.Reading.{plain-sum, four_at, reads_address}
 
 -- whether a kind writes does not hang on the addend, the symbol or the place
 pub data Sort (t : RelocationType) : Type 0 where
-  writes : ((d a p : ℕ) → (v : ℕ) × (relocated_word t d a p ≡ Word v)) → Sort t
-  writes_not : ((d a p : ℕ) → relocated_word t d a p ≡ Patch.Nothing) → Sort t
+  writes : ((d a p : ℕ) → (v : ℕ) × (relocated_word t d a p ≡ Some v)) → Sort t
+  writes_not : ((d a p : ℕ) → relocated_word t d a p ≡ None) → Sort t
 
 pub sort : (t : RelocationType) → Sort t
 sort RelocationType.Nothing = writes_not (λ d a p. refl)
@@ -49,19 +45,19 @@ pub record Set (σ ρ : ℕ → ℕ) (j f a : ℕ) : Type 0 where
   pub new : (i : ℕ) → j ≤ i → i ≤ f → ρ i ≡ a
   pub old : (i : ℕ) → (j ≤ i → i ≤ f → ⊥) → ρ i ≡ σ i
 
-pub nowhere_no : (p : ℕ) → ◌≡◌ {A = Address} Nowhere (At p) → ⊥
+pub nowhere_no : (p : ℕ) → ◌≡◌ {A = Option ℕ} None (Some p) → ⊥
 nowhere_no p e = absurd (omega (arith, ap number e))
   where
-    number : Address → ℕ
-    number (At q) = 0
-    number Nowhere = 1
+    number : Option ℕ → ℕ
+    number (Some q) = 0
+    number None = 1
 
-pub word_nothing : (v : ℕ) → ◌≡◌ {A = Patch} (Word v) Patch.Nothing → ⊥
+pub word_nothing : (v : ℕ) → ◌≡◌ {A = Option ℕ} (Some v) None → ⊥
 word_nothing v e = absurd (omega (arith, ap number e))
   where
-    number : Patch → ℕ
-    number (Word u) = 0
-    number Patch.Nothing = 1
+    number : Option ℕ → ℕ
+    number (Some u) = 0
+    number None = 1
 
 module _ (m : Image) (laid : WellLaid m) (low : Low (Area m)) {T : Memory} (view : View m T) (n v : ℕ) where
   abbrev F : ℕ → ℕ
@@ -97,22 +93,22 @@ module _ (m : Image) (laid : WellLaid m) (low : Low (Area m)) {T : Memory} (view
         rest = s.rest;
       }
 
-  pub word_address : (j p : ℕ) → WordAt m (external j) p → address m (tag F externals j) ≡ At p
+  pub word_address : (j p : ℕ) → WordAt m (external j) p → address m (tag F externals j) ≡ Some p
   unfolding WordAt
   word_address j p h = h.2
 
   pub word_at
-      : (j p : ℕ) → j < count F externals → Writes m (kind F externals j) → address m (tag F externals j) ≡ At p → WordAt m (external j) p
+      : (j p : ℕ) → j < count F externals → Writes m (kind F externals j) → address m (tag F externals j) ≡ Some p → WordAt m (external j) p
   unfolding WordAt
   word_at j p l w e = (l, w, e)
 
   pub word_writes_not
-      : (j p : ℕ) → ((d a q : ℕ) → relocated_word (relocation_type (kind F externals j)) d a q ≡ Patch.Nothing) → WordAt m (external j) p → ⊥
+      : (j p : ℕ) → ((d a q : ℕ) → relocated_word (relocation_type (kind F externals j)) d a q ≡ None) → WordAt m (external j) p → ⊥
   unfolding WordAt
   word_writes_not j p f h = word_nothing h.1.0 (sym h.1.1 ∙ f 0 0 0)
 
   pub value_is
-      : (j a p u : ℕ) → relocated_word (relocation_type (kind F externals j)) (addend F externals j) a p ≡ Word u → value_of m j a p ≡ u
+      : (j a p u : ℕ) → relocated_word (relocation_type (kind F externals j)) (addend F externals j) a p ≡ Some u → value_of m j a p ≡ u
   unfolding value_of word_for
   value_is j a p u e = ap word_for e
 
@@ -127,10 +123,10 @@ module _ (m : Image) (laid : WellLaid m) (low : Low (Area m)) {T : Memory} (view
       t = relocation_type (kind F externals j)
 
       go
-          : (x : Address) → address m (tag F externals j) ≡ x
+          : (x : Option ℕ) → address m (tag F externals j) ≡ x
           → Does S (relocate_at x (kind F externals j) (addend F externals j) a) (λ _ N. ModuleBytes m T (upd σ j a) μ n v N) M
-      go Nowhere e = does_ret S (no_word j a (λ p h. nowhere_no p (sym e ∙ word_address j p h)) s)
-      go (At p) e = at-sort (sort t)
+      go None e = does_ret S (no_word j a (λ p h. nowhere_no p (sym e ∙ word_address j p h)) s)
+      go (Some p) e = at-sort (sort t)
         where
           at-sort : Sort t → Does S (patch p (relocated_word t (addend F externals j) a p)) (λ _ N. ModuleBytes m T (upd σ j a) μ n v N) M
           at-sort (writes f) =

@@ -1,7 +1,6 @@
 -- Changes of links: at the entries in P each link becomes what R says, all others stay; loops whose turns change different entries.
-use Rattle.std.specs.Prelude.{ℕ, suc, ◌+◌, ◌<◌, ◌≡◌, refl, ◌≢◌, ◌⊎◌}
+use Rattle.std.specs.Prelude.{ℕ, suc, ◌+◌, ◌<◌, ◌≡◌, refl, ◌≢◌, ◌⊎◌, Option}
 use Rattle.std.proofs.Common.{◌∙◌, inl, inr, arith}
-use Rattle.std.proofs.Math.Option.{Option}
 use Rattle.std.proofs.Math.Decide.{ℕ_discrete}
 use Rattle.window.specs.Access.{Prog}
 use Rattle.window.specs.Loop.{loop}

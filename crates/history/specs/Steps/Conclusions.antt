@@ -1,8 +1,7 @@
 -- What follows from links at rest: every import holds its address, and no byte of a module's areas is left open.
-use Rattle.std.specs.Prelude.{ℕ, ◌^◌, ◌≤◌, ◌<◌, ◌≡◌}
+use Rattle.std.specs.Prelude.{ℕ, ◌^◌, ◌≤◌, ◌<◌, ◌≡◌, Option, Some, None}
 use Rattle.std.proofs.Common.{sym, ◌∙◌, arith}
 use Rattle.std.proofs.Math.Path.{ap, fun_ext}
-use Rattle.std.proofs.Math.Option.{Option, some, none}
 use Rattle.window.specs.Bytes.{byte_of, join-bytes, join-at}
 use Rattle.window.specs.Within.{Agree}
 use Rattle.window.specs.Mirror.{word}
@@ -10,9 +9,6 @@ use Rattle.layout.specs.Format.{relocation_type}
 use Rattle.layout.specs.Relocation.Relocation.{relocated_word}
 use Rattle.layout.specs.declared.format.RelocationType.{RelocationType}
 use Rattle.layout.specs.declared.format.RelocationType.TheVariants.{AbsoluteAddress, RelativeAddress, ThumbBranch, ArmBranch, ModifyArmBranch, AlignedRelativeAddress, Unknown}
-use Rattle.layout.specs.declared.relocation.Patch.{Patch}
-use Rattle.layout.specs.declared.relocation.Patch.TheVariants.{Word}
-use Rattle.layout.specs.declared.segments.Address.TheVariants.{At}
 use Rattle.history.specs.Image.{externals, count, tag, kind, addend}
 use Rattle.history.specs.LoadedModule.{Image, address, handler, Area}
 use Rattle.history.specs.Imports.{Import, IsImport, BatchOf, Exporter, Holds}
@@ -25,12 +21,12 @@ use Rattle.history.specs.Steps.Runs.{Begins}
 use Rattle.history.specs.Steps.LinksResolved.{LinksResolved, either}
 
 -- a relocated word is a word
-word_low : (t : RelocationType) (d a p v : ℕ) → relocated_word t d a p ≡ Word v → v < 2 ^ 32
+word_low : (t : RelocationType) (d a p v : ℕ) → relocated_word t d a p ≡ Some v → v < 2 ^ 32
 word_low t d a p v e = rw (ap word_of e) at (low t d a p)
   where
-    word_of : Patch → ℕ
-    word_of (Word u) = u
-    word_of Patch.Nothing = 0
+    word_of : Option ℕ → ℕ
+    word_of (Some u) = u
+    word_of None = 0
 
     low : (t : RelocationType) (d a p : ℕ) → word_of (relocated_word t d a p) < 2 ^ 32
     low RelocationType.Nothing d a p = omega arith
@@ -47,8 +43,8 @@ module _ (m : Image) {T : Memory} {φ : Links} {n v : ℕ} {M : Memory} (s : Sta
   F = m.file
 
   word-there
-      : (j p d a u : ℕ) → j < count F externals → address m (tag F externals j) ≡ At p
-      → relocated_word (relocation_type (kind F externals j)) d a p ≡ Word u → WordAt m (external j) p
+      : (j p d a u : ℕ) → j < count F externals → address m (tag F externals j) ≡ Some p
+      → relocated_word (relocation_type (kind F externals j)) d a p ≡ Some u → WordAt m (external j) p
   unfolding WordAt
   word-there j p d a u l e r = go (sort (relocation_type (kind F externals j)))
     where
@@ -61,7 +57,7 @@ module _ (m : Image) {T : Memory} {φ : Links} {n v : ℕ} {M : Memory} (s : Sta
   symbol_is j e f i y b l h g = ap (symbol_for (handler m)) (ap φ (first_in m e f j b.run l h) ∙ g)
 
   value_there
-      : (j p a u : ℕ) → relocated_word (relocation_type (kind F externals j)) (addend F externals j) a p ≡ Word u → value_of m j a p ≡ u
+      : (j p a u : ℕ) → relocated_word (relocation_type (kind F externals j)) (addend F externals j) a p ≡ Some u → value_of m j a p ≡ u
   unfolding value_of word_for
   value_there j p a u r = ap word_for r
 
@@ -81,13 +77,13 @@ module _ (m : Image) {T : Memory} {φ : Links} {n v : ℕ} {M : Memory} (s : Sta
     pub holds_exporter
         : (i : Import) → IsImport F i → (k : ℕ) → k < count_of → (p : ℕ) → Exporter (x k) m i p → Holds M m i p
     unfolding symbol_for
-    holds_exporter i l k g p h = holds i (some p) (λ e f b. rest.found i l e b.first k g p h)
+    holds_exporter i l k g p h = holds i (Some p) (λ e f b. rest.found i l e b.first k g p h)
 
     -- else the handler's
     pub holds-handler
         : (i : Import) → IsImport F i → ((k : ℕ) → k < count_of → (p : ℕ) → Exporter (x k) m i p → ⊥) → Holds M m i (handler m)
     unfolding symbol_for
-    holds-handler i l o = holds i none (λ e f b. rest.missing i l e b.first o)
+    holds-handler i l o = holds i None (λ e f b. rest.missing i l e b.first o)
 
 -- links at rest are determined by the modules that stand
 pub resolved_unique : (n : ℕ) (x : ℕ → Image) (m : Image) {φ ψ : Links} → LinksResolved n x m φ → LinksResolved n x m ψ → (e : ℕ) → φ e ≡ ψ e

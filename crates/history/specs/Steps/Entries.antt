@@ -1,7 +1,6 @@
 -- A module entry: its name, and both its runs linked or unlinked.
-use Rattle.std.specs.Prelude.{ℕ, ◌+◌, ◌≤◌, ◌<◌, ◌≡◌, ◌⊎◌}
+use Rattle.std.specs.Prelude.{ℕ, ◌+◌, ◌≤◌, ◌<◌, ◌≡◌, ◌⊎◌, Option, Some, None}
 use Rattle.std.proofs.Common.{sym, ap, ◌∙◌, inl, inr, arith, lit<, lit≤}
-use Rattle.std.proofs.Math.Option.{Option, some, none}
 use Rattle.window.specs.Memory.{◌⊕◌}
 use Rattle.window.specs.Access.{◌>>=◌, ◌>>◌, get32}
 use Rattle.window.specs.Loop.{loop}
@@ -10,7 +9,6 @@ use Rattle.window.specs.Mirror.{word}
 use Rattle.layout.specs.Segments.{entry_at}
 use Rattle.register.specs.Module.{Module}
 use Rattle.register.specs.Read.Read as read
-use Rattle.register.specs.declared.read.Symbol.{Symbol}
 use Rattle.linker_spec.specs.Imports as imports
 use Rattle.linker_spec.specs.Imports.{import_from, link_from, imports_of}
 use Rattle.linker_spec.specs.Resets.{reset_at}
@@ -103,7 +101,7 @@ module _ (m : Image) (laid : WellLaid m) (low : Low (Area m)) {T : Memory} (view
 
     -- with no module to link to, its words are only read
     pub reads_runs
-        : {φ : Links} {M : Memory} → Stands m T φ n v M → ReadsValue S (imports_of none base (base + entry F module_entries j)) tt M
+        : {φ : Links} {M : Memory} → Stands m T φ n v M → ReadsValue S (imports_of None base (base + entry F module_entries j)) tt M
     unfolding imports_of link_from
     reads_runs s =
         let w = shows_view m laid view s.shows in
@@ -114,11 +112,11 @@ module _ (m : Image) (laid : WellLaid m) (low : Low (Area m)) {T : Memory} (view
 
     -- both runs linked to the exports of a record
     pub links_entry
-        : {φ : Links} {M : Memory} (offered : Import → Symbol) (r : Module)
+        : {φ : Links} {M : Memory} (offered : Import → Option ℕ) (r : Module)
         → ((i : ℕ) → IsImport F (indexed i) → InRun F j (indexed i) → read.entry_of r.indexed (wanted F (indexed i)) ≡ offered (indexed i))
         → ((i : ℕ) → IsImport F (anonymous i) → InRun F j (anonymous i) → imports.anonymous_of r (wanted F (anonymous i)) ≡ offered (anonymous i))
         → Stands m T φ n v M
-        → Does S (imports_of (some r) base (base + entry F module_entries j)) (λ _ N. Changed m T n v S (Linking F offered) (EntryBegins F j) φ N) M
+        → Does S (imports_of (Some r) base (base + entry F module_entries j)) (λ _ N. Changed m T n v S (Linking F offered) (EntryBegins F j) φ N) M
     unfolding imports_of link_from
     links_entry {φ} {M} offered r f g s =
         let w = shows_view m laid view s.shows in
@@ -145,7 +143,7 @@ module _ (m : Image) (laid : WellLaid m) (low : Low (Area m)) {T : Memory} (view
           d ← get32 (base + entry F module_entries j ⊕ 16)
           loop (λ k _. reset_at base (handler m) (entry_at a k 8)) 0 b (tt {0})
           loop (λ k _. reset_at base (handler m) (entry_at c k 8)) 0 d (tt {0}))
-        (λ _ N. Changed m T n v S (λ e x y. y ≡ none) (EntryBegins F j) φ N) M
+        (λ _ N. Changed m T n v S (λ e x y. y ≡ None) (EntryBegins F j) φ N) M
     unlinks_entry {φ} {M} s =
         let w = shows_view m laid view s.shows in
         does_read S (get32 (base + entry F module_entries j ⊕ 4)) _ _ (starts_indexed w)

@@ -1,45 +1,44 @@
 -- Lists that a record keeps: what is found in them, as they are gathered one by one.
-use Rattle.std.specs.Prelude.{if◌then◌else◌, ℕ, zero, suc, ◌<◌, min, ◌≡◌, refl, List, [], ◌∷◌, ◌++◌, Bool, true, false, length, take, get_or, ltb}
+use Rattle.std.specs.declared.cmp.Ordering.{Ordering}
+use Rattle.std.specs.declared.cmp.Ordering.TheVariants.{Less, Equal, Greater}
+use Rattle.std.specs.Prelude.{if◌then◌else◌, ℕ, zero, suc, ◌<◌, min, ◌≡◌, refl, List, [], ◌∷◌, ◌++◌, Bool, true, false, length, take, get_or, ltb, Some, None}
 use Rattle.std.proofs.Common.{sym, ap, ◌∙◌, arith, length-append, length-take, get_or-take, lt-ltb, le-ltb}
 use Rattle.std.proofs.Math.Decide.{dec_lt, ℕ_discrete}
 use Rattle.std.proofs.Math.ListN.{get_or-append}
 use Rattle.std.proofs.lemmas.List.{get_or_at}
 use Rattle.window.specs.Name.{order_of, order_self, order_same}
-use Rattle.window.specs.declared.name.NameOrder.{NameOrder}
-use Rattle.window.specs.declared.name.NameOrder.TheVariants.{Before, Same, After}
 use Rattle.register.specs.Words.{same}
 use Rattle.register.specs.Lists.{same_true}
 use Rattle.register.specs.Module.{Export}
 use Rattle.register.specs.Change.{by_order, put_named}
 use Rattle.register.specs.Read.Read.{address_of, entry_of}
-use Rattle.register.specs.declared.read.Symbol.{Symbol}
 use Rattle.history.specs.Steps.Asking.{true_false}
 
 -- a later export of the same name is found instead of an earlier one, wherever it is put
 pub put-named
     : (xs : List Export) (n : List ℕ) (a : ℕ) (name : List ℕ)
-    → address_of (put_named xs n a) name ≡ (if same name n then Symbol.At a else address_of xs name)
+    → address_of (put_named xs n a) name ≡ (if same name n then Some a else address_of xs name)
 unfolding address_of put_named by_order
 put-named [] n a name = refl
 put-named (x ∷ xs) n a name =
     go (order_of n x.name) (same name x.name) (same name n) refl refl refl (put-named xs n a name)
   where
     go
-        : (o : NameOrder) (c d : Bool) → order_of n x.name ≡ o → same name x.name ≡ c → same name n ≡ d
-        → address_of (put_named xs n a) name ≡ (if d then Symbol.At a else address_of xs name)
+        : (o : Ordering) (c d : Bool) → order_of n x.name ≡ o → same name x.name ≡ c → same name n ≡ d
+        → address_of (put_named xs n a) name ≡ (if d then Some a else address_of xs name)
         → address_of (by_order o (record { name = n; address = a } ∷ x ∷ xs) (record { name = x.name; address = a } ∷ xs) (x ∷ put_named xs n a)) name
-        ≡ (if d then Symbol.At a else (if c then Symbol.At x.address else address_of xs name))
-    go Before c d p q r ih = rw (r, q) refl
-    go Same true true p q r ih = rw q refl
-    go Same false false p q r ih = rw q refl
-    go Same true false p q r ih = absurd (true_false (sym q ∙ rw (order_same n x.name p) at r))
-    go Same false true p q r ih = absurd (true_false (sym r ∙ rw (order_same n x.name p) q))
-    go After true true p q r ih =
+        ≡ (if d then Some a else (if c then Some x.address else address_of xs name))
+    go Less c d p q r ih = rw (r, q) refl
+    go Equal true true p q r ih = rw q refl
+    go Equal false false p q r ih = rw q refl
+    go Equal true false p q r ih = absurd (true_false (sym q ∙ rw (order_same n x.name p) at r))
+    go Equal false true p q r ih = absurd (true_false (sym r ∙ rw (order_same n x.name p) q))
+    go Greater true true p q r ih =
         let e : x.name ≡ n = sym (same_true name x.name q) ∙ same_true name n r in
-        let z : After ≡ Same = sym p ∙ ap (order_of n) e ∙ order_self n in
+        let z : Greater ≡ Equal = sym p ∙ ap (order_of n) e ∙ order_self n in
         cc
-    go After true false p q r ih = rw q refl
-    go After false d p q r ih = rw q ih
+    go Greater true false p q r ih = rw q refl
+    go Greater false d p q r ih = rw q ih
 
 -- f 0, f 1, .. up to n of them, as a loop gathers them
 unfoldable pub gathered : (ℕ → ℕ) → ℕ → List ℕ
@@ -62,14 +61,14 @@ gathered-at f (suc n) i l = go (ℕ_discrete i n) (gathered-at f n i)
         let h = gathered-length f n in
         get_or-append (gathered f n) (f n ∷ []) 0 i (omega (arith, h, l, o)) ∙ ih (omega arith)
 
-pub entry-gathered : (f : ℕ → ℕ) (n i : ℕ) → entry_of (gathered f n) i ≡ (if ltb i n then Symbol.At (f i) else Symbol.Nothing)
+pub entry-gathered : (f : ℕ → ℕ) (n i : ℕ) → entry_of (gathered f n) i ≡ (if ltb i n then Some (f i) else None)
 unfolding entry_of
 entry-gathered f n i = rw (gathered-length f n) (go (dec_lt i n))
   where
     go
         : Dec (i < n)
-        → (if ltb i n then Symbol.At (get_or (gathered f n) i 0) else Symbol.Nothing) ≡ (if ltb i n then Symbol.At (f i) else Symbol.Nothing)
-    go (yes l) = rw (lt-ltb i n l) (ap Symbol.At (gathered-at f n i l))
+        → (if ltb i n then Some (get_or (gathered f n) i 0) else None) ≡ (if ltb i n then Some (f i) else None)
+    go (yes l) = rw (lt-ltb i n l) (ap Some (gathered-at f n i l))
     go (no l) = rw (le-ltb i n (omega arith)) refl
 
 -- the first 16 are all that are asked for
@@ -79,7 +78,7 @@ entry_taken l i h = rw (length-take 16 l, get_or-take 16 l i 0 h) (go (dec_lt i 
   where
     go
         : Dec (i < length l)
-        → (if ltb i (min 16 (length l)) then Symbol.At (get_or l i 0) else Symbol.Nothing)
-        ≡ (if ltb i (length l) then Symbol.At (get_or l i 0) else Symbol.Nothing)
+        → (if ltb i (min 16 (length l)) then Some (get_or l i 0) else None)
+        ≡ (if ltb i (length l) then Some (get_or l i 0) else None)
     go (yes g) = rw (lt-ltb i (length l) g, lt-ltb i (min 16 (length l)) (omega arith)) refl
     go (no g) = rw (le-ltb i (length l) (omega arith), le-ltb i (min 16 (length l)) (omega arith)) refl

@@ -1,8 +1,7 @@
 -- A new module's own imports: by name from the auto-linked modules, by module entry from the module that it names.
-use Rattle.std.specs.Prelude.{if◌then◌else◌, ℕ, ◌+◌, ◌<◌, ◌≡◌, List}
+use Rattle.std.specs.Prelude.{if◌then◌else◌, ℕ, ◌+◌, ◌<◌, ◌≡◌, List, Option, Some, None}
 use Rattle.std.proofs.Math.Path.{refl}
 use Rattle.std.proofs.Common.{sym, ◌∙◌, lit<}
-use Rattle.std.proofs.Math.Option.{Option, some, none}
 use Rattle.std.proofs.Math.Bool.{Bool, true, false}
 use Rattle.window.specs.Memory.{◌⊕◌}
 use Rattle.window.specs.Access.{ret, get32}
@@ -11,8 +10,6 @@ use Rattle.window.specs.Within.{Low}
 use Rattle.window.specs.Mirror.{word}
 use Rattle.layout.specs.Segments.{field, entry_at}
 use Rattle.register.specs.Module.{Module}
-use Rattle.register.specs.declared.read.Symbol.{Symbol}
-use Rattle.register.specs.declared.read.Symbol.TheVariants.{Nothing}
 use Rattle.register.specs.Read.Read as read
 use Rattle.register.specs.Read.Read.{lookup_in}
 use Rattle.linker_spec.specs.Imports as imports
@@ -33,11 +30,11 @@ use Rattle.history.specs.Steps.Asking.{reads_import_name, import_pointer, named-
 use Rattle.history.specs.Steps.Entries.{reads_entry_pointer, reads_runs, links_entry}
 
 -- what a module that an entry names has for an import; nothing if there is none
-unfoldable pub export_from : (ℕ → ℕ) → Option Module → Import → Symbol
-export_from F none i = Nothing
-export_from F (some r) (named i) = Nothing
-export_from F (some r) (indexed i) = read.entry_of r.indexed (wanted F (indexed i))
-export_from F (some r) (anonymous i) = imports.anonymous_of r (wanted F (anonymous i))
+unfoldable pub export_from : (ℕ → ℕ) → Option Module → Import → Option ℕ
+export_from F None i = None
+export_from F (Some r) (named i) = None
+export_from F (Some r) (indexed i) = read.entry_of r.indexed (wanted F (indexed i))
+export_from F (Some r) (anonymous i) = imports.anonymous_of r (wanted F (anonymous i))
 
 module _ (m : Image) (laid : WellLaid m) (low : Low (Area m)) {T : Memory} (view : View m T) (n v : ℕ) (ms : List Module) where
   abbrev F : ℕ → ℕ
@@ -50,7 +47,7 @@ module _ (m : Image) (laid : WellLaid m) (low : Low (Area m)) {T : Memory} (view
   S = Area m
 
   -- what is looked up for a named import
-  abbrev LookedUp : Import → Symbol
+  abbrev LookedUp : Import → Option ℕ
   LookedUp i = lookup_in ms (name_of F (wanted F i))
 
   abbrev pub NamedBegins : ℕ → Type 0
@@ -121,22 +118,22 @@ module _ (m : Image) (laid : WellLaid m) (low : Low (Area m)) {T : Memory} (view
       same_import : (e : ℕ) → EntryBegins F j e → (i : Import) → IsImport F i → Begins F i e → InRun F j i
       same_import e (p, h, r, d) i a b = rw (laid.alone.own-batch i p a h (b ∙ sym d)) r
 
-  offers_index : (r : Module) (i : ℕ) → read.entry_of r.indexed (wanted F (indexed i)) ≡ export_from F (some r) (indexed i)
+  offers_index : (r : Module) (i : ℕ) → read.entry_of r.indexed (wanted F (indexed i)) ≡ export_from F (Some r) (indexed i)
   unfolding export_from
   offers_index r i = refl
 
-  offers_tag : (r : Module) (i : ℕ) → imports.anonymous_of r (wanted F (anonymous i)) ≡ export_from F (some r) (anonymous i)
+  offers_tag : (r : Module) (i : ℕ) → imports.anonymous_of r (wanted F (anonymous i)) ≡ export_from F (Some r) (anonymous i)
   unfolding export_from
   offers_tag r i = refl
 
   -- where no module has the name, nothing changes
-  unchanged : (j : ℕ) → j < count F module_entries → {φ : Links} → Change (EntryBegins F j) (Linking F (export_from F none)) φ φ
+  unchanged : (j : ℕ) → j < count F module_entries → {φ : Links} → Change (EntryBegins F j) (Linking F (export_from F None)) φ φ
   unfolding export_from link_to
   unchanged j l {φ} = record { changed = λ e h i a b. stays (φ e); same = λ e o. refl }
     where
-      stays : (x : Option ℕ) → x ≡ link_to x Nothing
-      stays (some a) = refl
-      stays none = refl
+      stays : (x : Option ℕ) → x ≡ link_to x None
+      stays (Some a) = refl
+      stays None = refl
 
   imports-entry
       : {φ : Links} {M : Memory} (j : ℕ) → j < count F module_entries → Stands m T φ n v M
@@ -151,8 +148,8 @@ module _ (m : Image) (laid : WellLaid m) (low : Low (Area m)) {T : Memory} (view
     where
       go : (o : Option Module) → Does S (imports_of o base (base + entry F module_entries j))
           (λ _ N. Changed m T n v S (Linking F (export_from F o)) (EntryBegins F j) φ N) M
-      go (some r) = links_entry m laid low view n v j l (export_from F (some r)) r (λ i a b. offers_index r i) (λ i a b. offers_tag r i) s
-      go none = does_mono S (reads_runs m laid low view n v j l s) (λ _ N e. (φ, rw e.1 s, unchanged j l))
+      go (Some r) = links_entry m laid low view n v j l (export_from F (Some r)) r (λ i a b. offers_index r i) (λ i a b. offers_tag r i) s
+      go None = does_mono S (reads_runs m laid low view n v j l s) (λ _ N e. (φ, rw e.1 s, unchanged j l))
 
   pub imports_entries
       : {φ : Links} {M : Memory} → Stands m T φ n v M → Does S (apply_module_imports ms base) (λ _ N. Changed m T n v S BySource Run φ N) M

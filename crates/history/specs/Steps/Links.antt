@@ -1,9 +1,8 @@
 -- The links of a standing module: for each external entry that begins an import's batch, the address found for it, or none.
 use Prim.Native.Nat.{ℕ, zero, suc, ◌+◌, ◌%◌, ◌≤◌, ◌<◌}
-use Rattle.std.specs.Prelude.{if◌then◌else◌, ◌≡◌, ◌≢◌, ◌⊎◌, Bool}
+use Rattle.std.specs.Prelude.{if◌then◌else◌, ◌≡◌, ◌≢◌, ◌⊎◌, Bool, Option, Some, None}
 use Rattle.std.proofs.Math.Path.{refl, ap}
 use Rattle.std.proofs.Common.{sym, ◌∙◌, inl, inr}
-use Rattle.std.proofs.Math.Option.{Option, some, none}
 use Rattle.std.proofs.Math.Bool.{true, false}
 use native.Mathlib.Omega.{arith}
 use Rattle.std.proofs.Math.Decide.{dec_le, ℕ_discrete}
@@ -29,16 +28,16 @@ abbrev pub Links : Type 0
 Links = ℕ → Option ℕ
 
 unfoldable pub symbol_for : ℕ → Option ℕ → ℕ
-symbol_for h (some a) = a
-symbol_for h none = h
+symbol_for h (Some a) = a
+symbol_for h None = h
 
 unfoldable pub mark_for : Option ℕ → ℕ
-mark_for (some a) = 1
-mark_for none = 0
+mark_for (Some a) = 1
+mark_for None = 0
 
 unfoldable pub is_some : Option ℕ → Bool
-is_some (some a) = true
-is_some none = false
+is_some (Some a) = true
+is_some None = false
 
 -- other links at e
 unfoldable pub relink : Links → ℕ → Option ℕ → Links
@@ -137,19 +136,19 @@ module _ (m : Image) where
     -- an import's batch gets an address, or its handler's again
     pub links
         : {φ : Links} {M : Memory} (i : Import) (e f a : ℕ) → BatchOf F i e f → Stands T φ n v M
-        → Does (Area m) (apply_relocation_batch base (base + entry F externals e) a true) (λ _ N. Stands T (relink φ e (some a)) n v N) M
+        → Does (Area m) (apply_relocation_batch base (base + entry F externals e) a true) (λ _ N. Stands T (relink φ e (Some a)) n v N) M
     unfolding symbol_for mark_for
     links {φ} i e f a b s =
-        does_mono (Area m) (batch_does m laid low view n v i e f a true b (set_links φ e f (some a) b.run) s.shows)
-        (λ _ N t. record { shows = Shows-same m laid low view n v (λ j. refl) (λ j. set-marks φ e j (some a)) t })
+        does_mono (Area m) (batch_does m laid low view n v i e f a true b (set_links φ e f (Some a) b.run) s.shows)
+        (λ _ N t. record { shows = Shows-same m laid low view n v (λ j. refl) (λ j. set-marks φ e j (Some a)) t })
 
     pub unlinks
         : {φ : Links} {M : Memory} (i : Import) (e f : ℕ) → BatchOf F i e f → Stands T φ n v M
-        → Does (Area m) (apply_relocation_batch base (base + entry F externals e) (handler m) false) (λ _ N. Stands T (relink φ e none) n v N) M
+        → Does (Area m) (apply_relocation_batch base (base + entry F externals e) (handler m) false) (λ _ N. Stands T (relink φ e None) n v N) M
     unfolding symbol_for mark_for
     unlinks {φ} i e f b s =
-        does_mono (Area m) (batch_does m laid low view n v i e f (handler m) false b (set_links φ e f none b.run) s.shows)
-        (λ _ N t. record { shows = Shows-same m laid low view n v (λ j. refl) (λ j. set-marks φ e j none) t })
+        does_mono (Area m) (batch_does m laid low view n v i e f (handler m) false b (set_links φ e f None b.run) s.shows)
+        (λ _ N t. record { shows = Shows-same m laid low view n v (λ j. refl) (λ j. set-marks φ e j None) t })
 
     -- and its mark says whether it is linked
     pub reads_linked
@@ -160,5 +159,5 @@ module _ (m : Image) where
         does_mono (Area m) (reads_mark m laid low view n v e l s.shows) (λ b N h. (h.0 ∙ said (φ e), h.1))
       where
         said : (x : Option ℕ) → (if eqb (mark_for x % 256) 0 then false else true) ≡ is_some x
-        said (some a) = refl
-        said none = refl
+        said (Some a) = refl
+        said None = refl

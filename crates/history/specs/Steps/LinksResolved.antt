@@ -1,13 +1,9 @@
 -- The links at rest: each import of a module has its exporter's address if one of those that stand is its exporter, else none.
 use Prim.Native.Nat.{ℕ, suc, pred, ◌<◌}
-use Rattle.std.specs.Prelude.{◌≡◌, refl, List, true}
+use Rattle.std.specs.Prelude.{◌≡◌, refl, List, true, Option, Some, None}
 use Rattle.std.proofs.Math.Path.{sym, ap}
 use Rattle.std.proofs.Common.{◌∙◌, arith}
-use Rattle.std.proofs.Math.Option.{Option, some, none}
 use Rattle.std.proofs.Math.Decide.{dec_lt, ℕ_discrete}
-use Rattle.layout.specs.declared.segments.Address.{Address}
-use Rattle.layout.specs.declared.segments.Address.TheVariants.{At, Nowhere}
-use Rattle.register.specs.declared.read.Symbol.{Symbol}
 use Rattle.window.specs.Mirror.{word}
 use Rattle.linker_spec.specs.Resets.{exists}
 use Rattle.history.specs.Image.{module_entries, entry, name_of, module_name}
@@ -17,7 +13,7 @@ use Rattle.history.specs.WellLaid.{WellLaid}
 use Rattle.history.specs.Steps.Links.{Links, symbol_for, mark_for}
 use Rattle.history.specs.Steps.Changes.{Change}
 use Rattle.history.specs.Steps.OneImport.{link_to}
-use Rattle.history.specs.Steps.Records.{as_symbol, export_for, ImportsFrom}
+use Rattle.history.specs.Steps.Records.{export_for, ImportsFrom}
 use Rattle.history.specs.Steps.Runs.{Begins, Linking}
 use Rattle.history.specs.Steps.Asking.{true_false}
 use Rattle.history.specs.Steps.Serving.{Served}
@@ -27,48 +23,43 @@ use Rattle.history.specs.Steps.Resetting.{Drops, Dropped}
 -- n modules stand, x k being number k
 pub record LinksResolved (n : ℕ) (x : ℕ → Image) (m : Image) (φ : Links) : Type 0 where
   pub found
-      : (i : Import) → IsImport m.file i → (e : ℕ) → Begins m.file i e → (k : ℕ) → k < n → (p : ℕ) → Exporter (x k) m i p → φ e ≡ some p
+      : (i : Import) → IsImport m.file i → (e : ℕ) → Begins m.file i e → (k : ℕ) → k < n → (p : ℕ) → Exporter (x k) m i p → φ e ≡ Some p
   pub missing
-      : (i : Import) → IsImport m.file i → (e : ℕ) → Begins m.file i e → ((k : ℕ) → k < n → (p : ℕ) → Exporter (x k) m i p → ⊥) → φ e ≡ none
-  pub others : (e : ℕ) → ((i : Import) → IsImport m.file i → Begins m.file i e → ⊥) → φ e ≡ none
+      : (i : Import) → IsImport m.file i → (e : ℕ) → Begins m.file i e → ((k : ℕ) → k < n → (p : ℕ) → Exporter (x k) m i p → ⊥) → φ e ≡ None
+  pub others : (e : ℕ) → ((i : Import) → IsImport m.file i → Begins m.file i e → ⊥) → φ e ≡ None
 
 -- exporting is asking and having the symbol
-pub exports_offers : (x m : Image) (i : Import) (p : ℕ) → Exports x m i p → ImportsFrom x m i × (export_for x m i ≡ Symbol.At p)
-unfolding Exports ImportsFrom export_for as_symbol
-exports_offers x m (named i) p h = (tt, ap as_symbol h)
-exports_offers x m (indexed i) p h = (h.0, ap as_symbol h.1)
-exports_offers x m (anonymous i) p h = (h.0, ap as_symbol h.1)
-
-at_address : (y : Address) (p : ℕ) → as_symbol y ≡ Symbol.At p → y ≡ At p
-unfolding as_symbol
-at_address (At q) p e = let f : ◌≡◌ {A = Symbol} (Symbol.At q) (Symbol.At p) = e in cc
-at_address Nowhere p e = let f : ◌≡◌ {A = Symbol} Symbol.Nothing (Symbol.At p) = e in cc
-
-pub offers_exports : (x m : Image) (i : Import) (p : ℕ) → ImportsFrom x m i → export_for x m i ≡ Symbol.At p → Exports x m i p
+pub exports_offers : (x m : Image) (i : Import) (p : ℕ) → Exports x m i p → ImportsFrom x m i × (export_for x m i ≡ Some p)
 unfolding Exports ImportsFrom export_for
-offers_exports x m (named i) p a h = at_address _ p h
-offers_exports x m (indexed i) p a h = (a, at_address _ p h)
-offers_exports x m (anonymous i) p a h = (a, at_address _ p h)
+exports_offers x m (named i) p h = (tt, h)
+exports_offers x m (indexed i) p h = (h.0, h.1)
+exports_offers x m (anonymous i) p h = (h.0, h.1)
+
+pub offers_exports : (x m : Image) (i : Import) (p : ℕ) → ImportsFrom x m i → export_for x m i ≡ Some p → Exports x m i p
+unfolding Exports ImportsFrom export_for
+offers_exports x m (named i) p a h = h
+offers_exports x m (indexed i) p a h = (a, h)
+offers_exports x m (anonymous i) p a h = (a, h)
 
 -- a symbol offered, or none
 data Offered (x m : Image) (i : Import) : Type 0 where
-  at : (p : ℕ) → export_for x m i ≡ Symbol.At p → Offered x m i
-  nothing : export_for x m i ≡ Symbol.Nothing → Offered x m i
+  at : (p : ℕ) → export_for x m i ≡ Some p → Offered x m i
+  nothing : export_for x m i ≡ None → Offered x m i
 
 offered : (x m : Image) (i : Import) → Offered x m i
 offered x m i = go (export_for x m i) refl
   where
-    go : (s : Symbol) → export_for x m i ≡ s → Offered x m i
-    go (Symbol.At p) e = at p e
-    go Symbol.Nothing e = nothing e
+    go : (s : Option ℕ) → export_for x m i ≡ s → Offered x m i
+    go (Some p) e = at p e
+    go None e = nothing e
 
 -- two links are the same or not, so a case that cannot be tested may be assumed either way
 discrete : (x y : Option ℕ) → Dec (x ≡ y)
 unfolding symbol_for mark_for
-discrete (some a) (some b) = elim (ℕ_discrete a b) [ yes e ↦ yes (ap some e) | no d ↦ no (λ e. d (ap (symbol_for 0) e)) ]
-discrete (some a) none = no (λ e. absurd (omega (arith, ap mark_for e)))
-discrete none (some b) = no (λ e. absurd (omega (arith, ap mark_for e)))
-discrete none none = yes refl
+discrete (Some a) (Some b) = elim (ℕ_discrete a b) [ yes e ↦ yes (ap Some e) | no d ↦ no (λ e. d (ap (symbol_for 0) e)) ]
+discrete (Some a) None = no (λ e. absurd (omega (arith, ap mark_for e)))
+discrete None (Some b) = no (λ e. absurd (omega (arith, ap mark_for e)))
+discrete None None = yes refl
 
 pub either : (P : Type 0) (x y : Option ℕ) → (P → x ≡ y) → ((P → ⊥) → x ≡ y) → x ≡ y
 either P x y f g = elim (discrete x y) [ yes e ↦ e | no d ↦ g (λ p. d (f p)) ]
@@ -85,36 +76,36 @@ module _ (n : ℕ) (x : ℕ → Image) (m : Image) (laid : WellLaid m)
         found = λ i l e b k g p h. now i l e b k p h (ℕ_discrete k n) g;
         missing =
             λ i l e b o.
-            let z : φ e ≡ none = f.missing i l e b (λ k g. o k (omega arith)) in
-            either (Served (x n) m e) (ψ e) none (λ s. c.changed e s i l b ∙ ap (λ y. link_to y (export_for (x n) m i)) z ∙ no_offer i l e b s o)
+            let z : φ e ≡ None = f.missing i l e b (λ k g. o k (omega arith)) in
+            either (Served (x n) m e) (ψ e) None (λ s. c.changed e s i l b ∙ ap (λ y. link_to y (export_for (x n) m i)) z ∙ no_offer i l e b s o)
             (λ s. c.same e s ∙ z);
         others = λ e o. c.same e (λ s. o s.0 s.1 s.3) ∙ f.others e o;
       }
     where
       now
           : (i : Import) → IsImport m.file i → (e : ℕ) → Begins m.file i e → (k p : ℕ) → Exporter (x k) m i p → Dec (k ≡ n) → k < suc n
-          → ψ e ≡ some p
+          → ψ e ≡ Some p
       now i l e b k p h (no d) g =
-          let z : φ e ≡ some p = f.found i l e b k (omega arith) p h in
-          either (Served (x n) m e) (ψ e) (some p) (λ s. c.changed e s i l b ∙ ap (λ y. link_to y (export_for (x n) m i)) z) (λ s. c.same e s ∙ z)
+          let z : φ e ≡ Some p = f.found i l e b k (omega arith) p h in
+          either (Served (x n) m e) (ψ e) (Some p) (λ s. c.changed e s i l b ∙ ap (λ y. link_to y (export_for (x n) m i)) z) (λ s. c.same e s ∙ z)
       now i l e b k p h (yes d) g =
           let h₁ : Exports (x n) m i p = rw d at h.0 in
           let o = exports_offers (x n) m i p h₁ in
-          let z : φ e ≡ none =
+          let z : φ e ≡ None =
           f.missing i l e b (λ j q r t. absurd (omega (arith, once i j n r p (omega arith) (omega arith) t.0 h₁))) in
-          c.changed e (i, l, o.0, b) i l b ∙ ap (λ y. link_to y (export_for (x n) m i)) z ∙ ap (link_to none) o.1
+          c.changed e (i, l, o.0, b) i l b ∙ ap (λ y. link_to y (export_for (x n) m i)) z ∙ ap (link_to None) o.1
 
       no_offer
           : (i : Import) → IsImport m.file i → (e : ℕ) → Begins m.file i e → Served (x n) m e
-          → ((k : ℕ) → k < suc n → (p : ℕ) → Exporter (x k) m i p → ⊥) → link_to none (export_for (x n) m i) ≡ none
+          → ((k : ℕ) → k < suc n → (p : ℕ) → Exporter (x k) m i p → ⊥) → link_to None (export_for (x n) m i) ≡ None
       no_offer i l e (b) (j, l', a, b') o = go (offered (x n) m i)
         where
           asks : ImportsFrom (x n) m i
           asks = rw (laid.alone.own-batch j i l' l (b' ∙ sym b)) at a
 
-          go : Offered (x n) m i → link_to none (export_for (x n) m i) ≡ none
+          go : Offered (x n) m i → link_to None (export_for (x n) m i) ≡ None
           go (at p z) = absurd (o n (omega arith) p (offers_exports (x n) m i p asks z, crs))
-          go (nothing z) = ap (link_to none) z
+          go (nothing z) = ap (link_to None) z
 
 -- an import comes from one name
 pub same_name
@@ -149,7 +140,7 @@ module _ (n d : ℕ) (below : d < n) (x : ℕ → Image) (m : Image) (laid : Wel
   drops (anonymous i) p h = h.0
 
   pub dropped
-      : {φ ψ : Links} → LinksResolved n x m φ → Change (Dropped (x d) m) (λ e y z. z ≡ none) φ ψ → LinksResolved (pred n) (λ k. x (skip d k)) m ψ
+      : {φ ψ : Links} → LinksResolved n x m φ → Change (Dropped (x d) m) (λ e y z. z ≡ None) φ ψ → LinksResolved (pred n) (λ k. x (skip d k)) m ψ
   unfolding Exporter
   dropped {φ} {ψ} f c =
       record {
@@ -160,7 +151,7 @@ module _ (n d : ℕ) (below : d < n) (x : ℕ → Image) (m : Image) (laid : Wel
             ∙ f.found i l e b (skip d k) (skip_below n d k below g) p h;
         missing =
             λ i l e b o.
-            either (Dropped (x d) m e) (ψ e) none (λ r. c.changed e r)
+            either (Dropped (x d) m e) (ψ e) None (λ r. c.changed e r)
             (λ r. c.same e r ∙ f.missing i l e b (λ k g p h. other i l e b r o k g p h (ℕ_discrete k d)));
         others = λ e o. c.same e (λ r. o r.0 r.1 r.3) ∙ f.others e o;
       }

@@ -1,5 +1,5 @@
 -- A standing module's bytes: relocated words by their symbols, marks, the two list words, and all others as they were left at rest.
-use Rattle.std.specs.Prelude.{if◌then◌else◌, ℕ, zero, suc, ◌+◌, ◌-◌, ◌%◌, ◌≤◌, ◌<◌, refl, ◌≢◌, eqb}
+use Rattle.std.specs.Prelude.{if◌then◌else◌, ℕ, zero, suc, ◌+◌, ◌-◌, ◌%◌, ◌≤◌, ◌<◌, refl, ◌≢◌, eqb, Option, Some, None}
 use Rattle.std.proofs.Math.Path.{◌≡◌, sym, ap}
 use Rattle.std.proofs.Common.{◌∙◌, lit<, eq-eqb, ne_eqb}
 use native.Mathlib.Omega.{arith}
@@ -9,10 +9,6 @@ use Rattle.window.specs.Within.{In, dec_in, in_range, Agree}
 use Rattle.window.specs.Mirror.{put1, put4, put1_on, put1-off, put4_on, put4-off}
 use Rattle.layout.specs.Format.{relocation_type}
 use Rattle.layout.specs.Relocation.Relocation.{relocated_word}
-use Rattle.layout.specs.declared.relocation.Patch.{Patch}
-use Rattle.layout.specs.declared.relocation.Patch.TheVariants.{Word, Nothing}
-use Rattle.layout.specs.declared.segments.Address.{Address}
-use Rattle.layout.specs.declared.segments.Address.TheVariants.{At, Nowhere}
 use Rattle.linker_spec.specs.Relocation.{address_or0}
 use Rattle.history.specs.Image.{tables, externals, count, entry, tag, kind, addend}
 use Rattle.history.specs.LoadedModule.{Image, base_of, address, Area}
@@ -22,9 +18,9 @@ use Rattle.history.specs.Steps.View.{Seen, View, view_agree}
 use Rattle.history.specs.Steps.Parts.{touched_other, ReadOffset, read_offset, read_offset_inside, read_offset_no_mark, read_offset_no_list, read_offset_no_word, image_area, part-inside, external_part, past-header, sort}
 
 -- the word that external entry j has at p for the symbol a
-unfoldable pub word_for : Patch → ℕ
-word_for (Word v) = v
-word_for Nothing = 0
+unfoldable pub word_for : Option ℕ → ℕ
+word_for (Some v) = v
+word_for None = 0
 
 -- another value at j
 unfoldable pub upd : (ℕ → ℕ) → (j a i : ℕ) → ℕ
@@ -38,21 +34,21 @@ pub upd_other : (σ : ℕ → ℕ) (j a i : ℕ) → i ≢ j → upd σ j a i �
 unfolding upd
 upd_other σ j a i n = rw (ne_eqb i j n) refl
 
-dec_patch : (x : Patch) → Dec ((v : ℕ) × (x ≡ Word v))
-dec_patch (Word v) = yes (v, refl)
-dec_patch Nothing = no (λ h. absurd (omega (arith, ap (λ (x : Patch). sort_of x) h.1)))
+dec_patch : (x : Option ℕ) → Dec ((v : ℕ) × (x ≡ Some v))
+dec_patch (Some v) = yes (v, refl)
+dec_patch None = no (λ h. absurd (omega (arith, ap (λ (x : Option ℕ). sort_of x) h.1)))
   where
-    sort_of : Patch → ℕ
-    sort_of (Word v) = 0
-    sort_of Nothing = 1
+    sort_of : Option ℕ → ℕ
+    sort_of (Some v) = 0
+    sort_of None = 1
 
-dec_at : (x : Address) → Dec ((p : ℕ) × (x ≡ At p))
-dec_at (At p) = yes (p, refl)
-dec_at Nowhere = no (λ h. absurd (omega (arith, ap (λ (x : Address). sort_of x) h.1)))
+dec_at : (x : Option ℕ) → Dec ((p : ℕ) × (x ≡ Some p))
+dec_at (Some p) = yes (p, refl)
+dec_at None = no (λ h. absurd (omega (arith, ap (λ (x : Option ℕ). sort_of x) h.1)))
   where
-    sort_of : Address → ℕ
-    sort_of (At p) = 0
-    sort_of Nowhere = 1
+    sort_of : Option ℕ → ℕ
+    sort_of (Some p) = 0
+    sort_of None = 1
 
 dec_below : (P : ℕ → Type 0) → ((j : ℕ) → Dec (P j)) → (n : ℕ) → Dec ((j : ℕ) × (j < n) × P j)
 dec_below P d zero = no (λ h. absurd (omega (arith, h.1)))
@@ -109,7 +105,7 @@ module _ (m : Image) where
 
     pub one_place : (j p q : ℕ) → WordAt m (external j) p → WordAt m (external j) q → p ≡ q
     unfolding WordAt
-    one_place j p q h g = let e : ◌≡◌ {A = Address} (At p) (At q) = sym h.2 ∙ g.2 in ap address_or0 e
+    one_place j p q h g = let e : ◌≡◌ {A = Option ℕ} (Some p) (Some q) = sym h.2 ∙ g.2 in ap address_or0 e
 
     pub words-apart : (i j p q x : ℕ) → i ≢ j → WordAt m (external i) p → WordAt m (external j) q → In p 4 x → In q 4 x → ⊥
     words-apart i j p q x n h g a b =
@@ -263,8 +259,8 @@ module _ (m : Image) where
         (dec_at (address m (tag F externals j)))
       where
         go
-            : Dec (j < count F externals) → Dec ((v : ℕ) × (relocated_word (relocation_type (kind F externals j)) 0 0 0 ≡ Word v))
-            → Dec ((p : ℕ) × (address m (tag F externals j) ≡ At p)) → Dec ((p : ℕ) × WordAt m (external j) p × In p 4 q)
+            : Dec (j < count F externals) → Dec ((v : ℕ) × (relocated_word (relocation_type (kind F externals j)) 0 0 0 ≡ Some v))
+            → Dec ((p : ℕ) × (address m (tag F externals j) ≡ Some p)) → Dec ((p : ℕ) × WordAt m (external j) p × In p 4 q)
         go (no n) b c = no (λ h. n h.1.0)
         go (yes a) (no n) c = no (λ h. n h.1.1)
         go (yes a) (yes b) (no n) = no (λ h. n (h.0, h.1.2))

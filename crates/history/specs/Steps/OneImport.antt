@@ -1,15 +1,12 @@
 -- One import of a standing module: its batch, whether it is linked, and linking or unlinking it.
-use Rattle.std.specs.Prelude.{if◌then◌else◌, ℕ, ◌+◌, ◌≤◌, ◌<◌, ◌≡◌, ◌≢◌, Bool, true}
+use Rattle.std.specs.Prelude.{if◌then◌else◌, ℕ, ◌+◌, ◌≤◌, ◌<◌, ◌≡◌, ◌≢◌, Bool, true, Option, Some, None}
 use Rattle.std.proofs.Math.Path.{refl, ap}
 use Rattle.std.proofs.Common.{sym, ◌∙◌, arith, lit<, ne_eqb}
-use Rattle.std.proofs.Math.Option.{Option, some, none}
 use Rattle.std.proofs.Math.Bool.{false}
 use Rattle.std.proofs.Math.Decide.{ℕ_discrete}
 use Rattle.window.specs.Memory.{◌⊕◌}
 use Rattle.window.specs.Access.{ret, ◌>>◌, get32}
 use Rattle.window.specs.Within.{Low}
-use Rattle.register.specs.declared.read.Symbol.{Symbol}
-use Rattle.register.specs.declared.read.Symbol.TheVariants.{At, Nothing}
 use Rattle.linker_spec.specs.Relocation.{apply_relocation_batch, batch_is_resolved}
 use Rattle.linker_spec.specs.Imports.{is_unresolved, resolve}
 use Rattle.linker_spec.specs.Resets.{reset, reset_at}
@@ -26,14 +23,14 @@ use Rattle.history.specs.Steps.Reading.{plain-sum, four_at, moved_sum}
 use Rattle.history.specs.Steps.Links.{Links, relink, relink-same, relink-other, is_some, first_of, symbol_for, mark_for, symbols, marks, Stands, links, unlinks, reads_linked}
 
 -- what a link becomes where the symbol is offered: one that stands stays
-unfoldable pub link_to : Option ℕ → Symbol → Option ℕ
-link_to (some a) s = some a
-link_to none (At a) = some a
-link_to none Nothing = none
+unfoldable pub link_to : Option ℕ → Option ℕ → Option ℕ
+link_to (Some a) s = Some a
+link_to None (Some a) = Some a
+link_to None None = None
 
 -- and where its module leaves
 unfoldable pub unlink : Bool → Option ℕ → Option ℕ
-unlink true x = none
+unlink true x = None
 unlink false x = x
 
 module _ (m : Image) (laid : WellLaid m) (low : Low (Area m)) where
@@ -106,26 +103,26 @@ module _ (m : Image) (laid : WellLaid m) (low : Low (Area m)) where
 
     -- linking: only an import that is not linked changes
     pub resolves
-        : {φ : Links} {M : Memory} (i : Import) (e f : ℕ) (x : Symbol) → BatchOf F i e f → Stands m T φ n v M
+        : {φ : Links} {M : Memory} (i : Import) (e f : ℕ) (x : Option ℕ) → BatchOf F i e f → Stands m T φ n v M
         → Does S (if (if is_some (φ e) then false else true) then resolve base (base + entry F externals e) x else ret tt)
         (λ _ N. Stands m T (relink φ e (link_to (φ e) x)) n v N) M
     unfolding resolve link_to is_some
     resolves {φ} {M} i e f x b s = go (φ e) refl x
       where
         go
-            : (y : Option ℕ) → φ e ≡ y → (x : Symbol)
+            : (y : Option ℕ) → φ e ≡ y → (x : Option ℕ)
             → Does S (if (if is_some y then false else true) then resolve base (base + entry F externals e) x else ret tt)
             (λ _ N. Stands m T (relink φ e (link_to y x)) n v N) M
-        go (some a) z x = does_ret S (stands_same (λ j. again φ e j ∙ ap (λ y. relink φ e y j) z) s)
-        go none z (At a) =
+        go (Some a) z x = does_ret S (stands_same (λ j. again φ e j ∙ ap (λ y. relink φ e y j) z) s)
+        go None z (Some a) =
             does_then S (apply_relocation_batch base (base + entry F externals e) a true) _ (links m laid low view n v i e f a b s)
             (λ _ N t. does_ret S t)
-        go none z Nothing = does_ret S (stands_same (λ j. again φ e j ∙ ap (λ y. relink φ e y j) z) s)
+        go None z None = does_ret S (stands_same (λ j. again φ e j ∙ ap (λ y. relink φ e y j) z) s)
 
     -- unlinking: a linked import goes back to its handler
     pub resets
         : {φ : Links} {M : Memory} (i : Import) (e f : ℕ) → BatchOf F i e f → Stands m T φ n v M
-        → Does S (reset base (handler m) (base + entry F externals e)) (λ _ N. Stands m T (relink φ e none) n v N) M
+        → Does S (reset base (handler m) (base + entry F externals e)) (λ _ N. Stands m T (relink φ e None) n v N) M
     unfolding reset is_some
     resets {φ} {M} i e f b s =
         rw (ne_eqb (base + entry F externals e) 0 (batch-not_0 i e f b))
@@ -136,15 +133,15 @@ module _ (m : Image) (laid : WellLaid m) (low : Low (Area m)) where
             : (y : Option ℕ) → φ e ≡ y
             → Does S
             (if is_some y then ◌>>◌ {B = Unit {0}} (apply_relocation_batch base (base + entry F externals e) (handler m) false) (ret tt) else ret tt)
-            (λ _ N. Stands m T (relink φ e none) n v N) M
-        go (some a) z =
+            (λ _ N. Stands m T (relink φ e None) n v N) M
+        go (Some a) z =
             does_then S (apply_relocation_batch base (base + entry F externals e) (handler m) false) _ (unlinks m laid low view n v i e f b s)
             (λ _ N t. does_ret S t)
-        go none z = does_ret S (stands_same (λ j. again φ e j ∙ ap (λ y. relink φ e y j) z) s)
+        go None z = does_ret S (stands_same (λ j. again φ e j ∙ ap (λ y. relink φ e y j) z) s)
 
     pub resets_at
         : {φ : Links} {M : Memory} (i : Import) → IsImport F i → (e f : ℕ) → BatchOf F i e f → Stands m T φ n v M
-        → Does S (reset_at base (handler m) (base + import_entry F i)) (λ _ N. Stands m T (relink φ e none) n v N) M
+        → Does S (reset_at base (handler m) (base + import_entry F i)) (λ _ N. Stands m T (relink φ e None) n v N) M
     unfolding reset_at
     resets_at i l e f b s =
         does_read S (get32 (base + import_entry F i ⊕ 4)) _ (base + entry F externals e) (reads_batch (shows_view m laid view s.shows) i l e f b)

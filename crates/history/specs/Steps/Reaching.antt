@@ -1,10 +1,9 @@
 -- What is done to standing modules one after another: a new one's exports reach them, or one that leaves is taken from their links.
 use Prim.Native.Nat.{ℕ, zero, suc, pred, ◌≤◌, ◌<◌}
-use Rattle.std.specs.Prelude.{if◌then◌else◌, ◌≡◌, ◌≢◌}
+use Rattle.std.specs.Prelude.{if◌then◌else◌, ◌≡◌, ◌≢◌, None}
 use Rattle.std.proofs.Math.Path.{refl}
 use Rattle.std.proofs.Common.{sym, ◌∙◌, arith}
 use mathlib.Core.List.{List, [], ◌∷◌}
-use Rattle.std.proofs.Math.Option.{none}
 use Rattle.std.proofs.Math.Decide.{dec_lt}
 use Rattle.std.proofs.Math.ListN.{length}
 use Rattle.window.specs.Access.{Prog, ret, ◌>>=◌}
@@ -126,13 +125,13 @@ module _ (C : Modules) (sound : Sound C) where
       → Does S (reset_importers r rs)
       (λ _ N.
       (ψ : ℕ → Links) × AllModulesShow C ψ n v N
-      × ((j : ℕ) → j < C.number → j ≢ d → Change (Dropped x (C.image j)) (λ e y z. z ≡ none) (φ j) (ψ j)) × (ψ d ≡ φ d))
+      × ((j : ℕ) → j < C.number → j ≢ d → Change (Dropped x (C.image j)) (λ e y z. z ≡ None) (φ j) (ψ j)) × (ψ d ≡ φ d))
       M
   unfolding reset_importers
   resets_modules_show x r rec d rs below few h {φ} w =
       does_mono S
       (in_turn (reset_importers r) (λ t. if t.auto then reset_imports r t.base else ret tt)
-      (λ j. Change (Dropped x (C.image j)) (λ e y z. z ≡ none)) nil cons each (skip d) rs
+      (λ j. Change (Dropped x (C.image j)) (λ e y z. z ≡ None)) nil cons each (skip d) rs
       (λ k l. skip_below C.number d k below (omega arith)) (λ j k l g e. skip-other d j k e) h w)
       (λ _ N t. (t.0, t.1, (λ j l o. at t.0 t.2 j l o (dec_lt j d)), t.3 d (λ k l. skip-not d k)))
     where
@@ -148,14 +147,14 @@ module _ (C : Modules) (sound : Sound C) where
           → Stands (C.image k) (C.rest k) φ n v M
           → Does (Area (C.image k)) (if t.auto then reset_imports r t.base else ret tt)
           (λ _ N.
-          (ψ : Links) × Stands (C.image k) (C.rest k) ψ n v N × Change (Dropped x (C.image k)) (λ e y z. z ≡ none) φ ψ)
+          (ψ : Links) × Stands (C.image k) (C.rest k) ψ n v N × Change (Dropped x (C.image k)) (λ e y z. z ≡ None) φ ψ)
           M
       each k l t h φ n v M s =
           rw (h.auto, h.base) (resets_all (C.image k) (sound.laid k l) (sound.low k l) (sound.view k l) n v x r rec s)
 
       at
           : (ψ : ℕ → Links)
-          → ((k : ℕ) → k < length rs → Change (Dropped x (C.image (skip d k))) (λ e y z. z ≡ none) (φ (skip d k)) (ψ (skip d k))) → (j : ℕ)
-          → j < C.number → j ≢ d → Dec (j < d) → Change (Dropped x (C.image j)) (λ e y z. z ≡ none) (φ j) (ψ j)
+          → ((k : ℕ) → k < length rs → Change (Dropped x (C.image (skip d k))) (λ e y z. z ≡ None) (φ (skip d k)) (ψ (skip d k))) → (j : ℕ)
+          → j < C.number → j ≢ d → Dec (j < d) → Change (Dropped x (C.image j)) (λ e y z. z ≡ None) (φ j) (ψ j)
       at ψ f j l o (yes g) = rw (skip-low d j g) at (f j (omega arith))
       at ψ f j l o (no g) = rw (skip-back d j (omega arith)) at (f (pred j) (omega arith))

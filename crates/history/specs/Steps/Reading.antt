@@ -1,6 +1,6 @@
 -- Reading a module that shows its view: fields, segments, tags, the handler and names are what the image says.
 use Prim.Native.Nat.{ℕ, zero, suc, ◌+◌, ◌^◌, ◌≤◌, ◌<◌}
-use Rattle.std.specs.Prelude.{if◌then◌else◌, ◌≡◌, ◌≢◌, ◌⊎◌, length, eqb}
+use Rattle.std.specs.Prelude.{if◌then◌else◌, ◌≡◌, ◌≢◌, ◌⊎◌, length, eqb, Some, None}
 use Rattle.std.proofs.Math.Path.{refl}
 use Rattle.std.proofs.Common.{ap, inl, inr, lit<, lit≤}
 use mathlib.Core.List.{List, [], ◌∷◌}
@@ -16,7 +16,6 @@ use Rattle.window.specs.Mirror.{word, run_m}
 use Rattle.layout.specs.Header.{segment_num, segment_table_offset, segment_entry_size, on_unresolved_segment_tag}
 use Rattle.layout.specs.Format.{tag_segment}
 use Rattle.layout.specs.Segments.{field, entry_at, segment_entry, segment, tag_to_address}
-use Rattle.layout.specs.declared.segments.FoundSegment.TheVariants.{Found, Missing}
 use Rattle.linker_spec.specs.Relocation.{unresolved_symbol}
 use Rattle.history.specs.Image.{tables, segments, start, count, entry, name_of, file_segment}
 use Rattle.history.specs.LoadedModule.{Image, base_of, size_of, moved_offset, segment_place, placed_segment, address, handler, Area}
@@ -143,14 +142,14 @@ module _ (m : Image) (laid : WellLaid m) (low : Low (Area m)) where
             : Dec (i < count F segments)
             → ReadsValue S
             (if ltb i (count F segments) then (field base segment_table_offset >>= λ t. segment_entry (entry_at t i segment_entry_size) >>= λ s. ret
-            (Found s))
-            else ret Missing) (placed_segment m i) M
+            (Some s))
+            else ret None) (placed_segment m i) M
         go (yes l) =
             rw (lt-ltb i (count F segments) l)
             (reads_then S (field base segment_table_offset) _ (moved_offset base (start F segments)) (reads_start 0 (lit< tt))
             (rw (entry_at_lem 0 i (lit< tt) l (omega (arith, segment-inside i l)))
             (reads_then S (segment_entry (base + entry F segments i)) _ _ (reads_entry i l) (reads_ret S _))))
-        go (no l) = rw (le-ltb i (count F segments) (omega arith)) (reads_ret S Missing)
+        go (no l) = rw (le-ltb i (count F segments) (omega arith)) (reads_ret S None)
 
     pub reads_address : (t : ℕ) → ReadsValue S (tag_to_address base t) (address m t) M
     unfolding tag_to_address address

@@ -1,6 +1,6 @@
 -- A module that shows its view gives the record that says what the image says.
 use Prim.Native.Nat.{ℕ, zero, suc, ◌+◌, ◌≤◌, ◌<◌}
-use Rattle.std.specs.Prelude.{if◌then◌else◌, ◌≡◌, List, [], ◌∷◌, ◌++◌, Bool, take}
+use Rattle.std.specs.Prelude.{if◌then◌else◌, ◌≡◌, List, [], ◌∷◌, ◌++◌, Bool, take, Option, Some, None}
 use Rattle.std.proofs.Math.Path.{refl}
 use Rattle.std.proofs.Common.{◌∙◌, arith, lit<, lit≤, lt-ltb, le-ltb}
 use Rattle.std.proofs.Math.Bool.{true, false}
@@ -15,13 +15,10 @@ use Rattle.window.specs.Mirror.{word}
 use Rattle.layout.specs.Header.{module_name_offset}
 use Rattle.layout.specs.Format.{tag_segment, tag_offset}
 use Rattle.layout.specs.Segments.{field, entry_at, segment, tag_to_address}
-use Rattle.layout.specs.declared.segments.Address.{Address}
-use Rattle.layout.specs.declared.segments.Address.TheVariants.{At, Nowhere}
 use Rattle.register.specs.Words.{same}
 use Rattle.register.specs.Module.{Export, Module}
 use Rattle.register.specs.Read.Read.{address_of, entry_of}
 use Rattle.register.specs.Read.Read as read
-use Rattle.register.specs.declared.read.Symbol.{Symbol}
 use Rattle.linker_spec.specs.Imports as imports
 use Rattle.linker_spec.specs.Exports as exports
 use Rattle.linker_spec.specs.Exports.{put_usable, offset_or0, read_module}
@@ -33,7 +30,7 @@ use Rattle.history.specs.Steps.Wp.{Memory, Does, ReadsValue, does_mono, does_loo
 use Rattle.history.specs.Steps.View.{View, name-field, export_name_field, export_tag, indexed_tag}
 use Rattle.history.specs.Steps.Parts.{part-inside, entry-in_table}
 use Rattle.history.specs.Steps.Reading.{plain-sum, four_at, entry_at_lem, reads_field, reads_count, reads_start, reads_segment, reads_address, reads_name}
-use Rattle.history.specs.Steps.Records.{as_symbol, Recorded}
+use Rattle.history.specs.Steps.Records.{Recorded}
 use Rattle.history.specs.Steps.Gathered.{put-named, gathered, entry-gathered, entry_taken}
 
 module _ (m : Image) where
@@ -64,29 +61,22 @@ module _ (m : Image) where
         indexed = gathered indexed_address (count F indexed_exports);
       }
 
-  named-found : (n : ℕ) (name : List ℕ) → address_of (named_among n) name ≡ as_symbol (export_among m n name)
-  unfolding named_among export_among address_of as_symbol put_usable later_export
+  named-found : (n : ℕ) (name : List ℕ) → address_of (named_among n) name ≡ export_among m n name
+  unfolding named_among export_among address_of put_usable later_export
   named-found zero name = refl
   named-found (suc n) name = go (export_address m n) (same name (export_name m n)) refl (named-found n name)
     where
       go
-          : (a : Address) (c : Bool) → same name (export_name m n) ≡ c → address_of (named_among n) name ≡ as_symbol (export_among m n name)
-          → address_of (put_usable (named_among n) (export_name m n) a) name ≡ as_symbol (later_export c a (export_among m n name))
-      go (At p) true e ih = put-named (named_among n) (export_name m n) p name ∙ rw e refl
-      go (At p) false e ih = put-named (named_among n) (export_name m n) p name ∙ rw e ih
-      go Nowhere true e ih = ih
-      go Nowhere false e ih = ih
+          : (a : Option ℕ) (c : Bool) → same name (export_name m n) ≡ c → address_of (named_among n) name ≡ export_among m n name
+          → address_of (put_usable (named_among n) (export_name m n) a) name ≡ later_export c a (export_among m n name)
+      go (Some p) true e ih = put-named (named_among n) (export_name m n) p name ∙ rw e refl
+      go (Some p) false e ih = put-named (named_among n) (export_name m n) p name ∙ rw e ih
+      go None true e ih = ih
+      go None false e ih = ih
 
-  index_is : (i : ℕ) → (if ltb i (count F indexed_exports) then Symbol.At (indexed_address i) else Symbol.Nothing) ≡ as_symbol (indexed_of m i)
-  unfolding indexed_of indexed_address as_symbol
-  index_is i = go (ltb i (count F indexed_exports))
-    where
-      go
-          : (c : Bool)
-          → (if c then Symbol.At (address_or0 (address m (word F (entry F indexed_exports i)))) else Symbol.Nothing)
-          ≡ as_symbol (if c then At (address_or0 (address m (word F (entry F indexed_exports i)))) else Nowhere)
-      go true = refl
-      go false = refl
+  index_is : (i : ℕ) → (if ltb i (count F indexed_exports) then Some (indexed_address i) else None) ≡ indexed_of m i
+  unfolding indexed_of indexed_address
+  index_is i = refl
 
   offset_is : (i : ℕ) → i < count F segments → segment_offset i ≡ segment_place m i
   unfolding segment_offset placed_segment
@@ -95,8 +85,8 @@ module _ (m : Image) where
   -- a tag's segment is below 16
   tag_is
       : (t : ℕ)
-      → imports.plus (entry_of (take 16 (gathered segment_offset (count F segments))) (tag_segment t)) (tag_offset t) ≡ as_symbol (anonymous_of m t)
-  unfolding anonymous_of as_symbol
+      → imports.plus (entry_of (take 16 (gathered segment_offset (count F segments))) (tag_segment t)) (tag_offset t) ≡ anonymous_of m t
+  unfolding anonymous_of
   tag_is t =
       rw (
         entry_taken (gathered segment_offset (count F segments)) (tag_segment t) (omega arith),
@@ -106,8 +96,8 @@ module _ (m : Image) where
     where
       go
           : Dec (tag_segment t < count F segments)
-          → imports.plus (if ltb (tag_segment t) (count F segments) then Symbol.At (segment_offset (tag_segment t)) else Symbol.Nothing) (tag_offset t)
-          ≡ as_symbol (if ltb (tag_segment t) (count F segments) then At (segment_place m (tag_segment t) ⊕ tag_offset t) else Nowhere)
+          → imports.plus (if ltb (tag_segment t) (count F segments) then Some (segment_offset (tag_segment t)) else None) (tag_offset t)
+          ≡ (if ltb (tag_segment t) (count F segments) then Some (segment_place m (tag_segment t) ⊕ tag_offset t) else None)
       go (yes l) = rw (lt-ltb (tag_segment t) (count F segments) l, offset_is (tag_segment t) l) refl
       go (no l) = rw (le-ltb (tag_segment t) (count F segments) (omega arith)) refl
 

@@ -1,8 +1,7 @@
 -- A module leaves: each import of a standing one that it may have served goes back to its handler.
-use Rattle.std.specs.Prelude.{if◌then◌else◌, ℕ, ◌+◌, ◌<◌, ◌≡◌, refl, ◌⊎◌, Bool}
+use Rattle.std.specs.Prelude.{if◌then◌else◌, ℕ, ◌+◌, ◌<◌, ◌≡◌, refl, ◌⊎◌, Bool, None}
 use Rattle.std.proofs.Common.{sym, ◌∙◌, lit<}
 use Rattle.std.proofs.Math.Logic.{inl, inr}
-use Rattle.std.proofs.Math.Option.{none}
 use Rattle.std.proofs.Math.Bool.{true, false}
 use Rattle.window.specs.Memory.{◌⊕◌}
 use Rattle.window.specs.Access.{Prog, ret, ◌>>=◌, ◌>>◌, get32}
@@ -53,7 +52,7 @@ module _ (m : Image) (laid : WellLaid m) (low : Low (Area m)) {T : Memory} (view
   S = Area m
 
   abbrev LinksReset : (ℕ → Type 0) → Links → Memory → Type 0
-  LinksReset P φ N = Changed m T n v S (λ e x y. y ≡ none) P φ N
+  LinksReset P φ N = Changed m T n v S (λ e x y. y ≡ None) P φ N
 
   module _ (x : Image) (r : Module) (rec : Recorded x r) where
     abbrev NamedDrops : ℕ → ℕ → Type 0
@@ -83,7 +82,7 @@ module _ (m : Image) (laid : WellLaid m) (low : Low (Area m)) {T : Memory} (view
             let b = laid.alone.batches (named i) l in
             does_mono S (resets_at m laid low view n v (named i) l b.0 b.1 b.2 s)
             (λ _ N c.
-            (relink φ b.0 none, c, change_iff (λ d g. (h, g)) (λ d g. g.1) (unlinked m laid low view n v (named i) b.0 b.1 b.2)))
+            (relink φ b.0 None, c, change_iff (λ d g. (h, g)) (λ d g. g.1) (unlinked m laid low view n v (named i) b.0 b.1 b.2)))
         go false h = does_ret S (φ, s, change_none (λ d g. true_false (sym g.0 ∙ h)))
 
     -- one module entry
@@ -147,7 +146,7 @@ module _ (m : Image) (laid : WellLaid m) (low : Low (Area m)) {T : Memory} (view
         (does_read S (field base 0x104) _ (count F named_imports) (reads_count m laid low w 6 (lit< tt))
         (does_then S
         (loop (λ i _. reset_named r base (handler m) (entry_at (moved_offset base (start F named_imports)) i 8)) 0 (count F named_imports) (tt {0})) _
-        (changes_loop m T n v S (λ e x y. y ≡ none) (λ i _. reset_named r base (handler m) (entry_at (moved_offset base (start F named_imports)) i 8))
+        (changes_loop m T n v S (λ e x y. y ≡ None) (λ i _. reset_named r base (handler m) (entry_at (moved_offset base (start F named_imports)) i 8))
         NamedDrops (count F named_imports) (tt {0}) (λ i j e l g o a b. named-apart m laid low view n v i j e l g o a.1 b.1)
         (λ i b ψ N l t. rw (named-at m laid low view n v i l) (resets_one i l t)) s)
         (λ _ N c.
@@ -155,7 +154,7 @@ module _ (m : Image) (laid : WellLaid m) (low : Low (Area m)) {T : Memory} (view
         does_read S (field base 0xf0) _ (moved_offset base (start F module_entries)) (reads_start m laid low u 4 (lit< tt))
         (does_read S (field base 0xf4) _ (count F module_entries) (reads_count m laid low u 4 (lit< tt))
         (does_mono S
-        (changes_loop m T n v S (λ e x y. y ≡ none)
+        (changes_loop m T n v S (λ e x y. y ≡ None)
         (λ j _. reset_module r base (handler m) (entry_at (moved_offset base (start F module_entries)) j 20)) (EntryAsks m laid low view n v x)
         (count F module_entries) (tt {0}) (entries_apart m laid low view n v x)
         (λ j b ψ L l t. rw (entry-start m laid low view n v j l) (resets_entry j l t)) c.1)

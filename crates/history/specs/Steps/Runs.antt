@@ -1,8 +1,7 @@
 -- The imports of one module entry: two runs of the header's tables, each import linked or unlinked in turn.
-use Rattle.std.specs.Prelude.{if◌then◌else◌, ℕ, ◌+◌, ◌*◌, ◌≤◌, ◌<◌, ◌≡◌, ◌≢◌, ◌⊎◌, true, length}
+use Rattle.std.specs.Prelude.{if◌then◌else◌, ℕ, ◌+◌, ◌*◌, ◌≤◌, ◌<◌, ◌≡◌, ◌≢◌, ◌⊎◌, true, length, Option, None}
 use Rattle.std.proofs.Math.Path.{refl, sym, ap}
 use Rattle.std.proofs.Common.{◌∙◌, inl, inr, arith}
-use Rattle.std.proofs.Math.Option.{Option, none}
 use Rattle.std.proofs.Math.Bool.{false}
 use Rattle.std.proofs.Math.Dec.{lit<}
 use Rattle.window.specs.Memory.{◌⊕◌}
@@ -11,7 +10,6 @@ use Rattle.window.specs.Loop.{loop}
 use Rattle.window.specs.Within.{Low}
 use Rattle.window.specs.Mirror.{word}
 use Rattle.layout.specs.Segments.{entry_at}
-use Rattle.register.specs.declared.read.Symbol.{Symbol}
 use Rattle.linker_spec.specs.Imports.{is_unresolved, import_from}
 use Rattle.linker_spec.specs.Resets.{reset_at}
 use Rattle.history.specs.Image.{tables, module_entries, indexed_imports, anonymous_imports, externals, start, count, entry}
@@ -38,7 +36,7 @@ abbrev pub EntryBegins : (ℕ → ℕ) → ℕ → ℕ → Type 0
 EntryBegins F j e = (i : Import) × IsImport F i × InRun F j i × Begins F i e
 
 -- each import whose batch begins at e gets what is offered to it
-abbrev pub Linking : (ℕ → ℕ) → (Import → Symbol) → ℕ → Option ℕ → Option ℕ → Type 0
+abbrev pub Linking : (ℕ → ℕ) → (Import → Option ℕ) → ℕ → Option ℕ → Option ℕ → Type 0
 Linking F offered e x y = (i : Import) → IsImport F i → Begins F i e → y ≡ link_to x (offered i)
 
 module _ (m : Image) (laid : WellLaid m) (low : Low (Area m)) {T : Memory} (view : View m T) (n v : ℕ) where
@@ -58,7 +56,7 @@ module _ (m : Image) (laid : WellLaid m) (low : Low (Area m)) {T : Memory} (view
 
   -- changing the link of one import is a change at its batch's first entry
   pub relinked
-      : {φ : Links} (offered : Import → Symbol) (i : Import) → IsImport F i → (e f : ℕ) → BatchOf F i e f
+      : {φ : Links} (offered : Import → Option ℕ) (i : Import) → IsImport F i → (e f : ℕ) → BatchOf F i e f
       → Change (Begins F i) (Linking F offered) φ (relink φ e (link_to (φ e) (offered i)))
   relinked {φ} offered i l e f b =
       record {
@@ -70,16 +68,16 @@ module _ (m : Image) (laid : WellLaid m) (low : Low (Area m)) {T : Memory} (view
       }
 
   pub unlinked
-      : {φ : Links} (i : Import) (e f : ℕ) → BatchOf F i e f → Change (Begins F i) (λ d x y. y ≡ none) φ (relink φ e none)
+      : {φ : Links} (i : Import) (e f : ℕ) → BatchOf F i e f → Change (Begins F i) (λ d x y. y ≡ None) φ (relink φ e None)
   unlinked {φ} i e f b =
       record {
-        changed = λ d h. rw (one-first i e f d b h) (relink-same φ e none);
-        same = λ d o. relink-other φ e none d (λ z. o (rw z b.first));
+        changed = λ d h. rw (one-first i e f d b h) (relink-same φ e None);
+        same = λ d o. relink-other φ e None d (λ z. o (rw z b.first));
       }
 
   -- one import by index or tag
   links_one
-      : {φ : Links} {M : Memory} (offered : Import → Symbol) (symbol : ℕ → Symbol) (i : Import) → IsImport F i
+      : {φ : Links} {M : Memory} (offered : Import → Option ℕ) (symbol : ℕ → Option ℕ) (i : Import) → IsImport F i
       → ((N : Memory) → View m N → word N (base + import_entry F i) ≡ wanted F i) → symbol (wanted F i) ≡ offered i → Stands m T φ n v M
       → Does S (import_from symbol base (base + import_entry F i)) (λ _ N. Changed m T n v S (Linking F offered) (Begins F i) φ N) M
   unfolding import_from
@@ -228,7 +226,7 @@ module _ (m : Image) (laid : WellLaid m) (low : Low (Area m)) {T : Memory} (view
 
     -- the run, import by import, each linked to what is offered
     pub links_run
-        : {φ : Links} {M : Memory} (offered : Import → Symbol) (symbol : ℕ → Symbol)
+        : {φ : Links} {M : Memory} (offered : Import → Option ℕ) (symbol : ℕ → Option ℕ)
         → ((i : ℕ) → IsImport F (make i) → InRun F j (make i) → symbol (wanted F (make i)) ≡ offered (make i)) → Stands m T φ n v M
         → Does S
         (loop (λ k _. import_from symbol base (entry_at (moved_offset base (run_start F j (make 0))) k 8)) 0 (run_count F j (make 0)) (tt {0}))
@@ -252,10 +250,10 @@ module _ (m : Image) (laid : WellLaid m) (low : Low (Area m)) {T : Memory} (view
         : {φ : Links} {M : Memory} → Stands m T φ n v M
         → Does S
         (loop (λ k _. reset_at base (handler m) (entry_at (moved_offset base (run_start F j (make 0))) k 8)) 0 (run_count F j (make 0)) (tt {0}))
-        (λ _ N. Changed m T n v S (λ e x y. y ≡ none) (RunBegins F make j) φ N) M
+        (λ _ N. Changed m T n v S (λ e x y. y ≡ None) (RunBegins F make j) φ N) M
     unlinks_run {φ} {M} s =
         does_mono S
-        (changes_loop m T n v S (λ e x y. y ≡ none)
+        (changes_loop m T n v S (λ e x y. y ≡ None)
         (λ k _. reset_at base (handler m) (entry_at (moved_offset base (run_start F j (make 0))) k 8)) AtBegins (run_count F j (make 0)) (tt {0})
         (λ k d e h g o a b. run-apart k d e o a b)
         (λ k b ψ N h t.
@@ -263,5 +261,5 @@ module _ (m : Image) (laid : WellLaid m) (low : Low (Area m)) {T : Memory} (view
         let f = laid.alone.batches (make r.0) r.1.is in
         rw (run-address k r.0 h r.1)
         (does_mono S (resets_at m laid low view n v (make r.0) r.1.is f.0 f.1 f.2 t)
-        (λ _ L c. (relink ψ f.0 none, c, at_one k r.0 r.1 (unlinked (make r.0) f.0 f.1 f.2))))) s)
+        (λ _ L c. (relink ψ f.0 None, c, at_one k r.0 r.1 (unlinked (make r.0) f.0 f.1 f.2))))) s)
         (λ _ N c. (c.0, c.1, run-begins c.2))

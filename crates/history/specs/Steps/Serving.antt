@@ -1,9 +1,8 @@
 -- A new module's exports reach a standing one: each of its imports that asks for one gets it, if it is not linked yet.
-use Rattle.std.specs.Prelude.{if◌then◌else◌, ℕ, ◌+◌, ◌<◌, ◌≡◌, refl, ◌⊎◌}
+use Rattle.std.specs.Prelude.{if◌then◌else◌, ℕ, ◌+◌, ◌<◌, ◌≡◌, refl, ◌⊎◌, Some}
 use Rattle.std.proofs.Math.Path.{sym}
 use Rattle.std.proofs.Common.{◌∙◌, lit<}
 use Rattle.std.proofs.Math.Logic.{inl, inr}
-use Rattle.std.proofs.Math.Option.{some}
 use Rattle.std.proofs.Math.Bool.{Bool, true, false}
 use Rattle.window.specs.Memory.{◌⊕◌}
 use Rattle.window.specs.Access.{ret, get32}
@@ -98,7 +97,7 @@ module _ (m : Image) (laid : WellLaid m) (low : Low (Area m)) {T : Memory} (view
       where
         go
             : (b : Bool) → same (name_of F (word F (entry F module_entries j))) r.name ≡ b
-            → Does S (if b then imports_of (some r) base (base + entry F module_entries j) else ret tt)
+            → Does S (if b then imports_of (Some r) base (base + entry F module_entries j) else ret tt)
             (λ _ N. Changed m T n v S (Linking F (export_for x m)) (EntryAsks m laid low view n v x j) φ N) M
         go true h =
             let e : name_of F (word F (entry F module_entries j)) ≡ module_name x.file = same_true _ _ h ∙ rec.name in

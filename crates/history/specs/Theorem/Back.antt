@@ -1,12 +1,10 @@
 -- The register that a call answers is read back from the bytes that it leaves.
-use Rattle.std.specs.Prelude.{ℕ, ◌+◌, ◌*◌, ◌^◌, ◌<◌, ◌≡◌, refl, List, Bool, length, take}
+use Rattle.std.specs.Prelude.{ℕ, ◌+◌, ◌*◌, ◌^◌, ◌<◌, ◌≡◌, refl, List, Bool, length, take, Option, Some, Ok, Err}
 use Rattle.std.proofs.Common.{ap, ◌∙◌, subst, arith}
 use Rattle.std.proofs.Math.Bool.{true}
 use Rattle.window.specs.Access.{Prog}
 use Rattle.layout.specs.Header.{next_cro, previous_cro}
 use Rattle.layout.specs.Segments.{set_field}
-use Rattle.register.specs.declared.words.Crs.{Crs}
-use Rattle.register.specs.declared.words.Crs.TheVariants.{Known}
 use Rattle.register.specs.Module.{Module, Register, proper}
 use Rattle.register.specs.Encode.{record_words, encode_words, crs_base, slots}
 use Rattle.register.specs.Decode.{register_of, is_register}
@@ -19,29 +17,27 @@ use Rattle.register.specs.Append.Stands.{appended-proper}
 use Rattle.register.specs.Change.Remove.{RecordOfRegister, remaining}
 use Rattle.register.specs.Change.Left.{remove_kept}
 use Rattle.linker_spec.specs.declared.rebase.LoadArguments.{LoadArguments}
-use Rattle.linker_spec.specs.declared.rebase.Rebased.{Rebased}
+use Rattle.linker_spec.specs.Refusal.{Rebased}
 use Rattle.linker_spec.specs.Relocation.{reset_external_relocations}
 use Rattle.linker_spec.specs.Exports.{read_module}
 use Rattle.linker_spec.specs.Imports.{apply_import_named_symbols, apply_module_imports, apply_exports_to_loaded}
 use Rattle.linker_spec.specs.Fix.{fix}
-use Rattle.linker_spec.specs.Calls.{Answer, NotACro, BadSegment, BadWindow, NoRegister, NoRoom, NotLoaded, Done, rebase, rebase_static, fits, add_record, initialized, initialize, listed, missing_now, linked, load}
+use Rattle.linker_spec.specs.Calls.{Answer, NotLoaded, Done, rebase, rebase_static, fits, add_record, initialized, initialize, listed, missing_now, linked, load, Refused}
 use Rattle.linker_spec.specs.AnyResult.{Yields, yields_ret, yields_bind, yields_then, yields_if}
 use Rattle.linker_spec.specs.Room.{Fits, fits_means, with, with-small}
 use Rattle.linker_spec.specs.Valid.{MissingNames}
 use Rattle.linker_spec.proofs.Valid.{imports_yield}
 use Rattle.linker_spec.specs.Reads.{Readable}
 use Rattle.linker_spec.proofs.Recorded.{read_module_yields}
+use Rattle.linker_spec.specs.declared.refusal.Refusal.TheVariants.{NotACro, BadSegment, NoRoom}
+use Rattle.linker_spec.specs.declared.refusal.RebaseError.{RebaseError}
 use Rattle.history.specs.Sessions.Answers.{encoded-back}
 
 abbrev pub Back : ℕ → ℕ → Register → Type 0
 Back records names s = register_of (encode_records records s) (encode_names names s) (encode_missing s) ≡ s
 
 abbrev pub Backs : ℕ → ℕ → Answer → Type 0
-Backs records names NotACro = Unit {0}
-Backs records names BadSegment = Unit {0}
-Backs records names BadWindow = Unit {0}
-Backs records names NoRegister = Unit {0}
-Backs records names NoRoom = Unit {0}
+Backs records names (Refused refusal) = Unit {0}
 Backs records names NotLoaded = Unit {0}
 Backs records names (Done v s) = Back records names s
 
@@ -51,7 +47,7 @@ module _ (at records names : ℕ) (r : Register) (p : proper r ≡ true) (s : Be
 
   -- a module more
   with-back
-      : (m : Module) → Readable at m → (f : Fits records names r m) (c : Crs) (missing : List (List ℕ)) → crs_base c < 2 ^ 32 → MissingNames missing
+      : (m : Module) → Readable at m → (f : Fits records names r m) (c : Option ℕ) (missing : List (List ℕ)) → crs_base c < 2 ^ 32 → MissingNames missing
       → Back records names (record { modules = (appended r m).modules; crs = c; missing = missing })
   unfolding encode_words appended
   with-back m k f c missing hc h =
@@ -66,12 +62,12 @@ module _ (at records names : ℕ) (r : Register) (p : proper r ≡ true) (s : Be
       → ((m : Module) → Readable at m → Fits records names r m → Yields at L (next m)) → (x : Rebased)
       → Yields at L (add_record records names r base size auto next x)
   unfolding add_record
-  enter_back base size auto next hb hs h Rebased.NotACro = yields_ret at L NotACro tt
-  enter_back base size auto next hb hs h Rebased.BadSegment = yields_ret at L BadSegment tt
-  enter_back base size auto next hb hs h Rebased.Done =
+  enter_back base size auto next hb hs h (Err RebaseError.NotACro) = yields_ret at L (Refused NotACro) tt
+  enter_back base size auto next hb hs h (Err RebaseError.BadSegment) = yields_ret at L (Refused BadSegment) tt
+  enter_back base size auto next hb hs h (Ok _) =
       yields_then at L (reset_external_relocations base) _
       (λ _. yields_bind at (Readable at) L (read_module base size auto) _ (read_module_yields at base size auto hb hs)
-      (λ m k. yields_if at L (fits records names r m) _ _ (λ f. h m k (fits_means records names r m f)) (λ _. yields_ret at L NoRoom tt)))
+      (λ m k. yields_if at L (fits records names r m) _ _ (λ f. h m k (fits_means records names r m f)) (λ _. yields_ret at L (Refused NoRoom) tt)))
 
   pub initialize-back : (base size : ℕ) → base < 2 ^ 32 → size < 2 ^ 32 → Yields at L (initialize base size records names r)
   unfolding initialize initialized with_crs appended crs_base
@@ -81,7 +77,7 @@ module _ (at records names : ℕ) (r : Register) (p : proper r ≡ true) (s : Be
       (enter_back base size true _ hb hs
       (λ m k f. yields_then at L (set_field base next_cro 0) _
       (λ _. yields_then at L (set_field base previous_cro 0) _
-      (λ _. yields_ret at L (Done 0 (with_crs (appended r m) base)) (with-back m k f (Known base) r.missing hb (a.few, a.kept))))))
+      (λ _. yields_ret at L (Done 0 (with_crs (appended r m) base)) (with-back m k f (Some base) r.missing hb (a.few, a.kept))))))
 
   crs-small : crs_base r.crs < 2 ^ 32
   unfolding encode_words

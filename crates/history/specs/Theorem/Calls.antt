@@ -1,9 +1,8 @@
 -- Each call in the window: from modules at rest to modules at rest.
 use Prim.Native.Nat.{ℕ, zero, suc, ◌+◌, ◌^◌, ◌≤◌, ◌<◌}
-use Rattle.std.specs.Prelude.{◌≡◌, refl, ◌≢◌, List, [], ◌∷◌, ◌++◌, Bool, get_or}
+use Rattle.std.specs.Prelude.{◌≡◌, refl, ◌≢◌, List, [], ◌∷◌, ◌++◌, Bool, get_or, None}
 use Rattle.std.proofs.Common.{sym, ap, ◌∙◌, lt-ltb}
 use Rattle.std.proofs.Math.Path.{fun_ext, subst}
-use Rattle.std.proofs.Math.Option.{none}
 use Rattle.std.proofs.Math.Bool.{true}
 use native.Mathlib.Omega.{arith}
 use Rattle.std.proofs.Math.Decide.{ℕ_discrete}
@@ -217,7 +216,7 @@ module _ (at : ℕ) (w : List ℕ) (r : Register) (none_yet : r.modules ≡ []) 
       record {
         rest =
             record {
-              links = λ _ _. none;
+              links = λ _ _. None;
               next = λ _. 0;
               previous = λ _. 0;
               linked_state =
@@ -231,10 +230,10 @@ module _ (at : ℕ) (w : List ℕ) (r : Register) (none_yet : r.modules ≡ []) 
                         };
                     some = lit< tt;
                     nonzero = first (λ k x T. base_of x.load_call ≢ 0) g.linked_state.nonzero;
-                    modules_show = record { stands = first (λ k x T. Stands x T (λ _. none) 0 0 N) g.linked_state.modules_show.stands };
+                    modules_show = record { stands = first (λ k x T. Stands x T (λ _. None) 0 0 N) g.linked_state.modules_show.stands };
                     listed = Listed-same 1 (first (λ k x T. base ≡ base_of x.load_call) (λ k l. refl)) (λ k l. refl) (λ k l. refl) g.linked_state.listed;
                     links = λ j l. resolved_same 1 (first (λ k x T. image_of crs ≡ x) (λ k l. refl))
-                        (first (λ k x T. LinksResolved 1 (λ _. image_of crs) x (λ _. none)) g.linked_state.links j l);
+                        (first (λ k x T. LinksResolved 1 (λ _. image_of crs) x (λ _. None)) g.linked_state.links j l);
                   };
               register_matches =
                   record {

@@ -8,10 +8,12 @@ use Rattle.window.specs.Silent.{YesOrNo, touched_said, silent, erase, yes_or_no}
 use Rattle.register.specs.Decode.{is_register}
 use Rattle.linker_spec.specs.declared.call.Call.{Call}
 use Rattle.linker_spec.specs.declared.call.Call.TheVariants.{Initialize, Load, Unload}
-use Rattle.linker_spec.specs.Calls.{NoRoom, number, rebase, rebase_static}
+use Rattle.linker_spec.specs.Calls.{number, rebase, rebase_static}
 use Rattle.linker_spec.specs.Outcome.{Buffers}
 use Rattle.linker_spec.specs.Refusals.{lent_register}
 use Rattle.linker_spec.specs.Touches.{no_touch, no_log, none_said, touch_in, up_to_reset, counted, touches, initialize_touches, load_touches, unload_touches, touches_of}
+use Rattle.linker_spec.specs.declared.refusal.Refusal.TheVariants.{NoRoom}
+use Rattle.linker_spec.specs.Refusal.{refusal_number}
 use Rattle.history.specs.Windows.{program}
 use Rattle.history.specs.Sessions.Answers.{program_of, Performed}
 
@@ -57,7 +59,7 @@ unfolding touches counted
 touched_or-not c at b =
     subst YesOrNo (sym (touches-program c at b))
     (go (good_window at b.window && is_register b.records b.names b.missing)
-    (eqb (number (run at (program_of c b) b.window).0) (number NoRoom)))
+    (eqb (number (run at (program_of c b) b.window).0) (refusal_number NoRoom)))
   where
     go
         : (fit full : Bool)

@@ -1,5 +1,5 @@
 -- A call lent a window or a register that breaks its rule touches nothing: no call answers 3 or 4 of its own.
-use Rattle.std.specs.Prelude.{if◌then◌else◌, ℕ, ◌≡◌, refl, Bool, true, false, not, ◌||◌, ◌&&◌, length, eqb}
+use Rattle.std.specs.Prelude.{if◌then◌else◌, ℕ, ◌≡◌, refl, Bool, true, false, not, ◌||◌, ◌&&◌, length, eqb, Ok, Err}
 use Rattle.std.proofs.Common.{sym, ap, ◌∙◌}
 use Rattle.window.specs.Memory.{good_window}
 use Rattle.window.specs.Access.{Prog, run}
@@ -10,7 +10,7 @@ use Rattle.register.specs.Decode.{is_register}
 use Rattle.register.specs.Change.{appended, without}
 use Rattle.linker_spec.specs.declared.call.Call.{Call}
 use Rattle.linker_spec.specs.declared.call.Call.TheVariants.{Initialize, Load, Unload}
-use Rattle.linker_spec.specs.declared.rebase.Rebased.{Rebased}
+use Rattle.linker_spec.specs.Refusal.{Rebased}
 use Rattle.linker_spec.specs.Relocation.{reset_external_relocations}
 use Rattle.linker_spec.specs.Exports.{read_module}
 use Rattle.linker_spec.specs.Imports.{apply_import_named_symbols, apply_module_imports, apply_exports_to_loaded}
@@ -18,11 +18,14 @@ use Rattle.linker_spec.specs.Resets.{reset_importers}
 use Rattle.linker_spec.specs.Fix.{fix}
 use Rattle.linker_spec.specs.Unrebase.{unrebase}
 use Rattle.linker_spec.specs.Calls as calls
-use Rattle.linker_spec.specs.Calls.{Answer, BadWindow, NoRegister, number, rebase, rebase_static, fits, add_record, initialized, listed, linked, FirstWithBase, unknown, stands, first_with_base, unlisted, leave}
+use Rattle.linker_spec.specs.Calls.{Answer, number, rebase, rebase_static, fits, add_record, initialized, listed, linked, FirstWithBase, unknown, stands, first_with_base, unlisted, leave}
 use Rattle.linker_spec.specs.AnyResult.{AnyResult, gives_run, gives_then, gives_if}
 use Rattle.linker_spec.specs.Outcome.{Buffers, outcome_of, refusal_order, call_outcome}
 use Rattle.linker_spec.specs.Refusals.{lent_register}
 use Rattle.linker_spec.specs.Touches.{touch_in, counted, touches, touches_of}
+use Rattle.linker_spec.specs.declared.refusal.Refusal.TheVariants.{BadWindow, NoRegister}
+use Rattle.linker_spec.specs.declared.refusal.RebaseError.{RebaseError}
+use Rattle.linker_spec.specs.Refusal.{refusal_number}
 use Rattle.history.specs.Sessions.{CallRecord, unfit}
 use Rattle.history.specs.Windows.{program, given-program}
 use Rattle.history.specs.Steps.Asking.{true_false}
@@ -31,7 +34,7 @@ use Rattle.history.specs.Touches.Programs.{beginning, touches-program}
 
 -- 3 or 4
 abbrev refuses : ℕ → Bool
-refuses n = eqb n (number BadWindow) || eqb n (number NoRegister)
+refuses n = eqb n (refusal_number BadWindow) || eqb n (refusal_number NoRegister)
 
 abbrev Fit : Answer → Type 0
 Fit a = refuses (number a) ≡ false
@@ -40,9 +43,9 @@ enter_fit
     : (records names : ℕ) (r : Register) (base size : ℕ) (auto : Bool) (next : Module → Prog Answer) → ((m : Module) → AnyResult Fit (next m))
     → (x : Rebased) → AnyResult Fit (add_record records names r base size auto next x)
 unfolding add_record AnyResult number
-enter_fit records names r base size auto next h Rebased.NotACro = refl
-enter_fit records names r base size auto next h Rebased.BadSegment = refl
-enter_fit records names r base size auto next h Rebased.Done =
+enter_fit records names r base size auto next h (Err RebaseError.NotACro) = refl
+enter_fit records names r base size auto next h (Err RebaseError.BadSegment) = refl
+enter_fit records names r base size auto next h (Ok _) =
     gives_then Fit _ (reset_external_relocations base)
     (λ _. gives_then Fit _ (read_module base size auto) (λ m. gives_if Fit (fits records names r m) _ _ (h m) refl))
 

@@ -1,13 +1,11 @@
 -- What each call leaves over a lent trace, from what its parts answered.
-use Rattle.std.proofs.Common.{◌≡◌, ℕ, ◌^◌, ◌<◌, Bool, true, not, eqb, List, length, get_or, sym, refl, ap, ◌∙◌, subst}
+use Rattle.std.proofs.Common.{◌≡◌, ℕ, ◌^◌, ◌<◌, Bool, true, not, eqb, List, length, get_or, sym, refl, ap, ◌∙◌, subst, Option, Some, None}
 use Rattle.window.specs.Access.{Prog, ret, ◌>>=◌, ◌>>◌, run}
 use Rattle.window.specs.Trace.{State, run_t}
 use Rattle.window.specs.TraceRuns.{left, given, gives, seq}
 use Rattle.window.specs.Silent.{reads_run_t}
 use Rattle.layout.specs.Header.{next_cro, previous_cro}
 use Rattle.layout.specs.Segments.{set_field}
-use Rattle.register.specs.declared.exports.Found.{Found}
-use Rattle.register.specs.declared.exports.Found.TheVariants as found
 use Rattle.register.specs.Words.{words_in}
 use Rattle.register.specs.Module.{Module, Register}
 use Rattle.register.specs.Decode.{settled, register_of, is_register}
@@ -19,7 +17,7 @@ use Rattle.register.specs.Read.Encoded.{first-placed}
 use Rattle.register.specs.Change.Bytes.{set_crs}
 use Rattle.register.specs.Change.Remove.{RecordOfRegister, remaining}
 use Rattle.linker_spec.specs.declared.rebase.LoadArguments.{LoadArguments}
-use Rattle.linker_spec.specs.declared.rebase.Rebased.{Rebased}
+use Rattle.linker_spec.specs.Refusal.{Rebased}
 use Rattle.linker_spec.specs.Relocation.{reset_external_relocations}
 use Rattle.linker_spec.specs.Exports.{read_module, read_module_reads}
 use Rattle.linker_spec.specs.Resets.{reset_importers}
@@ -195,7 +193,7 @@ module _ (at : ℕ) (l : LoadArguments) (auto level : ℕ) (b : Buffers) (t : Li
         enters.names_now (missing_stored rs names ms o.noted.0 a (sym (ap (λ (q : Register). q.missing) o.noted.1)))
 
 -- unload
-module _ (at base : ℕ) (b : Buffers) (t : List ℕ) (v : is_register b.records b.names b.missing ≡ true) {x : Found}
+module _ (at base : ℕ) (b : Buffers) (t : List ℕ) (v : is_register b.records b.names b.missing ≡ true) {x : Option ℕ}
     (ex : (names : List ℕ) → Encoded b.records names → x ≡ place_from 32 (modules_of b.records names) (has_base base)) where
   abbrev unloading : ℕ → ℕ → Register → Prog Answer
   unloading records names = unload base
@@ -203,7 +201,7 @@ module _ (at base : ℕ) (b : Buffers) (t : List ℕ) (v : is_register b.records
   first : x ≡ place_from 32 (modules_of b.records b.names) (has_base base)
   first = ex b.names (b.missing, v)
 
-  pub unload_none : x ≡ found.Nothing → leaves 0 0 (b.window, t) b.records b.names b.missing ≡ traced unloading (ret tt) at b t
+  pub unload_none : x ≡ None → leaves 0 0 (b.window, t) b.records b.names b.missing ≡ traced unloading (ret tt) at b t
   unfolding traced unload leave run_t outcome_of number value register_after counted
   unload_none z =
       let n : first_with_base base (lent_register b).modules 0 ≡ unknown =
@@ -211,7 +209,7 @@ module _ (at base : ℕ) (b : Buffers) (t : List ℕ) (v : is_register b.records
       sym (ap (λ (k : FirstWithBase). let y = run_t at (leave (lent_register b) base k) (b.window, t) in
       (outcome_of b (y.0, y.1.0), counted y.0 t y.1.1)) n)
 
-  module _ (place : ℕ) (z : x ≡ found.At place) where
+  module _ (place : ℕ) (z : x ≡ Some place) where
     pub unload_stands : RecordOfRegister b.records b.names place
     unload_stands = left_by_lem.standing b.records b.names b.missing v base place (sym z ∙ first)
 

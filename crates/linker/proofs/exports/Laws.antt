@@ -1,6 +1,5 @@
 -- From the code's steps and loops to `DraftStep`.
-use Rattle.std.proofs.Common.{◌≡◌, ℕ, suc, ◌+◌, ◌-◌, ◌*◌, ◌/◌, ◌^◌, ◌<◌, ◌≤◌, Bool, true, false, not, ltb, leb, List, [], ◌++◌, length, take, drop, replicate, sym, refl, ap, ◌∙◌, subst, append_assoc, arith, length-append, length-drop, take-append-drop, length-take-le, take-take, leb-false, leb-true}
-use borrow.Author.Tests.{not-true}
+use Rattle.std.proofs.Common.{◌≡◌, ℕ, suc, ◌+◌, ◌-◌, ◌*◌, ◌/◌, ◌^◌, ◌<◌, ◌≤◌, Bool, true, false, ltb, leb, List, [], ◌++◌, length, take, drop, replicate, sym, refl, ap, ◌∙◌, subst, append_assoc, arith, length-append, length-drop, take-append-drop, length-take-le, take-take, leb-false, leb-true, Option, Some, None}
 use lib.Seq.{sets, sets-eq, length-sets}
 use borrow.Rule.Slice.PartMut.{put_mid, Post-is, mid_of, same_len_mid, mid_len}
 use Rattle.window.specs.Memory.{◌⊕◌, word_at}
@@ -9,8 +8,6 @@ use Rattle.window.specs.Access.{run}
 use Rattle.window.specs.Outside.{stride_of}
 use Rattle.layout.specs.Header.{export_named_symbol_table_offset, export_named_symbol_num, export_named_symbol_entry_size, export_indexed_symbol_table_offset, export_indexed_symbol_num, export_indexed_symbol_entry_size, segment_num}
 use Rattle.layout.specs.Segments.{field, field-word, entry_at, tag_to_address}
-use Rattle.layout.specs.declared.segments.Address.{Address}
-use Rattle.layout.specs.declared.segments.Address.TheVariants.{At, Nowhere}
 use Rattle.register.specs.Module.{Export, Module}
 use Rattle.register.specs.Words.{part, flat}
 use Rattle.register.specs.Buffers.{length-flat}
@@ -18,8 +15,6 @@ use Rattle.register.specs.CheckComplete.{length-export_words}
 use Rattle.register.specs.Encode.{export_words, export_names, module_names, module_words}
 use Rattle.register.specs.Change.{with_segment, with_indexed, with_named, put_named}
 use Rattle.register.specs.declared.append.draft.Draft.{Draft}
-use Rattle.register.specs.declared.append.draft.Drafted.{Drafted}
-use Rattle.register.specs.declared.append.draft.Drafted.TheVariants.{Open, Full}
 use Rattle.register.specs.Append.Draft.{room_in, room-inside, opened, opened-parts, push_listed, given_up, room_word}
 use Rattle.register.specs.Append.Held.{words_long, Held}
 use Rattle.register.specs.Append.Sets.{sets_append}
@@ -41,19 +36,19 @@ use Rattle.linker.proofs.waiting.Laws.{ends_open}
 -- a loop whose turn i makes F m (i + 1) of F m i
 
 module _ (P : Module → Type 0) (F : Module → ℕ → Module) (d₀ : Draft) (rs₀ ns₀ : List ℕ) (d : Draft) (rs ns : List ℕ) (i : ℕ)
-    (so_far : DraftStep P (λ m. F m 0) (λ m. F m i) d₀ rs₀ ns₀ (Open d) rs ns) (r : Drafted) (rs' ns' : List ℕ)
+    (so_far : DraftStep P (λ m. F m 0) (λ m. F m i) d₀ rs₀ ns₀ (Some d) rs ns) (r : Option Draft) (rs' ns' : List ℕ)
     (turn : DraftStep P (λ m. F m i) (λ m. F m (i + 1)) d rs ns r rs' ns') where
-  pub turn_open : (more : Draft) → r ≡ Open more → DraftStep P (λ m. F m 0) (λ m. F m (i + 1)) d₀ rs₀ ns₀ (Open more) rs' ns'
+  pub turn_open : (more : Draft) → r ≡ Some more → DraftStep P (λ m. F m 0) (λ m. F m (i + 1)) d₀ rs₀ ns₀ (Some more) rs' ns'
   turn_open more e g m p h = subst (λ t. Writing g (F m (i + 1)) t rs' ns') e (turn g m p (so_far g m p h))
 
   pub turn_full
-      : (n : ℕ) → ((g : Ground) (m : Module) → Grows g (F m (i + 1)) (F m n)) → r ≡ Full
-      → DraftStep P (λ m. F m 0) (λ m. F m n) d₀ rs₀ ns₀ Full rs' ns'
+      : (n : ℕ) → ((g : Ground) (m : Module) → Grows g (F m (i + 1)) (F m n)) → r ≡ None
+      → DraftStep P (λ m. F m 0) (λ m. F m n) d₀ rs₀ ns₀ None rs' ns'
   turn_full n grow e g m p h =
       full_greater g (F m (i + 1)) (F m n) rs' ns' (grow g m) (subst (λ t. Writing g (F m (i + 1)) t rs' ns') e (turn g m p (so_far g m p h)))
 
 -- nothing done yet
-pub no_turn : (P : Module → Type 0) (F : Module → Module) (d : Draft) (rs ns : List ℕ) → DraftStep P F F d rs ns (Open d) rs ns
+pub no_turn : (P : Module → Type 0) (F : Module → Module) (d : Draft) (rs ns : List ℕ) → DraftStep P F F d rs ns (Some d) rs ns
 no_turn P F d rs ns g m p h = h
 
 -- segments
@@ -69,14 +64,14 @@ module _ (at : ℕ) (w : List ℕ) (base : ℕ) where
       segments-more m (segments_to at w base i) (segment_of at w base i) ∙ ap (λ k. WithSegmentsTo m k) s
 
   pub added_segment
-      : (i a : ℕ) (d : Draft) (rs ns : List ℕ) (after r : Drafted) (rs₁ rs₂ ns₂ : List ℕ) → a ≡ segment_of at w base i → a < 2 ^ 32
-      → ◌≡◌ {A = Drafted × List ℕ} (after, rs₁) (push_listed rs d 5 a) → ◌≡◌ {A = Drafted × List ℕ × List ℕ} (r, rs₂, ns₂) (tried d after rs₁ ns)
+      : (i a : ℕ) (d : Draft) (rs ns : List ℕ) (after r : Option Draft) (rs₁ rs₂ ns₂ : List ℕ) → a ≡ segment_of at w base i → a < 2 ^ 32
+      → ◌≡◌ {A = Option Draft × List ℕ} (after, rs₁) (push_listed rs d 5 a) → ◌≡◌ {A = Option Draft × List ℕ × List ℕ} (r, rs₂, ns₂) (tried d after rs₁ ns)
       → DraftStep Bare (λ m. WithSegmentsTo m i) (λ m. WithSegmentsTo m (i + 1)) d rs ns r rs₂ ns₂
   added_segment i a d rs ns after r rs₁ rs₂ ns₂ ea small ep et g m bare h =
       let rest = segments-rest m (segments_to at w base i) in
       let t = segment-tried g (WithSegmentsTo m i) d rs ns h a small (rest.0 ∙ bare.0) (rest.1 ∙ bare.1) in
-      let e : ◌≡◌ {A = Drafted × List ℕ × List ℕ} (r, rs₂, ns₂) (tried d (push_listed rs d 5 a).0 (push_listed rs d 5 a).1 ns) =
-      et ∙ ap (λ (x : Drafted × List ℕ). tried d x.0 x.1 ns) ep in
+      let e : ◌≡◌ {A = Option Draft × List ℕ × List ℕ} (r, rs₂, ns₂) (tried d (push_listed rs d 5 a).0 (push_listed rs d 5 a).1 ns) =
+      et ∙ ap (λ (x : Option Draft × List ℕ). tried d x.0 x.1 ns) ep in
       subst (λ x. Writing g x r rs₂ ns₂) (ap (with_segment (WithSegmentsTo m i)) ea ∙ next-segment m i)
       (writing_is g (with_segment (WithSegmentsTo m i) a) e t)
 
@@ -92,7 +87,7 @@ module _ (at : ℕ) (w : List ℕ) (base : ℕ) where
 
   -- all segments added
   pub segments-done
-      : (n : ℕ) (d₀ : Draft) (rs₀ ns₀ : List ℕ) (r : Drafted) (rs ns : List ℕ) → n ≡ segments_all
+      : (n : ℕ) (d₀ : Draft) (rs₀ ns₀ : List ℕ) (r : Option Draft) (rs ns : List ℕ) → n ≡ segments_all
       → DraftStep Bare (λ m. WithSegmentsTo m 0) (λ m. WithSegmentsTo m n) d₀ rs₀ ns₀ r rs ns
       → DraftStep Bare (λ m. with_segments m []) (λ m. with_segments m (run at (read_segments base) w).0) d₀ rs₀ ns₀ r rs ns
   unfolding segments_to
@@ -113,15 +108,15 @@ module _ (at : ℕ) (w : List ℕ) (base : ℕ) where
       indexeds_more m (indexed_to at w base i) (indexed_of at w base i) ∙ ap (λ k. WithIndexedTo m k) s
 
   pub added_indexed
-      : (i table entry a : ℕ) (d : Draft) (rs ns : List ℕ) (after r : Drafted) (rs₁ rs₂ ns₂ : List ℕ)
+      : (i table entry a : ℕ) (d : Draft) (rs ns : List ℕ) (after r : Option Draft) (rs₁ rs₂ ns₂ : List ℕ)
       → entry ≡ entry_at table i export_indexed_symbol_entry_size → a ≡ address_or0 (run at (tag_to_address base (word_at at w entry)) w).0 → a < 2 ^ 32
-      → ◌≡◌ {A = Drafted × List ℕ} (after, rs₁) (push_listed rs d 7 a) → ◌≡◌ {A = Drafted × List ℕ × List ℕ} (r, rs₂, ns₂) (tried d after rs₁ ns)
+      → ◌≡◌ {A = Option Draft × List ℕ} (after, rs₁) (push_listed rs d 7 a) → ◌≡◌ {A = Option Draft × List ℕ × List ℕ} (r, rs₂, ns₂) (tried d after rs₁ ns)
       → table ≡ header_word at w base export_indexed_symbol_table_offset
       → DraftStep AnyModule (λ m. WithIndexedTo m i) (λ m. WithIndexedTo m (i + 1)) d rs ns r rs₂ ns₂
   added_indexed i table entry a d rs ns after r rs₁ rs₂ ns₂ ee ea small ep et h g m any k =
       let t = indexed_tried g (WithIndexedTo m i) d rs ns k a small in
-      let e : ◌≡◌ {A = Drafted × List ℕ × List ℕ} (r, rs₂, ns₂) (tried d (push_listed rs d 7 a).0 (push_listed rs d 7 a).1 ns) =
-      et ∙ ap (λ (x : Drafted × List ℕ). tried d x.0 x.1 ns) ep in
+      let e : ◌≡◌ {A = Option Draft × List ℕ × List ℕ} (r, rs₂, ns₂) (tried d (push_listed rs d 7 a).0 (push_listed rs d 7 a).1 ns) =
+      et ∙ ap (λ (x : Option Draft × List ℕ). tried d x.0 x.1 ns) ep in
       let en : entry ≡ indexed_entry at w base i = ee ∙ ap (λ t. entry_at t i export_indexed_symbol_entry_size) h in
       let ad : a ≡ indexed_of at w base i = ea ∙ ap (λ x. address_or0 (run at (tag_to_address base (word_at at w x)) w).0) en in
       subst (λ x. Writing g x r rs₂ ns₂) (ap (with_indexed (WithIndexedTo m i)) ad ∙ next_indexed m i)
@@ -133,20 +128,20 @@ module _ (at : ℕ) (w : List ℕ) (base : ℕ) where
 
   -- each takes a word, so where so many have no room, there is none for all
   pub indexed_too_many
-      : (n : ℕ) (d : Draft) (rs ns rs₁ ns₁ : List ℕ) {room : Bool} → room ≡ leb (d.end + 4 * n) (room_in (length rs)) → not room ≡ true
-      → ◌≡◌ {A = List ℕ × List ℕ} (rs₁, ns₁) (given_up rs ns d) → DraftStep AnyModule (λ m. WithIndexedTo m 0) (λ m. WithIndexedTo m n) d rs ns Full rs₁ ns₁
+      : (n : ℕ) (d : Draft) (rs ns rs₁ ns₁ : List ℕ) {room : Bool} → room ≡ leb (d.end + 4 * n) (room_in (length rs)) → room ≡ false
+      → ◌≡◌ {A = List ℕ × List ℕ} (rs₁, ns₁) (given_up rs ns d) → DraftStep AnyModule (λ m. WithIndexedTo m 0) (λ m. WithIndexedTo m n) d rs ns None rs₁ ns₁
   unfolding indexed_to with_indexeds
   indexed_too_many n d rs ns rs₁ ns₁ {room} e full u g m any h =
       let q = named g in
-      let l : room_in (length rs) < d.end + 4 * n = leb-false (d.end + 4 * n) (room_in (length rs)) (sym e ∙ not-true room full) in
+      let l : room_in (length rs) < d.end + 4 * n = leb-false (d.end + 4 * n) (room_in (length rs)) (sym e ∙ full) in
       let s : room_in (length rs) ≡ room_in (length g.records) = ap room_in (same-room g (WithIndexedTo m 0) d rs ns h) in
       let none : roomy g (WithIndexedTo m n) ≡ false =
       no_words g (WithIndexedTo m n)
       (omega (arith, l, s, ends g (WithIndexedTo m 0) d rs ns h, words_long q (WithIndexedTo m 0), words_long q (WithIndexedTo m n), length_indexed at w base n)) in
-      subst (λ (x : List ℕ × List ℕ). Writing g (WithIndexedTo m n) Full x.0 x.1) (sym u) (gone g (WithIndexedTo m 0) d rs ns h (WithIndexedTo m n) none)
+      subst (λ (x : List ℕ × List ℕ). Writing g (WithIndexedTo m n) None x.0 x.1) (sym u) (gone g (WithIndexedTo m 0) d rs ns h (WithIndexedTo m n) none)
 
   pub indexed_done
-      : (n : ℕ) (d₀ : Draft) (rs₀ ns₀ : List ℕ) (r : Drafted) (rs ns : List ℕ) → n ≡ (run at (field base export_indexed_symbol_num) w).0
+      : (n : ℕ) (d₀ : Draft) (rs₀ ns₀ : List ℕ) (r : Option Draft) (rs ns : List ℕ) → n ≡ (run at (field base export_indexed_symbol_num) w).0
       → DraftStep AnyModule (λ m. WithIndexedTo m 0) (λ m. WithIndexedTo m n) d₀ rs₀ ns₀ r rs ns
       → DraftStep AnyModule (λ m. with_indexeds m []) (λ m. with_indexeds m (run at (indexed_exports base) w).0) d₀ rs₀ ns₀ r rs ns
   unfolding indexed_to
@@ -158,7 +153,7 @@ module _ (at : ℕ) (w : List ℕ) (base : ℕ) where
 -- named exports, gathered
 
 module _ (at : ℕ) (w : List ℕ) (base : ℕ) where
-  module _ (i table entry p₄ tag : ℕ) (x : Address) (ee : entry ≡ entry_at table i export_named_symbol_entry_size)
+  module _ (i table entry p₄ tag : ℕ) (x : Option ℕ) (ee : entry ≡ entry_at table i export_named_symbol_entry_size)
       (e₄ : p₄ ≡ entry ⊕ 4) (et : tag ≡ word_at at w p₄) (ex : x ≡ (run at (tag_to_address base tag) w).0)
       (h : table ≡ header_word at w base export_named_symbol_table_offset) where
     pub the_entry : entry ≡ named_entry at w base i
@@ -174,12 +169,12 @@ module _ (at : ℕ) (w : List ℕ) (base : ℕ) where
         ap (put_usable (named_to at w base i) (name_of at w base i)) the_address ∙ ap (named_to at w base) s
 
     -- an unusable tag adds nothing
-    pub passed-named : x ≡ Nowhere → named_to at w base i ≡ named_to at w base (i + 1)
+    pub passed-named : x ≡ None → named_to at w base i ≡ named_to at w base (i + 1)
     unfolding put_usable
     passed-named z = ap (put_usable (named_to at w base i) (name_of at w base i)) (sym z) ∙ next-named
 
     pub added_named
-        : (a place : ℕ) → x ≡ At a → place ≡ word_at at w entry → put_named (named_to at w base i) (name_for at w place) a ≡ named_to at w base (i + 1)
+        : (a place : ℕ) → x ≡ Some a → place ≡ word_at at w entry → put_named (named_to at w base i) (name_for at w place) a ≡ named_to at w base (i + 1)
     unfolding put_usable
     added_named a place z el =
         ap (λ t. put_named (named_to at w base i) (name_for at w t) a) (el ∙ ap (word_at at w) the_entry)
@@ -196,7 +191,7 @@ module _ (at : ℕ) (w : List ℕ) (base : ℕ) where
   -- after i entries, of a record that began without exports
   abbrev pub GatheredTo : ℕ → Draft → Draft → List ℕ → List ℕ → List ℕ → List ℕ → Type 0
   GatheredTo i first last rs₀ ns₀ rs ns =
-      (g : Ground) (m : Module) → Bare m → Writing g m (Open first) rs₀ ns₀ → Gathered at w g m first (named_to at w base i) last rs ns
+      (g : Ground) (m : Module) → Bare m → Writing g m (Some first) rs₀ ns₀ → Gathered at w g m first (named_to at w base i) last rs ns
 
   pub gathered-first : (first : Draft) (rs ns : List ℕ) → GatheredTo 0 first first rs ns rs ns
   unfolding named_to
@@ -211,7 +206,7 @@ module _ (at : ℕ) (w : List ℕ) (base : ℕ) where
   module _ (first last : Draft) (rs₀ ns₀ rs ns : List ℕ) where
     pub gathered-last
         : (n : ℕ) → n ≡ (run at (field base export_named_symbol_num) w).0 → GatheredTo n first last rs₀ ns₀ rs ns → (g : Ground) (m : Module) → Bare m
-        → Writing g m (Open first) rs₀ ns₀ → GatheredAll at w g m first (run at (named_exports base) w).0 (Open last) rs ns
+        → Writing g m (Some first) rs₀ ns₀ → GatheredAll at w g m first (run at (named_exports base) w).0 (Some last) rs ns
     unfolding GatheredAll
     gathered-last n e t g m p h = subst (λ xs. Gathered at w g m first xs last rs ns) (all_named e) (t g m p h)
 
@@ -228,23 +223,23 @@ module _ (at : ℕ) (w : List ℕ) (base : ℕ) where
 
     -- the turn of entry i
 
-    abbrev Turn : ℕ → Drafted → List ℕ → Type 0
+    abbrev Turn : ℕ → Option Draft → List ℕ → Type 0
     Turn i r rs' =
         (g : Ground) (m : Module) (first' : Draft) → first.end ≡ first'.end → Gathered at w g m first' (named_to at w base i) last rs ns
         → GatherStep at w g m first' (named_to at w base (i + 1)) r rs rs' ns
 
-    module _ (i : ℕ) (t : GatheredTo i first last rs₀ ns₀ rs ns) (r : Drafted) (rs' : List ℕ) (turn : Turn i r rs') where
-      pub gathered-turn : (next : Draft) → r ≡ Open next → GatheredTo (i + 1) first next rs₀ ns₀ rs' ns
+    module _ (i : ℕ) (t : GatheredTo i first last rs₀ ns₀ rs ns) (r : Option Draft) (rs' : List ℕ) (turn : Turn i r rs') where
+      pub gathered-turn : (next : Draft) → r ≡ Some next → GatheredTo (i + 1) first next rs₀ ns₀ rs' ns
       unfolding GatherStep
       gathered-turn next e g m p h =
           subst (λ x. GatherStep at w g m first (named_to at w base (i + 1)) x rs rs' ns) e (turn g m first refl (t g m p h))
 
       pub gathered-given_up
-          : (n : ℕ) → i + 1 ≤ n → n ≡ (run at (field base export_named_symbol_num) w).0 → r ≡ Full → {rs'' ns'' : List ℕ}
+          : (n : ℕ) → i + 1 ≤ n → n ≡ (run at (field base export_named_symbol_num) w).0 → r ≡ None → {rs'' ns'' : List ℕ}
           → ◌≡◌ {A = List ℕ × List ℕ} (rs'', ns'')
           (given_up rs' ns (record { start = first.start; end = last.end; names = first.names; last = first.last }))
-          → (g : Ground) (m : Module) → Bare m → Writing g m (Open first) rs₀ ns₀
-          → GatheredAll at w g m first (run at (named_exports base) w).0 Full rs'' ns''
+          → (g : Ground) (m : Module) → Bare m → Writing g m (Some first) rs₀ ns₀
+          → GatheredAll at w g m first (run at (named_exports base) w).0 None rs'' ns''
       unfolding GatherStep GatheredAll
       gathered-given_up n l en e {rs''} {ns''} f g m p h =
           let k = t g m p h in
@@ -275,16 +270,16 @@ no_named_yet m p = (refl, p)
 module _ (d : Draft) (rs ns : List ℕ) (xs : List Export) where
   -- a draft that is not open holds no record
   pub shut_named
-      : {t : Bool} → t ≡ opened d rs → t ≡ false → DraftStep Unindexed (λ m. with_named m []) (λ m. with_named m xs) d rs ns Full rs ns
+      : {t : Bool} → t ≡ opened d rs → t ≡ false → DraftStep Unindexed (λ m. with_named m []) (λ m. with_named m xs) d rs ns None rs ns
   shut_named e z g m p h =
       let k = held g (with_named m []) d rs ns h in
       let o : opened d rs ≡ true = ready_open d rs ns (held_ready g.records g.names d (with_named m []) rs ns k) in
       let y : ◌≡◌ {A = Bool} false true = sym z ∙ e ∙ o in
       absurd (let q : ◌≡◌ {A = ℕ} 0 1 = cc in omega arith)
 
-  module _ (at : ℕ) (w : List ℕ) (r : Drafted) (rs₁ ns₁ : List ℕ)
-      (all : (g : Ground) (m : Module) → Bare m → Writing g m (Open d) rs ns → GatheredAll at w g m d xs r rs₁ ns₁) where
-    pub full_named : r ≡ Full → DraftStep Unindexed (λ m. with_named m []) (λ m. with_named m xs) d rs ns Full rs₁ ns₁
+  module _ (at : ℕ) (w : List ℕ) (r : Option Draft) (rs₁ ns₁ : List ℕ)
+      (all : (g : Ground) (m : Module) → Bare m → Writing g m (Some d) rs ns → GatheredAll at w g m d xs r rs₁ ns₁) where
+    pub full_named : r ≡ None → DraftStep Unindexed (λ m. with_named m []) (λ m. with_named m xs) d rs ns None rs₁ ns₁
     unfolding GatheredAll Writing
     full_named e g m p h =
         let k = subst (λ x. GatheredAll at w g (with_named m []) d xs x rs₁ ns₁) e (all g (with_named m []) (no_named_yet m p) h) in
@@ -292,13 +287,13 @@ module _ (d : Draft) (rs ns : List ℕ) (xs : List Export) where
 
     -- written: the names and the three words of each, then the count
     pub written-named
-        : (last : Draft) {bytes ns₂ rs₂ : List ℕ} → r ≡ Open last → d.end ≤ last.end
+        : (last : Draft) {bytes ns₂ rs₂ : List ℕ} → r ≡ Some last → d.end ≤ last.end
         → ((ys : List Waiting) (first : ℕ) → length (take (last.end - d.end) (drop d.end rs₁)) ≡ 12 * length ys
         → Waits at w ys (take (8 * length ys) (take (last.end - d.end) (drop d.end rs₁)))
         → first + length (export_names (exports_for at w ys)) ≡ last.last
         → (bytes ≡ flat (export_words first (exports_for at w ys))) × (ns₂ ≡ sets ns₁ first (export_names (exports_for at w ys))))
         → rs₂ ≡ set_word_in (put_mid d.end (last.end - d.end) rs₁ bytes) (d.start + 24) ((last.end - d.end) / 12)
-        → DraftStep Unindexed (λ m. with_named m []) (λ m. with_named m xs) d rs ns (Open last) rs₂ ns₂
+        → DraftStep Unindexed (λ m. with_named m []) (λ m. with_named m xs) d rs ns (Some last) rs₂ ns₂
     unfolding GatheredAll
     written-named last {bytes} {ns₂} {rs₂} e l wn es g m p h =
         let m' = with_named m [] in
@@ -372,7 +367,7 @@ module _ (at : ℕ) (w : List ℕ) (base count n : ℕ) (first : Draft) (rs ns i
 
   pub sorted_ends
       : (rs' ns' : List ℕ) (bytes : ℕ) → length rs' ≡ length after → first.last + bytes ≤ room_in (length ns')
-      → EndsWithin (Open (record { start = first.start; end = first.end + 12 * n; names = first.names; last = first.last + bytes })) first.end
+      → EndsWithin (Some (record { start = first.start; end = first.end + 12 * n; names = first.names; last = first.last + bytes })) first.end
       (room_in (length rs'))
   sorted_ends rs' ns' bytes e fits =
       ends_open _ first.end (room_in (length rs')) (omega arith)
@@ -408,7 +403,7 @@ module _ (at : ℕ) (w : List ℕ) (base count n : ℕ) (first : Draft) (rs ns i
     bytes_are : bytes ≡ length (export_names all)
     bytes_are = eb all sorted_waits
 
-    module _ (g : Ground) (m : Module) (p : Bare m) (h : Writing g m (Open first) rs ns) where
+    module _ (g : Ground) (m : Module) (p : Bare m) (h : Writing g m (Some first) rs ns) where
       abbrev words : List ℕ
       words = flat (module_words first.names m)
 
@@ -435,7 +430,7 @@ module _ (at : ℕ) (w : List ℕ) (base count n : ℕ) (first : Draft) (rs ns i
           : {rs' ns' : List ℕ} {t : Bool} {free : ℕ} → free ≡ room_in (length ns) → t ≡ leb (first.last + bytes) free → t ≡ false
           → ◌≡◌ {A = List ℕ × List ℕ} (rs', ns')
           (given_up after ns (record { start = first.start; end = first.end + 12 * count; names = first.names; last = first.last }))
-          → GatheredAll at w g m first all Full rs' ns'
+          → GatheredAll at w g m first all None rs' ns'
       unfolding GatheredAll
       sorted_full {rs'} {ns'} {t} {free} ef et z e =
           let no : leb (first.last + length (export_names all)) (room_in (length g.names)) ≡ false =
@@ -488,7 +483,7 @@ module _ (at : ℕ) (w : List ℕ) (base count n : ℕ) (first : Draft) (rs ns i
           : {rs' : List ℕ} → first.last + bytes ≤ room_in (length ns)
           → rs' ≡ sets after (first.end + 8 * n) (replicate (first.end + 12 * count - (first.end + 8 * n)) 0)
           → GatheredAll at w g m first all
-          (Open (record { start = first.start; end = first.end + 12 * n; names = first.names; last = first.last + bytes })) rs' ns
+          (Some (record { start = first.start; end = first.end + 12 * n; names = first.names; last = first.last + bytes })) rs' ns
       unfolding GatheredAll sorted_words
       sorted_open fits e =
           record {

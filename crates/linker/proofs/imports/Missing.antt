@@ -1,5 +1,5 @@
 -- A named import of the new module: what it leaves of the window and of the register.
-use Rattle.std.specs.Prelude.{if◌then◌else◌}
+use Rattle.std.specs.Prelude.{if◌then◌else◌, Option, Some, None}
 use Rattle.std.proofs.Common.{◌≡◌, ℕ, ◌+◌, ◌-◌, ◌<◌, ◌≤◌, Bool, true, false, List, length, take, sym, refl, ap, ◌∙◌, subst, arith}
 use Rattle.window.specs.Memory.{◌⊕◌}
 use Rattle.window.specs.Access.{Prog, ret, ◌>>=◌, ◌>>◌, get32}
@@ -18,8 +18,6 @@ use Rattle.register.specs.CheckIs.{register-parts}
 use Rattle.register.specs.Buffers.{Below, names_are, encode_missing}
 use Rattle.register.specs.Change.{with_missing}
 use Rattle.register.specs.Read.Read.{modules_of, lookup_in}
-use Rattle.register.specs.declared.read.Symbol.{Symbol}
-use Rattle.register.specs.declared.read.Symbol.TheVariants.{At, Nothing}
 use Rattle.register.specs.Change.Bytes.{push_missing}
 use Rattle.register.specs.Change.Kept.{word_twice, count_again, push-Kept, push_counts}
 use Rattle.linker_spec.specs.Relocation.{apply_relocation_batch}
@@ -83,7 +81,7 @@ module _ (records names missing : List ℕ) (at base entry : ℕ) (s : State) (s
       let k : (r.missing, s₂) ≡ x = on_false at s₂ waiting (ret r.missing) e (given at r.missing s₂) ∙ import_is in
       subst (MissingLeft r records names s₂ records missing) k (stays s₂ refl)
 
-  module _ (old : List ℕ) (e : t ≡ true) {p n : ℕ} {buffer : List ℕ} {z : Symbol} {s₃ s₄ : State} (h₃ : (p, s₃) ≡ run_t at (get32 entry) s₂)
+  module _ (old : List ℕ) (e : t ≡ true) {p n : ℕ} {buffer : List ℕ} {z : Option ℕ} {s₃ s₄ : State} (h₃ : (p, s₃) ≡ run_t at (get32 entry) s₂)
       (h₄ : ((n, buffer) ≡ laid_over (run_t at (name_at p) s₃).0 old) × (s₄ ≡ (run_t at (name_at p) s₃).1))
       (ez : z ≡ lookup_in (modules_of records names) (take n buffer)) where
     abbrev name : List ℕ
@@ -103,14 +101,14 @@ module _ (records names missing : List ℕ) (at base entry : ℕ) (s : State) (s
         ∙ import_is
 
     pub own-found
-        : {a k : ℕ} {v : State} → z ≡ At a → (k, v) ≡ run_t at (apply_relocation_batch base batch a true) s₄
+        : {a k : ℕ} {v : State} → z ≡ Some a → (k, v) ≡ run_t at (apply_relocation_batch base batch a true) s₄
         → MissingLeft r records names v records missing x
     unfolding add_missing
     own-found {v = v} f h =
         subst (MissingLeft r records names v records missing) (waits_is v (resolved_by at base batch s₄ f h)) (stays v (rw (f, add_missing)))
 
     pub own_missing
-        : {records' missing' : List ℕ} → z ≡ Nothing → (records', missing') ≡ push_missing records missing (take n buffer)
+        : {records' missing' : List ℕ} → z ≡ None → (records', missing') ≡ push_missing records missing (take n buffer)
         → MissingLeft r records names s₄ records' missing' x
     unfolding add_missing missing_now with_missing
     own_missing {records'} {missing'} f h =

@@ -1,6 +1,6 @@
 -- From the code's calls and branches to the programs of `Rebase` and the rebase of `Calls`.
-use Rattle.std.specs.Prelude.{if◌then◌else◌}
-use Rattle.std.proofs.Common.{◌≡◌, ℕ, zero, suc, ◌+◌, ◌-◌, ◌*◌, ◌%◌, ◌^◌, ◌<◌, ◌≤◌, Bool, true, false, not, eqb, List, [], ◌∷◌, length, get_or, take, drop, sym, refl, ap, ◌∙◌, add-one, arith, drop_of_length-le, drop-cons, le-ltb, lt-ltb, eq-eqb, ne_eqb}
+use Rattle.std.specs.Prelude.{if◌then◌else◌, Option, Some, None, Ok, Err}
+use Rattle.std.proofs.Common.{◌≡◌, ℕ, zero, suc, ◌+◌, ◌-◌, ◌*◌, ◌%◌, ◌^◌, ◌<◌, ◌≤◌, Bool, true, false, eqb, List, [], ◌∷◌, length, get_or, take, drop, sym, refl, ap, ◌∙◌, add-one, arith, drop_of_length-le, drop-cons, le-ltb, lt-ltb, eq-eqb, ne_eqb}
 use Rattle.window.specs.Memory.{◌⊕◌}
 use Rattle.window.specs.Access.{Prog, ret, ◌>>=◌, ◌>>◌, get32, put32, Reads, reads_bind}
 use Rattle.window.specs.Loop.{loop, loop_reads}
@@ -13,19 +13,14 @@ use Rattle.layout.specs.Segments.{field, entry_at, segment, segment_reads, set_s
 use Rattle.layout.specs.declared.format.Segment.{Segment}
 use Rattle.layout.specs.declared.format.SegmentType.{SegmentType}
 use Rattle.layout.specs.declared.format.SegmentType.TheVariants.{Code, RoData, Data, Bss}
-use Rattle.layout.specs.declared.segments.FoundSegment.{FoundSegment}
-use Rattle.layout.specs.declared.segments.FoundSegment.TheVariants.{Found, Missing}
 use Rattle.layout.specs.declared.tables.PointerTable.{PointerTable}
 use Rattle.layout.proofs.Laws.{difference}
 use Rattle.linker_spec.specs.declared.rebase.LoadArguments.{LoadArguments}
-use Rattle.linker_spec.specs.declared.rebase.Placed.{Placed}
-use Rattle.linker_spec.specs.declared.rebase.Placed.TheVariants.{Refused, Put}
-use Rattle.linker_spec.specs.declared.rebase.Moved.{Moved}
-use Rattle.linker_spec.specs.declared.rebase.Moved.TheVariants.{Bad, OldPlace}
-use Rattle.linker_spec.specs.declared.rebase.Rebased.{Rebased}
+use Rattle.linker_spec.specs.Refusal.{Rebased}
 use Rattle.linker_spec.specs.Rebase.{is_magic, moved, move_word, move_header, at_offset, lent_place, moved_place, place, write_back, move_found, move_segment, move_segments, look_at_segments, move_pointers, pointers_of, move_table, move_tables}
 use Rattle.linker_spec.specs.Relocation.{apply_internal_relocations}
 use Rattle.linker_spec.specs.Calls.{relocate, rebase_with}
+use Rattle.linker_spec.specs.declared.refusal.RebaseError.{RebaseError}
 
 -- words
 
@@ -59,29 +54,29 @@ header_starts at forward base s e h =
 -- where a segment goes
 
 module _ (s : Segment) (address size old : ℕ) where
-  pub lent-refused : size < s.size → Refused ≡ lent_place s address size old
+  pub lent-refused : size < s.size → None ≡ lent_place s address size old
   unfolding lent_place
   lent-refused l = rw (lt-ltb size s.size l)
 
-  pub lent-put : {z : Segment} → s.size ≤ size → z ≡ at_offset s address → Put z old ≡ lent_place s address size old
+  pub lent-put : {z : Segment} → s.size ≤ size → z ≡ at_offset s address → Some (z, old) ≡ lent_place s address size old
   unfolding lent_place
   lent-put l e = rw (le-ltb size s.size l, e)
 
 module _ (l : LoadArguments) (s : Segment) (old : ℕ) where
-  pub moved_none : s.offset ≡ 0 → Put s old ≡ moved_place l s old
+  pub moved_none : s.offset ≡ 0 → Some (s, old) ≡ moved_place l s old
   unfolding moved_place
   moved_none z = rw (eq-eqb s.offset 0 z)
 
   module _ (n : s.offset ≡ 0 → ⊥) {x y : ℕ} (ex : x ≡ s.offset ⊕ l.base) (ey : y ≡ l.base ⊕ l.size) where
-    pub moved-refused : y < x → Refused ≡ moved_place l s old
+    pub moved-refused : y < x → None ≡ moved_place l s old
     unfolding moved_place
     moved-refused h = rw (ne_eqb s.offset 0 n, ← ex, ← ey, lt-ltb y x h)
 
-    pub moved-put : {z : Segment} → x ≤ y → z ≡ at_offset s x → Put z old ≡ moved_place l s old
+    pub moved-put : {z : Segment} → x ≤ y → z ≡ at_offset s x → Some (z, old) ≡ moved_place l s old
     unfolding moved_place
     moved-put h e = rw (ne_eqb s.offset 0 n, ← ex, ← ey, le-ltb y x h, ← e)
 
-  module _ {k : SegmentType} {r : Placed} where
+  module _ {k : SegmentType} {r : Option (Segment × ℕ)} where
     pub place_code : k ≡ Code → r ≡ moved_place l s old → r ≡ place l s k old
     unfolding place
     place_code e h = rw e h
@@ -111,34 +106,34 @@ module _ (l : LoadArguments) (s : Segment) (old : ℕ) where
 
 -- the segments of a load
 
-module _ (at base i : ℕ) (s : State) {p : Placed} where
-  pub back-refused : p ≡ Refused → (Bad, s) ≡ run_t at (write_back base i p) s
+module _ (at base i : ℕ) (s : State) {p : Option (Segment × ℕ)} where
+  pub back-refused : p ≡ None → (None, s) ≡ run_t at (write_back base i p) s
   unfolding write_back
-  back-refused e = rw (e, write_back) (given at Bad s)
+  back-refused e = rw (e, write_back) (given at None s)
 
   pub back-put
-      : {z : Segment} {old : ℕ} {v : State} → p ≡ Put z old → v ≡ (run_t at (set_segment base i z) s).1
-      → (OldPlace old, v) ≡ run_t at (write_back base i p) s
+      : {z : Segment} {old : ℕ} {v : State} → p ≡ Some (z, old) → v ≡ (run_t at (set_segment base i z) s).1
+      → (Some old, v) ≡ run_t at (write_back base i p) s
   unfolding write_back
-  back-put {z} {old} {v} e h = rw (e, write_back) (given at (OldPlace old) v ∙ seq at (set_segment base i z) s (ret (OldPlace old)) h)
+  back-put {z} {old} {v} e h = rw (e, write_back) (given at (Some old) v ∙ seq at (set_segment base i z) s (ret (Some old)) h)
 
-module _ (at : ℕ) (l : LoadArguments) (i old : ℕ) (s : State) {found : FoundSegment} {s₁ : State} (e : (found, s₁) ≡ run_t at (segment l.base i) s) where
-  segment_is : run_t at (move_found l i old found) s₁ ≡ run_t at (move_segment l i (OldPlace old)) s
+module _ (at : ℕ) (l : LoadArguments) (i old : ℕ) (s : State) {found : Option Segment} {s₁ : State} (e : (found, s₁) ≡ run_t at (segment l.base i) s) where
+  segment_is : run_t at (move_found l i old found) s₁ ≡ run_t at (move_segment l i (Some old)) s
   unfolding move_segment
   segment_is = gives at (segment l.base i) s (move_found l i old) e
 
-  pub segment-passed : found ≡ Missing → (OldPlace old, s₁) ≡ run_t at (move_segment l i (OldPlace old)) s
+  pub segment-passed : found ≡ None → (Some old, s₁) ≡ run_t at (move_segment l i (Some old)) s
   unfolding move_found
-  segment-passed m = given at (OldPlace old) s₁ ∙ rw (m, move_found) at segment_is
+  segment-passed m = given at (Some old) s₁ ∙ rw (m, move_found) at segment_is
 
   pub segment-moved
-      : {z : Segment} {p : Placed} {r : Moved × State} → found ≡ Found z → p ≡ place l z z.kind old → r ≡ run_t at (write_back l.base i p) s₁
-      → r ≡ run_t at (move_segment l i (OldPlace old)) s
+      : {z : Segment} {p : Option (Segment × ℕ)} {r : Option ℕ × State} → found ≡ Some z → p ≡ place l z z.kind old → r ≡ run_t at (write_back l.base i p) s₁
+      → r ≡ run_t at (move_segment l i (Some old)) s
   unfolding move_found
   segment-moved m f h = h ∙ ap (λ p. run_t at (write_back l.base i p) s₁) f ∙ rw (m, move_found) at segment_is
 
 -- what follows a refusal changes nothing more
-stays_bad : (at : ℕ) (l : LoadArguments) (s : State) (n i : ℕ) → run_t at (loop (move_segment l) i n Bad) s ≡ (Bad, s)
+stays_bad : (at : ℕ) (l : LoadArguments) (s : State) (n i : ℕ) → run_t at (loop (move_segment l) i n None) s ≡ (None, s)
 unfolding loop move_segment run_t ◌>>=◌
 stays_bad at l s zero i = refl
 stays_bad at l s (suc n) i = stays_bad at l s n (suc i)
@@ -146,18 +141,18 @@ stays_bad at l s (suc n) i = stays_bad at l s n (suc i)
 module _ (at : ℕ) (l : LoadArguments) (s : State) where
   pub segments-start
       : {n : ℕ} {s₁ : State} → (n, s₁) ≡ run_t at (field l.base segment_num) s
-      → run_t at (loop (move_segment l) 0 (n - 0) (OldPlace 0)) s₁ ≡ run_t at (move_segments l) s
+      → run_t at (loop (move_segment l) 0 (n - 0) (Some 0)) s₁ ≡ run_t at (move_segments l) s
   unfolding move_segments
   segments-start {n} e =
       let z : n - 0 ≡ n = omega arith in
-      rw z (gives at (field l.base segment_num) s (λ n. loop (move_segment l) 0 n (OldPlace 0)) e)
+      rw z (gives at (field l.base segment_num) s (λ n. loop (move_segment l) 0 n (Some 0)) e)
 
-  module _ (i n : ℕ) (a : Moved) {m : Moved} {v : State} {r : Moved × State} (rest : run_t at (loop (move_segment l) i (n - i) a) s ≡ r) (h : i < n)
+  module _ (i n : ℕ) (a : Option ℕ) {m : Option ℕ} {v : State} {r : Option ℕ × State} (rest : run_t at (loop (move_segment l) i (n - i) a) s ≡ r) (h : i < n)
       (t : (m, v) ≡ run_t at (move_segment l i a) s) where
-    pub segments_on : {b : Moved} → m ≡ b → run_t at (loop (move_segment l) (i + 1) (n - (i + 1)) b) v ≡ r
+    pub segments_on : {b : Option ℕ} → m ≡ b → run_t at (loop (move_segment l) (i + 1) (n - (i + 1)) b) v ≡ r
     segments_on e = turn_made at (move_segment l) i n a s rest h (ap (λ m. (m, v)) (sym e) ∙ t)
 
-    pub segments-refused : m ≡ Bad → (Bad, v) ≡ r
+    pub segments-refused : m ≡ None → (None, v) ≡ r
     segments-refused e = sym (stays_bad at l v (n - (i + 1)) (i + 1)) ∙ segments_on e
 
 -- the lookups of an initialize
@@ -173,7 +168,7 @@ module _ (at base : ℕ) where
   looks_start s {n} e =
       let z : n - 0 ≡ n = omega arith in rw z (gives at (field base segment_num) s (λ n. loop (look_at base) 0 n tt) e)
 
-  pub look_made : (i : ℕ) (s : State) {x : FoundSegment} {s₁ : State} → (x, s₁) ≡ run_t at (segment base i) s → (tt, s₁) ≡ run_t at (look_at base i tt) s
+  pub look_made : (i : ℕ) (s : State) {x : Option Segment} {s₁ : State} → (x, s₁) ≡ run_t at (segment base i) s → (tt, s₁) ≡ run_t at (look_at base i tt) s
   look_made i s {s₁ = s₁} e = given at tt s₁ ∙ gives at (segment base i) s (λ _. ret tt) e
 
   -- once a touch is kept, what only reads leaves all as it is
@@ -288,47 +283,43 @@ is_magic_second word n = rw (ne_eqb word 0x304f5243 n)
 
 pub relocated
     : (at base old : ℕ) (s : State) {u v : State} → u ≡ (run_t at (move_tables true base pointer_tables) s).1
-    → v ≡ (run_t at (apply_internal_relocations base old) u).1 → (Rebased.Done, v) ≡ run_t at (relocate base (OldPlace old)) s
+    → v ≡ (run_t at (apply_internal_relocations base old) u).1 → (Ok tt, v) ≡ run_t at (relocate base (Some old)) s
 unfolding relocate
 relocated at base old s {u} {v} h g =
-    given at Rebased.Done v
-    ∙ seq at (apply_internal_relocations base old) u (ret Rebased.Done) g
-    ∙ seq at (move_tables true base pointer_tables) s (apply_internal_relocations base old >> ret Rebased.Done) h
+    given at (Ok tt) v
+    ∙ seq at (apply_internal_relocations base old) u (ret (Ok tt)) g
+    ∙ seq at (move_tables true base pointer_tables) s (apply_internal_relocations base old >> ret (Ok tt)) h
 
-not-not : (b c : Bool) → not b ≡ c → b ≡ not c
-not-not true c e = ap not e
-not-not false c e = ap not e
-
-module _ (at base : ℕ) (segments : Prog Moved) (s : State) {word : ℕ} {m : Bool} {s₁ : State} (e : (word, s₁) ≡ run_t at (field base magic) s)
+module _ (at base : ℕ) (segments : Prog (Option ℕ)) (s : State) {word : ℕ} {m : Bool} {s₁ : State} (e : (word, s₁) ≡ run_t at (field base magic) s)
     (d : m ≡ is_magic word) where
   rebase_is
-      : run_t at (if m then move_header true base >> (segments >>= relocate base) else ret Rebased.NotACro) s₁ ≡ run_t at (rebase_with base segments) s
+      : run_t at (if m then move_header true base >> (segments >>= relocate base) else ret (Err RebaseError.NotACro)) s₁ ≡ run_t at (rebase_with base segments) s
   unfolding rebase_with field
   rebase_is =
       rw d (gives at (get32 (base ⊕ magic)) s
-      (λ word. if is_magic word then move_header true base >> (segments >>= relocate base) else ret Rebased.NotACro) e)
+      (λ word. if is_magic word then move_header true base >> (segments >>= relocate base) else ret (Err RebaseError.NotACro)) e)
 
-  pub rebase-not : not m ≡ true → (Rebased.NotACro, s₁) ≡ run_t at (rebase_with base segments) s
+  pub rebase-not : m ≡ false → (Err RebaseError.NotACro, s₁) ≡ run_t at (rebase_with base segments) s
   unfolding run_t
-  rebase-not f = rw (not-not m true f, run_t) at rebase_is
+  rebase-not f = rw (f, run_t) at rebase_is
 
-  module _ (f : not m ≡ false) {u v : State} {x : Moved} (h : u ≡ (run_t at (move_header true base) s₁).1) (g : (x, v) ≡ run_t at segments u) where
+  module _ (f : m ≡ true) {u v : State} {x : Option ℕ} (h : u ≡ (run_t at (move_header true base) s₁).1) (g : (x, v) ≡ run_t at segments u) where
     rebase_on : run_t at (relocate base x) v ≡ run_t at (rebase_with base segments) s
     rebase_on =
         gives at segments u (relocate base) g
         ∙ seq at (move_header true base) s₁ (segments >>= relocate base) h
-        ∙ rw (not-not m false f) at rebase_is
+        ∙ rw f at rebase_is
 
-    pub rebase_bad : x ≡ Bad → (Rebased.BadSegment, v) ≡ run_t at (rebase_with base segments) s
+    pub rebase_bad : x ≡ None → (Err RebaseError.BadSegment, v) ≡ run_t at (rebase_with base segments) s
     unfolding relocate run_t
     rebase_bad b = rw (b, relocate, run_t) at rebase_on
 
     pub rebase_good
-        : {old : ℕ} {r : Rebased × State} → x ≡ OldPlace old → r ≡ run_t at (relocate base (OldPlace old)) v
+        : {old : ℕ} {r : Rebased × State} → x ≡ Some old → r ≡ run_t at (relocate base (Some old)) v
         → r ≡ run_t at (rebase_with base segments) s
     rebase_good b k = k ∙ ap (λ x. run_t at (relocate base x) v) (sym b) ∙ rebase_on
 
 -- an initialize's segments: looked up, and the old place counts from 0
 pub looked_at
-    : (at base : ℕ) (s : State) {u : State} → u ≡ (run_t at (look_at_segments base) s).1 → (OldPlace 0, u) ≡ run_t at (look_at_segments base >> ret (OldPlace 0)) s
-looked_at at base s {u} h = given at (OldPlace 0) u ∙ seq at (look_at_segments base) s (ret (OldPlace 0)) h
+    : (at base : ℕ) (s : State) {u : State} → u ≡ (run_t at (look_at_segments base) s).1 → (Some 0, u) ≡ run_t at {A = Option ℕ} (look_at_segments base >> ret (Some 0)) s
+looked_at at base s {u} h = given at (Some 0) u ∙ seq at (look_at_segments base) s (ret (Some 0)) h

@@ -1,5 +1,5 @@
 -- A segment whose entry lies wholly outside, once a touch is kept: it is found empty or not at all, and what is written back is dropped.
-use Rattle.std.proofs.Common.{◌≡◌, ℕ, ◌+◌, ◌-◌, ◌<◌, true, List, length, sym, refl, ap, ◌∙◌, arith}
+use Rattle.std.proofs.Common.{◌≡◌, ℕ, ◌+◌, ◌-◌, ◌<◌, true, List, length, sym, refl, ap, ◌∙◌, arith, Option, Some, None}
 use native.Mathlib.Decide.{dec_lt}
 use Rattle.window.specs.Memory.{◌⊕◌, word_at}
 use Rattle.window.specs.Loop.{loop}
@@ -11,12 +11,8 @@ use Rattle.layout.specs.Format.{segment_type}
 use Rattle.layout.specs.Segments.{field, field-word, field_reads, segment, segment_reads, segment_place, segment_at, segment_missing, segment-found, set_segment}
 use Rattle.layout.specs.declared.format.Segment.{Segment}
 use Rattle.layout.specs.declared.format.SegmentType.TheVariants.{Code}
-use Rattle.layout.specs.declared.segments.FoundSegment.{FoundSegment}
-use Rattle.layout.specs.declared.segments.FoundSegment.TheVariants.{Found, Missing}
 use Rattle.layout.proofs.Accesses.{segment-set}
 use Rattle.linker_spec.specs.declared.rebase.LoadArguments.{LoadArguments}
-use Rattle.linker_spec.specs.declared.rebase.Moved.{Moved}
-use Rattle.linker_spec.specs.declared.rebase.Moved.TheVariants.{OldPlace}
 use Rattle.linker_spec.specs.Rebase.{move_segment}
 use Rattle.linker_spec.specs.Unrebase.{unmove_segment, leaves_as}
 use Rattle.linker.specs.Sources.Laws.{paired}
@@ -45,14 +41,14 @@ module _ (at base i : ℕ) (w t : List ℕ) (kept : said t ≡ true)
 
   -- by what the lookup finds
   found_cases
-      : (P : FoundSegment → Type 0) → ((Missing, s) ≡ run_t at (segment base i) s → P Missing)
-      → ((Found empty, s) ≡ run_t at (segment base i) s → P (Found empty)) → (f : FoundSegment) × P f
+      : (P : Option Segment → Type 0) → ((None, s) ≡ run_t at (segment base i) s → P None)
+      → ((Some empty, s) ≡ run_t at (segment base i) s → P (Some empty)) → (f : Option Segment) × P f
   found_cases P missing found =
       let r = (reads_run_t at (segment base i) s (segment_reads base i)).0 in
       let k = paired at (segment base i) s (sym (silent_reads at (segment base i) w t (segment_reads base i) kept)) in
       elim (dec_lt i (word_at at w (base ⊕ segment_num))) [
-        | yes l ↦ (Found empty, found (ap (λ f. (f, s)) (sym (r ∙ segment-found at base i w l ∙ ap Found entry-empty)) ∙ k))
-        | no l ↦ (Missing, missing (ap (λ f. (f, s)) (sym (r ∙ segment_missing at base i w (omega arith))) ∙ k))
+        | yes l ↦ (Some empty, found (ap (λ f. (f, s)) (sym (r ∙ segment-found at base i w l ∙ ap Some entry-empty)) ∙ k))
+        | no l ↦ (None, missing (ap (λ f. (f, s)) (sym (r ∙ segment_missing at base i w (omega arith))) ∙ k))
       ]
 
   table_read : (word_at at w (base ⊕ segment_table_offset), s) ≡ run_t at (field base segment_table_offset) s
@@ -76,10 +72,10 @@ module _ (at base i : ℕ) (w t : List ℕ) (kept : said t ≡ true)
 move_idle
     : (at : ℕ) (l : LoadArguments) (old i : ℕ) (w t : List ℕ) → said t ≡ true
     → AllOutside at (length w) (segment_place at w l.base i) segment_entry_size
-    → (OldPlace old, (w, t)) ≡ run_t at (move_segment l i (OldPlace old)) (w, t)
+    → (Some old, (w, t)) ≡ run_t at (move_segment l i (Some old)) (w, t)
 move_idle at l old i w t kept out =
     let s : State = (w, t) in
-    (found_cases at l.base i w t kept out (λ f. (OldPlace old, s) ≡ run_t at (move_segment l i (OldPlace old)) s)
+    (found_cases at l.base i w t kept out (λ f. (Some old, s) ≡ run_t at (move_segment l i (Some old)) s)
     (λ h. segment-passed at l i old s h refl)
     (λ h. segment-moved at l i old s h refl (place_code l empty old refl (moved_none l empty old refl))
     (back-put at l.base i s refl (set_dropped at l.base i w t kept out empty)))).1
@@ -87,11 +83,11 @@ move_idle at l old i w t kept out =
 -- a turn made, a stride passes over those wholly outside
 module _ (at i n : ℕ) (w t : List ℕ) (h : i < n) where
   pub moved-past
-      : (l : LoadArguments) (old : ℕ) {k : ℕ} {r : Moved × State} → run_t at (loop (move_segment l) (i + 1) (n - (i + 1)) (OldPlace old)) (w, t) ≡ r
+      : (l : LoadArguments) (old : ℕ) {k : ℕ} {r : Option ℕ × State} → run_t at (loop (move_segment l) (i + 1) (n - (i + 1)) (Some old)) (w, t) ≡ r
       → k ≡ silent_stride at (length w) t (segment_place at w l.base i) segment_entry_size (n - i)
-      → run_t at (loop (move_segment l) (i + k) (n - (i + k)) (OldPlace old)) (w, t) ≡ r
+      → run_t at (loop (move_segment l) (i + k) (n - (i + k)) (Some old)) (w, t) ≡ r
   moved-past l old rest k =
-      stride_made at (move_segment l) (word_at at w (l.base ⊕ segment_table_offset)) segment_entry_size (OldPlace old) i n w t rest h refl k
+      stride_made at (move_segment l) (word_at at w (l.base ⊕ segment_table_offset)) segment_entry_size (Some old) i n w t rest h refl k
       (λ y j out. move_idle at l old j w t y out)
 
   pub unmoved-past

@@ -1,15 +1,14 @@
 -- Tables whose entries hold pointers: one pointer an entry in a row inside, and past entries wholly outside.
-use Rattle.std.specs.Prelude.{if◌then◌else◌}
-use Rattle.std.proofs.Common.{◌≡◌, ℕ, zero, suc, ◌+◌, ◌-◌, ◌*◌, ◌%◌, ◌^◌, ◌<◌, ◌≤◌, Bool, true, false, ◌&&◌, ◌||◌, ltb, leb, List, [], ◌∷◌, length, take, sym, refl, ap, ◌∙◌, mul-le-mul_right, suc-mul, arith, le-leb, leb-true}
+use Rattle.std.proofs.Common.{◌≡◌, ℕ, zero, suc, ◌+◌, ◌-◌, ◌*◌, ◌%◌, ◌^◌, ◌<◌, ◌≤◌, Bool, true, false, ◌&&◌, leb, List, [], ◌∷◌, take, refl, ap, ◌∙◌, mul-le-mul_right, suc-mul, arith, le-leb, leb-true}
 use borrow.Author.Tests.{lt-leb}
 use Rattle.window.specs.Tests.{both}
 use Rattle.window.specs.Memory.{◌⊕◌, place}
 use Rattle.window.specs.Access.{Prog}
 use Rattle.window.specs.Loop.{loop}
-use Rattle.window.specs.Trace.{State, said, run_t}
+use Rattle.window.specs.Trace.{State, run_t}
 use Rattle.window.specs.TraceRuns.{left, step_made}
 use Rattle.window.specs.Row.{Stands, stands_part}
-use Rattle.window.specs.Outside.{Idle, fitting, stride_of, silent_stride, strides_made, part_read}
+use Rattle.window.specs.Outside.{Idle, part_read}
 use Rattle.layout.specs.Segments.{entry_at}
 use Rattle.layout.specs.declared.tables.PointerTable.{PointerTable}
 use Rattle.linker_spec.specs.Rebase.{move_word, move_pointers, pointers_of}
@@ -80,18 +79,6 @@ module _ (at : ℕ) (forward : Bool) (base size : ℕ) where
       ∙ ap left (pointers-more at forward base x y (take n ys) (w, t) refl
       (word_kept at forward base (x ⊕ y) (w, t) (part_read at w t kept x size out y f.0) refl))
 
-no_size : (at n : ℕ) (t : List ℕ) (entry rest : ℕ) → silent_stride at n t entry 0 rest ≡ 1
-unfolding silent_stride stride_of
-no_size at n t entry rest = by_tests (said t) (ltb (place at entry) n)
-  where
-    other : ℕ
-    other = if ltb (fitting at entry 0) rest then fitting at entry 0 else rest
-
-    by_tests : (b c : Bool) → ◌≡◌ {A = ℕ} (if b then (if c || true then 1 else other) else 1) 1
-    by_tests true true = refl
-    by_tests true false = refl
-    by_tests false c = refl
-
 -- the tests of `pointers_within`
 module _ (t : PointerTable) where
   abbrev pub within : Bool
@@ -117,24 +104,8 @@ module _ (t : PointerTable) where
       pub by_third : t.second + 4 ≤ size → leb (t.third + 4) size ≡ within
       by_third l = rw (← ez, le-leb (t.first + 4) size fits, le-leb (t.second + 4) size l)
 
-module _ {b : Bool} (x : ℕ) {size : ℕ} where
-  pub size_taken : b ≡ true → size ≡ x → size ≡ (if b then x else 0)
-  size_taken e h = rw e h
-
-  pub size_none : b ≡ false → size ≡ 0 → size ≡ (if b then x else 0)
-  size_none e h = rw e h
-
--- a stride over the entries of a table, of size 0 where a pointer may lie past its entry
-pub pointers-past
-    : (at : ℕ) (forward : Bool) (base : ℕ) (p : PointerTable) (table i count : ℕ) (s : State) {r : Unit {0} × State} {entry k size : ℕ}
-    {w t : List ℕ} {b : Bool}
-    → run_t at (loop (λ j _. move_pointers forward base (entry_at table j p.entry_size) (pointers_of p)) i (count - i) tt) s ≡ r → i < count
-    → entry ≡ entry_at table i p.entry_size → (w, t) ≡ (run_t at (move_pointers forward base entry (pointers_of p)) s).1
-    → b ≡ within p → size ≡ (if b then p.entry_size else 0) → k ≡ silent_stride at (length w) t entry size (count - i)
-    → run_t at (loop (λ j _. move_pointers forward base (entry_at table j p.entry_size) (pointers_of p)) (i + k) (count - (i + k)) tt) (w, t) ≡ r
-pointers-past at forward base p table i count s {b = true} rest l e h eb ez ek =
-    strides_made at (λ x. move_pointers forward base x (pointers_of p)) p.entry_size table i count s rest l e h (rw ez at ek)
-    (pointers-idle at forward base p.entry_size (p.first ∷ p.second ∷ p.third ∷ []) (within_all p (sym eb)) p.pointers)
-pointers-past at forward base p table i count s {entry = entry} {w = w} {t} {b = false} rest l e h eb ez ek =
-    let one = rw ez at ek ∙ no_size at (length w) t entry (count - i) in
-    rw one (step_made at (λ x. move_pointers forward base x (pointers_of p)) (λ j. entry_at table j p.entry_size) i count s rest l e h)
+-- entries wholly outside have no pointer to move, where the pointers lie within an entry
+pub entries-idle
+    : (at : ℕ) (forward : Bool) (base : ℕ) (t : PointerTable) → within t ≡ true
+    → Idle at (λ entry. move_pointers forward base entry (pointers_of t)) t.entry_size
+entries-idle at forward base t e = pointers-idle at forward base t.entry_size (t.first ∷ t.second ∷ t.third ∷ []) (within_all t e) t.pointers

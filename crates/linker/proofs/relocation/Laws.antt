@@ -1,5 +1,5 @@
 -- From the code's calls and branches to the programs of `Relocation`.
-use Rattle.std.specs.Prelude.{if◌then◌else◌}
+use Rattle.std.specs.Prelude.{if◌then◌else◌, Option, Some, None}
 use Rattle.std.proofs.Common.{◌≡◌, ℕ, suc, ◌+◌, ◌-◌, ◌<◌, Bool, true, false, not, eqb, List, sym, refl, ap, ◌∙◌, arith, eq-eqb, ne_eqb}
 use native.Mathlib.Decide.{ℕ_discrete}
 use mir.Val.{bool_byte}
@@ -16,8 +16,6 @@ use Rattle.layout.specs.Segments.{field, entry_at, tag_to_address, tag_to_addres
 use Rattle.layout.proofs.Accesses.{read_there}
 use Rattle.layout.specs.Relocation.Relocation.{apply_relocation, patch}
 use Rattle.layout.specs.declared.format.RelocationType.{RelocationType}
-use Rattle.layout.specs.declared.segments.Address.{Address}
-use Rattle.layout.specs.declared.segments.Address.TheVariants.{At, Nowhere}
 use Rattle.linker_spec.specs.Relocation.{address_or0, unresolved_symbol, relocate_at, reset_entry, reset_external_relocations, walk, batch_limit, mark, apply_relocation_batch, batch_is_resolved}
 use Rattle.linker.specs.Relocation.Entry.{relocate_entry, apply_entry, walk_entry}
 use Rattle.linker.specs.Sources.Laws.{paired}
@@ -32,17 +30,17 @@ module _ (at : ℕ) (s : State) {p q : ℕ} (e : p ≡ q) where
 
 -- one entry
 
-module _ (at base symbol tag kind addend : ℕ) (s : State) {r : Address} {s₁ : State} (h : (r, s₁) ≡ run_t at (tag_to_address base tag) s) where
+module _ (at base symbol tag kind addend : ℕ) (s : State) {r : Option ℕ} {s₁ : State} (h : (r, s₁) ≡ run_t at (tag_to_address base tag) s) where
   relocated : {v : State} → v ≡ (run_t at (relocate_at r kind addend symbol) s₁).1 → v ≡ (run_t at (relocate_entry base symbol tag kind addend) s).1
   unfolding relocate_entry
   relocated = then_it at (tag_to_address base tag) s (λ r. relocate_at r kind addend symbol) h
 
-  pub relocate_nowhere : r ≡ Nowhere → s₁ ≡ (run_t at (relocate_entry base symbol tag kind addend) s).1
+  pub relocate_nowhere : r ≡ None → s₁ ≡ (run_t at (relocate_entry base symbol tag kind addend) s).1
   unfolding relocate_at run_t
   relocate_nowhere e = relocated (rw (e, relocate_at, run_t))
 
   pub relocate-at
-      : {target : ℕ} {k : RelocationType} {v : State} → r ≡ At target → k ≡ relocation_type kind
+      : {target : ℕ} {k : RelocationType} {v : State} → r ≡ Some target → k ≡ relocation_type kind
       → v ≡ (run_t at (apply_relocation target k addend symbol target) s₁).1 → v ≡ (run_t at (relocate_entry base symbol tag kind addend) s).1
   unfolding relocate_at
   relocate-at e k g = relocated (rw (e, relocate_at, ← k) g)
@@ -152,7 +150,7 @@ mark_read at batch s {m = m} {u} x e =
     ∙ gives at (get8 (batch ⊕ 6)) s (λ m. ret (if eqb m 0 then false else true)) (read8_there at s x e)
 
 pub handler_is
-    : (at base : ℕ) (s : State) {tag h : ℕ} {r : Address} {s₁ s₂ : State} → (tag, s₁) ≡ run_t at (field base on_unresolved_segment_tag) s
+    : (at base : ℕ) (s : State) {tag h : ℕ} {r : Option ℕ} {s₁ s₂ : State} → (tag, s₁) ≡ run_t at (field base on_unresolved_segment_tag) s
     → (r, s₂) ≡ run_t at (tag_to_address base tag) s₁ → h ≡ address_or0 r → (h, s₂) ≡ run_t at (unresolved_symbol base) s
 unfolding unresolved_symbol
 handler_is at base s {tag} {r = r} {s₁} {s₂} e g f =
@@ -177,16 +175,14 @@ module _ (at base handler entry : ℕ) (s : State) {x : ℕ} {u v : State} (p : 
 pub external_starts
     : (at base : ℕ) (s : State) {handler table count : ℕ} {s₁ s₂ s₃ : State} → (handler, s₁) ≡ run_t at (unresolved_symbol base) s
     → (table, s₂) ≡ run_t at (field base external_relocation_table_offset) s₁ → (count, s₃) ≡ run_t at (field base external_relocation_num) s₂
-    → run_t at (loop (λ i _. reset_entry base handler (entry_at table i relocation_entry_size)) 0 (count - 0) tt) s₃
+    → run_t at (loop (λ i _. reset_entry base handler (entry_at table i relocation_entry_size)) 0 count tt) s₃
     ≡ run_t at (reset_external_relocations base) s
 unfolding reset_external_relocations
-external_starts at base s {handler} {table} {count} {s₁} {s₂} h t n =
-    let z : count - 0 ≡ count = omega arith in
-    rw z
-    (gives at (field base external_relocation_num) s₂
+external_starts at base s {handler} {table} {s₁ = s₁} {s₂} h t n =
+    gives at (field base external_relocation_num) s₂
     (λ count. loop (λ i _. reset_entry base handler (entry_at table i relocation_entry_size)) 0 count tt) n
     ∙ gives at (field base external_relocation_table_offset) s₁ _ t
-    ∙ gives at (unresolved_symbol base) s _ h)
+    ∙ gives at (unresolved_symbol base) s _ h
 
 -- once a touch is kept, an entry wholly outside has kind 0, which writes nothing, and its mark is not there
 
@@ -202,9 +198,9 @@ entry-idle at base symbol w t kept =
     s : State
     s = (w, t)
 
-    by_address : (r : Address) → (r, s) ≡ run_t at (tag_to_address base 0) s → s ≡ (run_t at (relocate_entry base symbol 0 0 0) s).1
-    by_address (At a) h = relocate-at at base symbol 0 0 0 s h refl refl (kind_0 at a 0 symbol a s)
-    by_address Nowhere h = relocate_nowhere at base symbol 0 0 0 s h refl
+    by_address : (r : Option ℕ) → (r, s) ≡ run_t at (tag_to_address base 0) s → s ≡ (run_t at (relocate_entry base symbol 0 0 0) s).1
+    by_address (Some a) h = relocate-at at base symbol 0 0 0 s h refl refl (kind_0 at a 0 symbol a s)
+    by_address None h = relocate_nowhere at base symbol 0 0 0 s h refl
 
 pub external_idle : (at base handler : ℕ) → Idle at (reset_entry base handler) relocation_entry_size
 external_idle at base handler w t kept x out = elim (ℕ_discrete handler 0) [

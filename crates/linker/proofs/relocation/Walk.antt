@@ -1,11 +1,10 @@
 -- The batch walk at an entry that is inside with its segment, each in a row, and past entries wholly outside.
-use Rattle.std.proofs.Common.{◌≡◌, ℕ, zero, suc, ◌+◌, ◌-◌, ◌*◌, ◌%◌, ◌^◌, ◌<◌, ◌≤◌, Bool, true, false, List, length, get_or, refl, ap, ◌∙◌, arith, lit<}
+use Rattle.std.proofs.Common.{◌≡◌, ℕ, zero, suc, ◌+◌, ◌-◌, ◌*◌, ◌%◌, ◌^◌, ◌<◌, ◌≤◌, Bool, true, false, List, length, get_or, refl, ap, ◌∙◌, arith, lit<, Some}
 use Rattle.window.specs.Memory.{◌⊕◌}
 use Rattle.window.specs.Word.{word_in}
 use Rattle.window.specs.Trace.{State, said, run_t}
 use Rattle.window.specs.Row.{Stands, stands_part, stands_first}
 use Rattle.window.specs.Outside.{AllOutside, stride_of, silent_stride, silent_goes, passed-outside, first_read, part_read, part_byte_read}
-use Rattle.window.specs.declared.row.Row.TheVariants.{At}
 use Rattle.window.proofs.row.Laws.{byte_there, word-there}
 use Rattle.layout.specs.Header.{relocation_entry_size}
 use Rattle.layout.specs.Format.{relocation_type, tag_segment, tag_offset}
@@ -40,7 +39,7 @@ module _ (at base symbol entry : ℕ) (w t : List ℕ) {i : ℕ} (stands : Stand
       refl (ap (λ x. (x, s)) ea ∙ word-there at w (entry ⊕ 8) (i + 8) (part 8 4 (lit< tt) (lit< tt)) t)
       g
 
-  module _ {tag j x end size q : ℕ} (et : tag ≡ word_in w i) (ej : j ≡ tag_segment tag) (row : segment_row at w base j ≡ At q)
+  module _ {tag j x end size q : ℕ} (et : tag ≡ word_in w i) (ej : j ≡ tag_segment tag) (row : segment_row at w base j ≡ Some q)
       (ee : end ≡ get_or w (i + 5) 0) (ex : x ≡ tag_offset tag) (es : size ≡ word_in w (q + 4)) where
     pub inside_nowhere : size ≤ x → (end, s) ≡ run_t at (walk_entry base symbol entry) s
     inside_nowhere l =

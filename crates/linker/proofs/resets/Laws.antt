@@ -1,6 +1,6 @@
 -- From the code's calls and branches to the programs of `Resets`.
-use Rattle.std.specs.Prelude.{if◌then◌else◌}
-use Rattle.std.proofs.Common.{◌≡◌, ℕ, ◌-◌, Bool, true, false, List, [], sym, refl, ap, ◌∙◌, arith, eq-eqb, ne_eqb}
+use Rattle.std.specs.Prelude.{if◌then◌else◌, Option, Some, None}
+use Rattle.std.proofs.Common.{◌≡◌, ℕ, Bool, true, false, List, [], sym, refl, ap, ◌∙◌, arith, eq-eqb, ne_eqb}
 use Rattle.window.specs.Memory.{◌⊕◌}
 use Rattle.window.specs.Access.{Prog, ret, ◌>>=◌, ◌>>◌, get32}
 use Rattle.window.specs.Loop.{loop}
@@ -14,8 +14,6 @@ use Rattle.layout.proofs.Accesses.{read_there}
 use Rattle.register.specs.Words.{same}
 use Rattle.register.specs.Module.{Module}
 use Rattle.register.specs.Read.Read.{export_of}
-use Rattle.register.specs.declared.read.Symbol.{Symbol}
-use Rattle.register.specs.declared.read.Symbol.TheVariants.{At, Nothing}
 use Rattle.linker_spec.specs.Relocation.{unresolved_symbol, apply_relocation_batch, batch_is_resolved}
 use Rattle.linker_spec.specs.Resets.{reset, reset_at, exists, reset_named, reset_module, reset_imports}
 use Rattle.linker.specs.declared.sources.source.ModuleTables.{ModuleTables}
@@ -65,17 +63,17 @@ module _ (at base handler entry : ℕ) (s : State) where
     named f = sym (gives at (name_at p) s₁ f {a = name} (ap (λ u. (name, u)) en) ∙ gives at (get32 entry) s (λ p. name_at p >>= f) ep)
 
     module _ (gone : Module) where
-      module _ {x : Symbol} (ex : x ≡ export_of gone name) where
+      module _ {x : Option ℕ} (ex : x ≡ export_of gone name) where
         named_is : run_t at (reset_named gone base handler entry) s ≡ run_t at (if exists x then reset_at base handler entry else ret tt) s₂
         unfolding reset_named
         named_is = rw ex (named (λ n. if exists (export_of gone n) then reset_at base handler entry else ret tt))
 
-        pub named_kept : x ≡ Nothing → s₂ ≡ (run_t at (reset_named gone base handler entry) s).1
+        pub named_kept : x ≡ None → s₂ ≡ (run_t at (reset_named gone base handler entry) s).1
         unfolding run_t
         named_kept e = rw (named_is, e, run_t)
 
         pub named-reset
-            : {a : ℕ} {v : State} → x ≡ At a → v ≡ (run_t at (reset_at base handler entry) s₂).1 → v ≡ (run_t at (reset_named gone base handler entry) s).1
+            : {a : ℕ} {v : State} → x ≡ Some a → v ≡ (run_t at (reset_at base handler entry) s₂).1 → v ≡ (run_t at (reset_named gone base handler entry) s).1
         named-reset e h = rw (named_is, e) h
 
       module _ {t : Bool} {own : List ℕ} (eo : own ≡ gone.name) (et : t ≡ same name own) where
@@ -100,31 +98,20 @@ module _ (at base handler entry : ℕ) (s : State) where
 -- the loops, and both halves
 
 module _ (at base handler : ℕ) (s : State) where
-  pub resets_start
-      : (table count : ℕ)
-      → run_t at (loop (λ i _. reset_at base handler (entry_at table i import_indexed_symbol_entry_size)) 0 (count - 0) tt) s
-      ≡ run_t at (reset_table base handler table count) s
-  unfolding reset_table
-  resets_start table count = let z : count - 0 ≡ count = omega arith in rw z
-
   module _ (gone : Module) {table count : ℕ} {s₁ s₂ : State} where
     pub named_start
         : (table, s₁) ≡ run_t at (field base import_named_symbol_table_offset) s → (count, s₂) ≡ run_t at (field base import_named_symbol_num) s₁
-        → run_t at (loop (λ i _. reset_named gone base handler (entry_at table i import_named_symbol_entry_size)) 0 (count - 0) tt) s₂
+        → run_t at (loop (λ i _. reset_named gone base handler (entry_at table i import_named_symbol_entry_size)) 0 count tt) s₂
         ≡ run_t at (reset_all_named gone base handler) s
     unfolding reset_all_named
-    named_start t n =
-        let z : count - 0 ≡ count = omega arith in
-        rw z (gives at (field base import_named_symbol_num) s₁ _ n ∙ gives at (field base import_named_symbol_table_offset) s _ t)
+    named_start t n = gives at (field base import_named_symbol_num) s₁ _ n ∙ gives at (field base import_named_symbol_table_offset) s _ t
 
     pub modules_start
         : (table, s₁) ≡ run_t at (field base import_module_table_offset) s → (count, s₂) ≡ run_t at (field base import_module_num) s₁
-        → run_t at (loop (λ i _. reset_module gone base handler (entry_at table i import_module_entry_size)) 0 (count - 0) tt) s₂
+        → run_t at (loop (λ i _. reset_module gone base handler (entry_at table i import_module_entry_size)) 0 count tt) s₂
         ≡ run_t at (reset_all_modules gone base handler) s
     unfolding reset_all_modules
-    modules_start t n =
-        let z : count - 0 ≡ count = omega arith in
-        rw z (gives at (field base import_module_num) s₁ _ n ∙ gives at (field base import_module_table_offset) s _ t)
+    modules_start t n = gives at (field base import_module_num) s₁ _ n ∙ gives at (field base import_module_table_offset) s _ t
 
 module _ (at base : ℕ) (s : State) (gone : Module) where
   abbrev halves : ℕ → Prog (Unit {0})

@@ -1,5 +1,5 @@
 -- One entry's export sorted, and the lengths of names summed.
-use Rattle.std.proofs.Common.{◌≡◌, ℕ, suc, ◌+◌, ◌-◌, ◌*◌, ◌/◌, ◌^◌, ◌<◌, ◌≤◌, leb, List, [], ◌∷◌, ◌++◌, length, get_or, take, drop, sym, refl, ap, ◌∙◌, subst, append-nil, add-one, arith, length-append, length-drop, drop_of_length-le, length-take-le, drop-cons, drop_at, leb-true}
+use Rattle.std.proofs.Common.{◌≡◌, ℕ, suc, ◌+◌, ◌-◌, ◌*◌, ◌/◌, ◌^◌, ◌<◌, ◌≤◌, leb, List, [], ◌∷◌, ◌++◌, length, get_or, take, drop, sym, refl, ap, ◌∙◌, subst, append-nil, add-one, arith, length-append, length-drop, drop_of_length-le, length-take-le, drop-cons, drop_at, leb-true, Option, Some, None}
 use lib.Seq.{sets}
 use borrow.Rule.Slice.PartMut.{mid_of, post_of, put_mid, same_len_mid, take_put}
 use Rattle.window.specs.Memory.{◌⊕◌, word_at}
@@ -8,8 +8,6 @@ use Rattle.window.specs.Name.{laid_over, is_name, no_zero, name_at-is_name, name
 use Rattle.window.specs.Tests.{both}
 use Rattle.layout.specs.Header.{export_named_symbol_table_offset, export_named_symbol_entry_size}
 use Rattle.layout.specs.Segments.{entry_at, tag_to_address}
-use Rattle.layout.specs.declared.segments.Address.{Address}
-use Rattle.layout.specs.declared.segments.Address.TheVariants.{At, Nowhere}
 use Rattle.register.specs.Words.{part, flat, words_in}
 use Rattle.register.specs.Module.{Export, ascending}
 use Rattle.register.specs.Encode.{export_names}
@@ -34,18 +32,18 @@ none_from at w base from n bytes e =
 
 -- the export of entry i
 
-module _ (at : ℕ) (w : List ℕ) (base i table entry p₄ tag : ℕ) (x : Address) (ee : entry ≡ entry_at table i export_named_symbol_entry_size)
+module _ (at : ℕ) (w : List ℕ) (base i table entry p₄ tag : ℕ) (x : Option ℕ) (ee : entry ≡ entry_at table i export_named_symbol_entry_size)
     (e₄ : p₄ ≡ entry ⊕ 4) (et : tag ≡ word_at at w p₄) (ex : x ≡ (run at (tag_to_address base tag) w).0)
     (h : table ≡ header_word at w base export_named_symbol_table_offset) where
   one_is : put_usable [] (name_of at w base i) x ≡ named_from at w base i 1
   one_is = ap (put_usable [] (name_of at w base i)) (the_address at w base i table entry p₄ tag x ee e₄ et ex h) ∙ sym (from_one at w base i)
 
-  pub one-passed : (bytes : List ℕ) → x ≡ Nowhere → Sorted at w (named_from at w base i 1) 0 bytes
+  pub one-passed : (bytes : List ℕ) → x ≡ None → Sorted at w (named_from at w base i 1) 0 bytes
   unfolding put_usable
   one-passed bytes z = subst (λ xs. Sorted at w xs 0 bytes) (ap (put_usable [] (name_of at w base i)) (sym z) ∙ one_is) (sorted_none at w bytes)
 
   pub one_added
-      : (a place : ℕ) (bytes : List ℕ) {bytes' : List ℕ} → x ≡ At a → place ≡ word_at at w entry → place < 2 ^ 32 → a < 2 ^ 32 → 8 ≤ length bytes
+      : (a place : ℕ) (bytes : List ℕ) {bytes' : List ℕ} → x ≡ Some a → place ≡ word_at at w entry → place < 2 ^ 32 → a < 2 ^ 32 → 8 ≤ length bytes
       → bytes' ≡ sets bytes (8 * 0) (flat (place ∷ a ∷ [])) → Sorted at w (named_from at w base i 1) 1 bytes'
   unfolding put_usable put_named exports_for ascending
   one_added a place bytes {bytes'} z el hp ha l e =

@@ -1,7 +1,6 @@
 -- From the code's calls and branches to the programs of `Imports` for one batch, one import and the imports of an entry.
-use Rattle.std.specs.Prelude.{if◌then◌else◌}
-use Rattle.std.proofs.Common.{◌≡◌, ℕ, ◌-◌, Bool, true, false, not, List, length, take, refl, ap, ◌∙◌, arith, eq-eqb, ne_eqb}
-use mathlib.Core.Option.{Option, some, none}
+use Rattle.std.specs.Prelude.{if◌then◌else◌, Option, Some, None}
+use Rattle.std.proofs.Common.{◌≡◌, ℕ, Bool, true, false, not, List, length, take, refl, ap, ◌∙◌, arith, eq-eqb, ne_eqb}
 use Rattle.window.specs.Memory.{◌⊕◌}
 use Rattle.window.specs.Access.{ret, ◌>>=◌, get32}
 use Rattle.window.specs.Trace.{State, said, run_t}
@@ -11,11 +10,8 @@ use Rattle.window.specs.Loop.{loop}
 use Rattle.window.specs.Name.{name_at, laid_over, name_is}
 use Rattle.layout.specs.Header.{import_indexed_symbol_entry_size, import_module_entry_size}
 use Rattle.layout.specs.Format.{tag_segment, tag_offset}
-use Rattle.layout.specs.Segments.{entry_at}
 use Rattle.register.specs.Module.{Module}
 use Rattle.register.specs.Read.Read.{entry_of}
-use Rattle.register.specs.declared.read.Symbol.{Symbol}
-use Rattle.register.specs.declared.read.Symbol.TheVariants.{At, Nothing}
 use Rattle.linker_spec.specs.Relocation.{batch_is_resolved}
 use Rattle.linker_spec.specs.Imports.{anonymous_of, is_unresolved, resolve, import_from, link_from, imports_of}
 use Rattle.layout.proofs.Accesses.{read_there}
@@ -52,25 +48,25 @@ module _ (at batch : ℕ) (s : State) where
 -- imports by index and by tag
 
 pub anonymous_none
-    : (m : Module) (tag : ℕ) {n : ℕ} {s : Symbol} → n ≡ tag_segment tag → s ≡ entry_of m.segments n → s ≡ Nothing → Nothing ≡ anonymous_of m tag
+    : (m : Module) (tag : ℕ) {n : ℕ} {s : Option ℕ} → n ≡ tag_segment tag → s ≡ entry_of m.segments n → s ≡ None → None ≡ anonymous_of m tag
 unfolding anonymous_of
 anonymous_none m tag e f g = rw (← e, ← f, g)
 
 pub anonymous_some
-    : (m : Module) (tag : ℕ) {n o a x : ℕ} {s : Symbol} → n ≡ tag_segment tag → s ≡ entry_of m.segments n → s ≡ At a → o ≡ tag_offset tag → x ≡ a ⊕ o
-    → At x ≡ anonymous_of m tag
+    : (m : Module) (tag : ℕ) {n o a x : ℕ} {s : Option ℕ} → n ≡ tag_segment tag → s ≡ entry_of m.segments n → s ≡ Some a → o ≡ tag_offset tag → x ≡ a ⊕ o
+    → Some x ≡ anonymous_of m tag
 unfolding anonymous_of
 anonymous_some m tag e f g o x = rw (x, o, ← e, ← f, g)
 
-pub symbol_indexed : (m : Module) (x : ℕ) {k : ImportTable} {s : Symbol} → k ≡ Indexed → s ≡ entry_of m.indexed x → s ≡ symbol_of k m x
+pub symbol_indexed : (m : Module) (x : ℕ) {k : ImportTable} {s : Option ℕ} → k ≡ Indexed → s ≡ entry_of m.indexed x → s ≡ symbol_of k m x
 unfolding symbol_of
 symbol_indexed m x e f = rw (e, symbol_of) f
 
-pub symbol_anonymous : (m : Module) (x : ℕ) {k : ImportTable} {s : Symbol} → k ≡ Anonymous → s ≡ anonymous_of m x → s ≡ symbol_of k m x
+pub symbol_anonymous : (m : Module) (x : ℕ) {k : ImportTable} {s : Option ℕ} → k ≡ Anonymous → s ≡ anonymous_of m x → s ≡ symbol_of k m x
 unfolding symbol_of
 symbol_anonymous m x e f = rw (e, symbol_of) f
 
-module _ (at base entry : ℕ) (symbol : ℕ → Symbol) (s : State) {x batch y : ℕ} {t : Bool} {s₁ s₂ s₃ : State} (h₁ : (x, s₁) ≡ run_t at (get32 entry) s)
+module _ (at base entry : ℕ) (symbol : ℕ → Option ℕ) (s : State) {x batch y : ℕ} {t : Bool} {s₁ s₂ s₃ : State} (h₁ : (x, s₁) ≡ run_t at (get32 entry) s)
     (ey : y ≡ entry ⊕ 4) (h₂ : (batch, s₂) ≡ run_t at (get32 y) s₁) (h₃ : (t, s₃) ≡ run_t at (is_unresolved batch) s₂) where
   from_is : {v : State} → v ≡ (run_t at (if t then resolve base batch (symbol x) else ret tt) s₃).1 → v ≡ (run_t at (import_from symbol base entry) s).1
   unfolding import_from
@@ -80,22 +76,13 @@ module _ (at base entry : ℕ) (symbol : ℕ → Symbol) (s : State) {x batch y 
       (then_it at (is_unresolved batch) s₂ (λ t. if t then resolve base batch (symbol x) else ret tt) h₃ h))
 
   pub from-waits
-      : {z : Symbol} {v : State} → t ≡ true → z ≡ symbol x → v ≡ (run_t at (resolve base batch z) s₃).1
+      : {z : Option ℕ} {v : State} → t ≡ true → z ≡ symbol x → v ≡ (run_t at (resolve base batch z) s₃).1
       → v ≡ (run_t at (import_from symbol base entry) s).1
   from-waits e f h = from_is (rw (e, ← f) h)
 
   pub from-passed : t ≡ false → s₃ ≡ (run_t at (import_from symbol base entry) s).1
   unfolding run_t
   from-passed e = from_is (rw (e, run_t))
-
--- the imports of a table
-
-pub table_starts
-    : (at base table count : ℕ) (k : ImportTable) (m : Module) (s : State)
-    → run_t at (loop (λ i _. import_from (symbol_of k m) base (entry_at table i import_indexed_symbol_entry_size)) 0 (count - 0) tt) s
-    ≡ run_t at (import_table k m base table count) s
-unfolding import_table
-table_starts at base table count k m s = let z : count - 0 ≡ count = omega arith in rw z
 
 -- a module entry's four words, and its two tables
 
@@ -116,7 +103,7 @@ pub tables_made
     : (at base : ℕ) (source : Module) (t : ModuleTables) (s : State) {u v : State}
     → u ≡ (run_t at (import_table Indexed source base t.indexed_table t.indexed_count) s).1
     → v ≡ (run_t at (import_table Anonymous source base t.anonymous_table t.anonymous_count) u).1
-    → v ≡ (run_t at (link_tables (some source) base t) s).1
+    → v ≡ (run_t at (link_tables (Some source) base t) s).1
 unfolding link_from import_table symbol_of
 tables_made at base source t s h g =
     two at (import_table Indexed source base t.indexed_table t.indexed_count) s
@@ -124,7 +111,7 @@ tables_made at base source t s h g =
 
 -- once a touch is kept, an import wholly outside has no batch, and a module entry no imports
 
-pub from-idle : (at base : ℕ) (symbol : ℕ → Symbol) → Idle at (import_from symbol base) import_indexed_symbol_entry_size
+pub from-idle : (at base : ℕ) (symbol : ℕ → Option ℕ) → Idle at (import_from symbol base) import_indexed_symbol_entry_size
 from-idle at base symbol w t kept x out =
     from-passed at base x symbol (w, t) (first_read at w t kept x import_indexed_symbol_entry_size out (omega arith)) refl
     (part_read at w t kept x import_indexed_symbol_entry_size out 4 (omega arith)) (no_batch at 0 (w, t) refl) refl
@@ -141,8 +128,8 @@ tables-outside at w t kept x out =
 
 none_linked : (at base : ℕ) (source : Option Module) (s : State) → s ≡ (run_t at (link_tables source base no_tables) s).1
 unfolding link_from loop run_t ◌>>=◌
-none_linked at base none s = refl
-none_linked at base (some source) s = refl
+none_linked at base None s = refl
+none_linked at base (Some source) s = refl
 
 pub entry-idle : (at base : ℕ) (source : Option Module) → Idle at (imports_of source base) import_module_entry_size
 entry-idle at base source w t kept x out =

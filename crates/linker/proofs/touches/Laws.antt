@@ -1,5 +1,5 @@
 -- From the code's touches to the programs of `Exports`: of what a program gives nothing counts but the state that it leaves.
-use Rattle.std.proofs.Common.{◌≡◌, ℕ, ◌+◌, ◌-◌, ◌<◌, ◌≤◌, Bool, true, List, [], ◌∷◌, ◌++◌, take, sym, ap, ◌∙◌, arith}
+use Rattle.std.proofs.Common.{◌≡◌, ℕ, ◌+◌, ◌-◌, ◌<◌, ◌≤◌, Bool, true, List, [], ◌∷◌, ◌++◌, take, sym, ap, ◌∙◌, arith, Option}
 use Rattle.window.specs.Memory.{◌⊕◌}
 use Rattle.window.specs.Access.{Prog, ret, ◌>>=◌, get32, Reads, reads_bind}
 use Rattle.window.specs.Loop.{loop, loop_reads}
@@ -9,10 +9,9 @@ use Rattle.window.specs.Silent.{silent_reads}
 use Rattle.window.specs.Name.{name_at, name_at_reads}
 use Rattle.layout.specs.Header.{export_named_symbol_entry_size, export_indexed_symbol_entry_size, module_name_offset, segment_num}
 use Rattle.layout.specs.Segments.{field, entry_at, segment, segment_reads, tag_to_address, tag_to_address_reads}
-use Rattle.layout.specs.declared.segments.Address.{Address}
-use Rattle.layout.specs.declared.segments.FoundSegment.{FoundSegment}
 use Rattle.register.specs.Module.{Export}
 use Rattle.linker_spec.specs.Exports.{named_export, named_exports, indexed_export, indexed_exports, offset_or0, most_segments, read_segments, read_module}
+use Rattle.layout.specs.declared.format.Segment.{Segment}
 
 -- what goes on after m, whatever m gave
 then-any
@@ -68,7 +67,7 @@ indexed_entry table i = entry_at table i export_indexed_symbol_entry_size
 
 module _ (at base entry : ℕ) (s : State) where
   pub named_touched
-      : {p e₄ tag : ℕ} {a : Address} {s₁ s₂ s₃ s₄ : State} → (p, s₁) ≡ run_t at (get32 entry) s → s₂ ≡ (run_t at (name_at p) s₁).1
+      : {p e₄ tag : ℕ} {a : Option ℕ} {s₁ s₂ s₃ s₄ : State} → (p, s₁) ≡ run_t at (get32 entry) s → s₂ ≡ (run_t at (name_at p) s₁).1
       → e₄ ≡ entry ⊕ 4 → (tag, s₃) ≡ run_t at (get32 e₄) s₂ → (a, s₄) ≡ run_t at (tag_to_address base tag) s₃
       → (xs : List Export) → s₄ ≡ (run_t at (named_export base entry xs) s).1
   unfolding named_export
@@ -79,7 +78,7 @@ module _ (at base entry : ℕ) (s : State) where
       (last_read at (tag_to_address base tag) s₃ _ h₄)))
 
   pub indexed_touched
-      : {tag : ℕ} {a : Address} {s₁ s₂ : State} → (tag, s₁) ≡ run_t at (get32 entry) s → (a, s₂) ≡ run_t at (tag_to_address base tag) s₁
+      : {tag : ℕ} {a : Option ℕ} {s₁ s₂ : State} → (tag, s₁) ≡ run_t at (get32 entry) s → (a, s₂) ≡ run_t at (tag_to_address base tag) s₁
       → (xs : List ℕ) → s₂ ≡ (run_t at (indexed_export base entry xs) s).1
   unfolding indexed_export
   indexed_touched {tag} {s₁ = s₁} h₁ h₂ xs =
@@ -89,7 +88,7 @@ abbrev pub segment_turn : ℕ → ℕ → List ℕ → Prog (List ℕ)
 segment_turn base i xs = segment base i >>= λ s. ret (xs ++ (offset_or0 s ∷ []))
 
 pub segment_touched
-    : (at base i : ℕ) (s : State) {a : FoundSegment} {s₁ : State} → (a, s₁) ≡ run_t at (segment base i) s
+    : (at base i : ℕ) (s : State) {a : Option Segment} {s₁ : State} → (a, s₁) ≡ run_t at (segment base i) s
     → (xs : List ℕ) → s₁ ≡ (run_t at (segment_turn base i xs) s).1
 segment_touched at base i s h xs = last_read at (segment base i) s (λ a. xs ++ (offset_or0 a ∷ [])) h
 

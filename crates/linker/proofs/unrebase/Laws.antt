@@ -1,5 +1,5 @@
 -- From the code's calls and branches to the programs of `Unrebase`.
-use Rattle.std.proofs.Common.{◌≡◌, ℕ, ◌+◌, ◌-◌, ◌%◌, ◌^◌, ◌<◌, false, ap, ◌∙◌, arith, eq-eqb, ne_eqb}
+use Rattle.std.proofs.Common.{◌≡◌, ℕ, ◌+◌, ◌-◌, ◌%◌, ◌^◌, ◌<◌, false, ap, ◌∙◌, arith, eq-eqb, ne_eqb, Option, Some, None}
 use Rattle.window.specs.Access.{◌>>◌}
 use Rattle.window.specs.Loop.{loop}
 use Rattle.window.specs.Trace.{State, run_t}
@@ -10,8 +10,6 @@ use Rattle.layout.specs.Segments.{field, set_field, segment, set_segment}
 use Rattle.layout.specs.declared.format.Segment.{Segment}
 use Rattle.layout.specs.declared.format.SegmentType.{SegmentType}
 use Rattle.layout.specs.declared.format.SegmentType.TheVariants.{Code, RoData, Data, Bss}
-use Rattle.layout.specs.declared.segments.FoundSegment.{FoundSegment}
-use Rattle.layout.specs.declared.segments.FoundSegment.TheVariants.{Found, Missing}
 use Rattle.layout.proofs.Laws.{difference}
 use Rattle.linker_spec.specs.Rebase.{move_header, at_offset, move_tables}
 use Rattle.linker_spec.specs.Unrebase.{offset_back, leaves_as, unmove_found, unmove_segment, unmove_segments, unrebase}
@@ -43,17 +41,17 @@ module _ (base : ℕ) (s : Segment) {k : SegmentType} {z : Segment} where
   unfolding leaves_as
   leaves_bss h c = rw c h
 
-module _ (at base i : ℕ) (s : State) {found : FoundSegment} {s₁ : State} (e : (found, s₁) ≡ run_t at (segment base i) s) where
+module _ (at base i : ℕ) (s : State) {found : Option Segment} {s₁ : State} (e : (found, s₁) ≡ run_t at (segment base i) s) where
   unmove_is : {v : State} → v ≡ (run_t at (unmove_found base i found) s₁).1 → v ≡ (run_t at (unmove_segment base i) s).1
   unfolding unmove_segment
   unmove_is h = then_it at (segment base i) s (unmove_found base i) e h
 
-  pub unmove_passed : found ≡ Missing → s₁ ≡ (run_t at (unmove_segment base i) s).1
+  pub unmove_passed : found ≡ None → s₁ ≡ (run_t at (unmove_segment base i) s).1
   unfolding unmove_found
   unmove_passed m = unmove_is (rw (m, unmove_found) (ap left (given at tt s₁)))
 
   pub unmoved
-      : {z y : Segment} {v : State} → found ≡ Found z → y ≡ leaves_as base z z.kind → v ≡ (run_t at (set_segment base i y) s₁).1
+      : {z y : Segment} {v : State} → found ≡ Some z → y ≡ leaves_as base z z.kind → v ≡ (run_t at (set_segment base i y) s₁).1
       → v ≡ (run_t at (unmove_segment base i) s).1
   unfolding unmove_found
   unmoved m l h = unmove_is (rw (m, unmove_found, ← l) h)

@@ -1,5 +1,5 @@
 -- What a call has passed when a part of it answers 0, and what it leaves when one does not.
-use Rattle.std.specs.Prelude.{◌≡◌, ℕ, Bool, true, false, List, length, ◌≢◌}
+use Rattle.std.specs.Prelude.{◌≡◌, ℕ, Bool, true, false, List, length, ◌≢◌, Ok, Err}
 use Rattle.std.proofs.Math.Path.{refl, subst}
 use Rattle.std.proofs.Common.{sym, ◌∙◌, arith}
 use Rattle.window.specs.Access.{Prog}
@@ -11,13 +11,14 @@ use Rattle.layout.specs.Segments.{set_field}
 use Rattle.register.specs.Module.{Module, Register}
 use Rattle.register.specs.Change.{appended}
 use Rattle.register.specs.Buffers.{encode_records, encode_names}
-use Rattle.linker_spec.specs.declared.rebase.Rebased.{Rebased}
+use Rattle.linker_spec.specs.Refusal.{Rebased}
 use Rattle.linker_spec.specs.Relocation.{reset_external_relocations}
 use Rattle.linker_spec.specs.Exports.{read_module, read_module_reads}
 use Rattle.linker_spec.specs.Calls.{Answer, number, value, fits, add_record}
 use Rattle.linker_spec.specs.Outcome.{Buffers, Outcome, register_after, outcome_of, buffers, outcome}
 use Rattle.linker_spec.specs.Touches.{reset_rebased, counted}
 use Rattle.linker_spec.specs.Refusals.{lent_register}
+use Rattle.linker_spec.specs.declared.refusal.RebaseError.{RebaseError}
 use Rattle.linker.specs.Exports.Exported.{register_in, exported, fits_in_lem, records_in, names_in}
 use Rattle.linker.specs.Entry.Entry.{EntryResult, record_added, add_record-done, record_added-done}
 use Rattle.linker.specs.Calls.Steps.{clear_list_fields}
@@ -45,7 +46,7 @@ module _ (at : ℕ) (b : Buffers) (base size : ℕ) (auto : Bool) (s : State) wh
 
   -- the module that has its record now
   pub record RecordAdded (x : Rebased) (state : State) (records names : List ℕ) : Type 0 where
-    pub rebased : x ≡ Rebased.Done
+    pub rebased : x ≡ Ok tt
     pub reset : state.0 ≡ v.0
     pub fit : fits R N r m ≡ true
     pub same : (next : Module → Prog Answer) → run_t at (add_record R N r base size auto next x) s ≡ run_t at (next m) state
@@ -62,7 +63,7 @@ module _ (at : ℕ) (b : Buffers) (base size : ℕ) (auto : Bool) (s : State) wh
   abbrev done : EntryResult
   done = (number stored.0, (v.0, counted stored.0 v.1 z.1), stored.1, stored.2)
 
-  is_done : done ≡ after Rebased.Done
+  is_done : done ≡ after (Ok tt)
   is_done = sym (record_added-done at base size auto s b.records b.names)
 
   -- whether the module fits, told from records and names alone
@@ -76,7 +77,7 @@ module _ (at : ℕ) (b : Buffers) (base size : ℕ) (auto : Bool) (s : State) wh
   unwritten : z.0 ≡ v.0
   unwritten = (reads_run_t at (read_module base size auto) v (read_module_reads base size auto)).1
 
-  done_now : (t : Bool) → fitting ≡ t → done.0 ≡ 0 → RecordAdded Rebased.Done done.1 done.2 done.3
+  done_now : (t : Bool) → fitting ≡ t → done.0 ≡ 0 → RecordAdded (Ok tt) done.1 done.2 done.3
   unfolding number exported register_after counted
   done_now true e o =
       record {
@@ -91,10 +92,10 @@ module _ (at : ℕ) (b : Buffers) (base size : ℕ) (auto : Bool) (s : State) wh
 
   pub in_now : (x : Rebased) → (after x).0 ≡ 0 → RecordAdded x (after x).1 (after x).2 (after x).3
   unfolding record_added add_record run_t number
-  in_now Rebased.NotACro o = absurd (omega arith)
-  in_now Rebased.BadSegment o = absurd (omega arith)
-  in_now Rebased.Done o =
-      subst (λ (y : EntryResult). y.0 ≡ 0 → RecordAdded Rebased.Done y.1 y.2 y.3) is_done (done_now fitting refl) o
+  in_now (Err RebaseError.NotACro) o = absurd (omega arith)
+  in_now (Err RebaseError.BadSegment) o = absurd (omega arith)
+  in_now (Ok _) o =
+      subst (λ (y : EntryResult). y.0 ≡ 0 → RecordAdded (Ok tt) y.1 y.2 y.3) is_done (done_now fitting refl) o
 
   module _ (next : Module → Prog Answer) where
     abbrev entry : Rebased → Answer × State
@@ -105,17 +106,17 @@ module _ (at : ℕ) (b : Buffers) (base size : ℕ) (auto : Bool) (s : State) wh
         ◌≡◌ {A = Outcome × List ℕ} (outcome y.0 0 (buffers y.1.0 y.2 y.3 b.missing), y.1.1)
         (outcome_of b ((entry x).0, (entry x).1.0), counted (entry x).0 (run_t at (reset_rebased base x) s).1.1 (entry x).1.1)
 
-    not_done : (t : Bool) → fitting ≡ t → (done.0 ≢ 0) → EntryLeaves done Rebased.Done
+    not_done : (t : Bool) → fitting ≡ t → (done.0 ≢ 0) → EntryLeaves done (Ok tt)
     unfolding number value exported register_after outcome_of run_t counted reset_rebased
     not_done true e n = absurd (n (rw e))
     not_done false e n = rw (add_record-done at base size auto s R N r next, fitting_is e, e, unwritten)
 
     pub not_now : (x : Rebased) → ((after x).0 ≢ 0) → EntryLeaves (after x) x
     unfolding record_added add_record outcome_of number value register_after run_t counted
-    not_now Rebased.NotACro n = refl
-    not_now Rebased.BadSegment n = refl
-    not_now Rebased.Done n =
-        subst (λ (y : EntryResult). (y.0 ≢ 0) → EntryLeaves y Rebased.Done) is_done (not_done fitting refl) n
+    not_now (Err RebaseError.NotACro) n = refl
+    not_now (Err RebaseError.BadSegment) n = refl
+    not_now (Ok _) n =
+        subst (λ (y : EntryResult). (y.0 ≢ 0) → EntryLeaves y (Ok tt)) is_done (not_done fitting refl) n
 
 pub clear_list_fields_is
     : (at base : ℕ) (s : State) {u v : State} → u ≡ (run_t at (set_field base next_cro 0) s).1 → v ≡ (run_t at (set_field base previous_cro 0) u).1

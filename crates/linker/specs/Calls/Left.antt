@@ -1,13 +1,10 @@
 -- A module that leaves: where its record stands, and what taking it out leaves of the window.
-use Rattle.std.specs.Prelude.{if◌then◌else◌, ◌≡◌, ℕ, suc, ◌+◌, ◌*◌, ◌<◌, Bool, true, false, List, [], ◌∷◌, length, take, ◌==◌, refl}
+use Rattle.std.specs.Prelude.{if◌then◌else◌, ◌≡◌, ℕ, suc, ◌+◌, ◌*◌, ◌<◌, Bool, true, false, List, [], ◌∷◌, length, take, ◌==◌, refl, Option, Some, None}
 use Rattle.std.proofs.Math.Path.{sym, ap}
 use Rattle.std.proofs.Common.{◌∙◌, arith}
 use Rattle.window.specs.Access.{ret}
 use Rattle.window.specs.Trace.{State, run_t}
 use Rattle.window.specs.TraceRuns.{seq}
-use Rattle.register.specs.declared.words.Crs.{Crs}
-use Rattle.register.specs.declared.words.Crs.TheVariants.{Unknown, Known}
-use Rattle.register.specs.declared.exports.Found.TheVariants as found
 use Rattle.register.specs.Module.{Module, Register}
 use Rattle.register.specs.Encode.{record_words}
 use Rattle.register.specs.Decode.{register_of, is_register}
@@ -23,25 +20,25 @@ use Rattle.linker.specs.Resets.Modules.{other_than, gone_is}
 use Rattle.linker.specs.Calls.Stored.{after-words, crs_is}
 use Rattle.linker.specs.Calls.Linked.{header_crs}
 
-pub unlisted_none : (at base : ℕ) (s : State) {c : Crs} → c ≡ Unknown → s ≡ (run_t at (unlisted c base) s).1
+pub unlisted_none : (at base : ℕ) (s : State) {c : Option ℕ} → c ≡ None → s ≡ (run_t at (unlisted c base) s).1
 unfolding unlisted run_t
 unlisted_none at base s e = rw e
 
 pub unlisted_known
-    : (at base : ℕ) (s : State) {c : Crs} (crs : ℕ) {u : State} → c ≡ Known crs → u ≡ (run_t at (unregister crs base) s).1
+    : (at base : ℕ) (s : State) {c : Option ℕ} (crs : ℕ) {u : State} → c ≡ Some crs → u ≡ (run_t at (unregister crs base) s).1
     → u ≡ (run_t at (unlisted c base) s).1
 unfolding unlisted
 unlisted_known at base s crs e h = rw e h
 
 -- a base that no record has
-pub no_first : (base p i : ℕ) (ms : List Module) → place_from p ms (has_base base) ≡ found.Nothing → first_with_base base ms i ≡ unknown
+pub no_first : (base p i : ℕ) (ms : List Module) → place_from p ms (has_base base) ≡ None → first_with_base base ms i ≡ unknown
 unfolding place_from has_base first_with_base
 no_first base p i [] e = refl
 no_first base p i (x ∷ ms) e = go (x.base == base) e (no_first base (p + module_bytes x) (suc i) ms)
   where
     go
-        : (t : Bool) → (if t then found.At p else place_from (p + module_bytes x) ms (has_base base)) ≡ found.Nothing
-        → (place_from (p + module_bytes x) ms (has_base base) ≡ found.Nothing → first_with_base base ms (suc i) ≡ unknown)
+        : (t : Bool) → (if t then Some p else place_from (p + module_bytes x) ms (has_base base)) ≡ None
+        → (place_from (p + module_bytes x) ms (has_base base) ≡ None → first_with_base base ms (suc i) ≡ unknown)
         → (if t then stands x i else first_with_base base ms (suc i)) ≡ unknown
     go true e k = let z : ◌≡◌ {A = ℕ} 0 1 = cc in absurd (omega arith)
     go false e k = k e
@@ -51,7 +48,7 @@ record FirstAt (base p i : ℕ) (ms : List Module) (k : ℕ) : Type 0 where
   number : ℕ
   counts : k ≡ i + number
   below : number < length ms
-  there : place_from p ms (has_base base) ≡ found.At (place_after p (take number ms))
+  there : place_from p ms (has_base base) ≡ Some (place_after p (take number ms))
 
 first-at : (base p i : ℕ) (ms : List Module) (k : ℕ) (m : Module) → first_with_base base ms i ≡ stands m k → FirstAt base p i ms k
 unfolding place_from has_base first_with_base place_after
@@ -67,7 +64,7 @@ first-at base p i (x ∷ ms) k m e = go (x.base == base) refl e (first-at base (
         record { number = suc a.number; counts = omega (arith, a.counts); below = omega (arith, a.below); there = rw q a.there }
 
 module _ (records names missing : List ℕ) (v : is_register records names missing ≡ true) (base place : ℕ)
-    (f : found.At place ≡ place_from 32 (modules_of records names) (has_base base)) where
+    (f : Some place ≡ place_from 32 (modules_of records names) (has_base base)) where
   abbrev r : Register
   r = register_of records names missing
 
@@ -86,7 +83,7 @@ module _ (records names missing : List ℕ) (v : is_register records names missi
       let a = first-at base 32 0 (modules_of records names) number (module_at records names place) gone.1.0 in
       let n : a.number ≡ number = omega (arith, a.counts) in
       let l = a.below in
-      let t : ◌≡◌ {A = _} (found.At place) (found.At (place_after 32 (take a.number (modules_of records names)))) = f ∙ a.there in
+      let t : ◌≡◌ {A = _} (Some place) (Some (place_after 32 (take a.number (modules_of records names)))) = f ∙ a.there in
       let p : place ≡ place_after 32 (take a.number (modules_of records names)) = cc in
       rw (modules_are records names missing, sym n)
       (l, p ∙ after-words 0 32 (take a.number (modules_of records names)))

@@ -1,12 +1,10 @@
 -- A module that has its record: what linking it leaves.
-use Rattle.std.specs.Prelude.{◌≡◌, ℕ, ◌<◌, Bool, List, [], ◌∷◌, ◌++◌, length, slice_index}
+use Rattle.std.specs.Prelude.{◌≡◌, ℕ, ◌<◌, Bool, List, [], ◌∷◌, ◌++◌, length, slice_index, Option, Some, None}
 use Rattle.std.proofs.Math.Path.{sym, ap}
 use Rattle.std.proofs.Common.{◌∙◌, subst, arith, length-append}
 use Rattle.window.specs.Access.{ret}
 use Rattle.window.specs.Trace.{State, run_t}
 use Rattle.window.specs.TraceRuns.{seq, gives}
-use Rattle.register.specs.declared.words.Crs.{Crs}
-use Rattle.register.specs.declared.words.Crs.TheVariants.{Unknown, Known}
 use Rattle.register.specs.Words.{words_in}
 use Rattle.register.specs.Module.{Module, Register}
 use Rattle.register.specs.Decode.{read_crs, register_of}
@@ -24,15 +22,15 @@ use Rattle.linker.specs.Imports.Modules.{but_last, new_is_last, modules_are}
 use Rattle.linker.specs.Calls.Stored.{crs_is}
 
 -- the register's CRS, from its header words
-abbrev pub header_crs : List ℕ → Crs
+abbrev pub header_crs : List ℕ → Option ℕ
 header_crs records = read_crs (slice_index (words_in records) 1) (slice_index (words_in records) 2)
 
-pub listed_none : (at base : ℕ) (auto : Bool) (s : State) {c : Crs} → c ≡ Unknown → s ≡ (run_t at (listed c base auto) s).1
+pub listed_none : (at base : ℕ) (auto : Bool) (s : State) {c : Option ℕ} → c ≡ None → s ≡ (run_t at (listed c base auto) s).1
 unfolding listed run_t
 listed_none at base auto s e = rw e
 
 pub listed_known
-    : (at base : ℕ) (auto : Bool) (s : State) {c : Crs} (crs : ℕ) {u : State} → c ≡ Known crs → u ≡ (run_t at (register crs base auto) s).1
+    : (at base : ℕ) (auto : Bool) (s : State) {c : Option ℕ} (crs : ℕ) {u : State} → c ≡ Some crs → u ≡ (run_t at (register crs base auto) s).1
     → u ≡ (run_t at (listed c base auto) s).1
 unfolding listed
 listed_known at base auto s crs e h = rw e h

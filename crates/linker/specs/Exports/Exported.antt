@@ -1,5 +1,5 @@
 -- What `index_exports` answers, and what it leaves in the records and names that it is lent.
-use Rattle.std.specs.Prelude.{if◌then◌else◌, ◌≡◌, ℕ, zero, suc, ◌^◌, ◌<◌, Bool, true, List, [], length, drop, slice_index}
+use Rattle.std.specs.Prelude.{if◌then◌else◌, ◌≡◌, ℕ, zero, suc, ◌^◌, ◌<◌, Bool, true, List, [], length, drop, slice_index, Option, Some, None}
 use Rattle.std.proofs.Math.Path.{refl, sym}
 use Rattle.std.proofs.Common.{ap, ◌∙◌, subst}
 use Rattle.window.specs.Access.{run}
@@ -12,15 +12,11 @@ use Rattle.register.specs.Change.{new_module, with_named, appended}
 use Rattle.register.specs.Buffers.{Below, encode_records, encode_names}
 use Rattle.register.specs.Read.Read.{Encoded}
 use Rattle.register.specs.declared.append.draft.Draft.{Draft}
-use Rattle.register.specs.declared.append.draft.Drafted.{Drafted}
-use Rattle.register.specs.declared.append.draft.Drafted.TheVariants.{Open, Full}
 use Rattle.register.specs.Append.Draft.{begin_record, finish_record}
 use Rattle.linker_spec.specs.Exports.{read_segments, named_exports, indexed_exports, read_module}
-use Rattle.linker_spec.specs.Calls as answer
-use Rattle.linker_spec.specs.Calls.{Answer, Done, fits}
+use Rattle.linker_spec.specs.Calls.{Answer, Done, fits, Refused}
 use Rattle.linker_spec.specs.Outcome.{Buffers, register_after}
-use Rattle.linker.specs.declared.exports.IndexResult.{IndexResult}
-use Rattle.linker.specs.declared.exports.IndexResult.TheVariants.{Appended, NoRoom}
+use Rattle.linker_spec.specs.declared.refusal.Refusal.TheVariants.{NoRoom}
 use Rattle.linker.specs.Record.Read.{own_name, module_is}
 use Rattle.linker.specs.Exports.Writing.{Ground, Writing, roomy, fits-roomy, holding, finishes, stays, writing_is, begin_writing}
 use Rattle.linker.specs.Exports.Proper.{module_proper}
@@ -32,9 +28,9 @@ unfoldable pub register_in : List ℕ → List ℕ → Register
 register_in records names = register_of records names []
 
 -- the answer of document 01's table that each case is, r being the register with the module
-unfoldable pub entry_answer : Register → IndexResult → Answer
-entry_answer r Appended = Done 0 r
-entry_answer r NoRoom = answer.NoRoom
+unfoldable pub entry_answer : Register → Option (Unit {0}) → Answer
+entry_answer r (Some _) = Done 0 r
+entry_answer r None = Refused NoRoom
 
 -- the records and the names that an answer leaves
 abbrev pub left_by : List ℕ → List ℕ → Answer → Buffers
@@ -44,7 +40,7 @@ left_by records names a = register_after (record { window = []; records = record
 unfoldable pub exported : List ℕ → List ℕ → Module → Answer × List ℕ × List ℕ
 exported records names m =
     let r = register_in records names in
-    let a = if fits (length records) (length names) r m then Done 0 (appended r m) else answer.NoRoom in
+    let a = if fits (length records) (length names) r m then Done 0 (appended r m) else Refused NoRoom in
     (a, (left_by records names a).records, (left_by records names a).names)
 
 -- the register that the buffers then encode
@@ -76,7 +72,7 @@ module _ (records names missing : List ℕ) (m : Module) where
   names_in n = refl
 
 -- the answer and the bytes; and they are a register again, that one
-abbrev pub ExportsLeave : List ℕ → List ℕ → List ℕ → Module → IndexResult → List ℕ → List ℕ → Type 0
+abbrev pub ExportsLeave : List ℕ → List ℕ → List ℕ → Module → Option (Unit {0}) → List ℕ → List ℕ → Type 0
 ExportsLeave records names missing m i rs ns =
     (◌≡◌ {A = Answer × List ℕ × List ℕ} (entry_answer (appended (register_in records names) m) i, rs, ns) (exported records names m))
     × (is_register rs ns missing ≡ true)
@@ -84,7 +80,7 @@ ExportsLeave records names missing m i rs ns =
 
 -- the answer and the bytes once for all missing lists; and for each that they were a register with, they are one again
 pub for_all
-    : (records names : List ℕ) (m : Module) (i : IndexResult) (rs ns : List ℕ) → Encoded records names
+    : (records names : List ℕ) (m : Module) (i : Option (Unit {0})) (rs ns : List ℕ) → Encoded records names
     → ((missing : List ℕ) → is_register records names missing ≡ true → ExportsLeave records names missing m i rs ns)
     → (◌≡◌ {A = Answer × List ℕ × List ℕ} (entry_answer (appended (register_in records names) m) i, rs, ns) (exported records names m))
     × ((missing : List ℕ) → is_register records names missing ≡ true → (is_register rs ns missing ≡ true)
@@ -109,7 +105,7 @@ module _ (records names missing : List ℕ) (b : Below 256 records) (e : is_regi
     room : {t : Bool} → roomy ground m ≡ t → fits (length records) (length names) (register_in records names) m ≡ t
     room z = fits_in_lem records names missing m (length records) (length names) ∙ fits-roomy ground m ∙ z
 
-    full_is : Writing ground m Full rs ns → ExportsLeave records names missing m NoRoom rs ns
+    full_is : Writing ground m None rs ns → ExportsLeave records names missing m None rs ns
     unfolding exported entry_answer register_after register_with Writing
     full_is h = (
       rw (room h.2, h.0, h.1),
@@ -117,7 +113,7 @@ module _ (records names missing : List ℕ) (b : Below 256 records) (e : is_regi
       rw (fits-roomy ground m, h.2, h.0, h.1),
     )
 
-    open_is : (d : Draft) → proper_module m ≡ true → Writing ground m (Open d) rs ns → ExportsLeave records names missing m Appended (finish_record rs d) ns
+    open_is : (d : Draft) → proper_module m ≡ true → Writing ground m (Some d) rs ns → ExportsLeave records names missing m (Some tt) (finish_record rs d) ns
     unfolding exported entry_answer register_after register_with
     open_is d p h =
         let f = finishes ground m d rs ns h in
@@ -135,8 +131,8 @@ module _ (records names missing : List ℕ) (b : Below 256 records) (e : is_regi
 
 -- the record begun, filled and finished
 module _ (at : ℕ) (w rs ns : List ℕ) (base size : ℕ) (auto : Bool) (b : Below 256 rs) (hb : base < 2 ^ 32) (hs : size < 2 ^ 32)
-    (missing : List ℕ) (h : is_register rs ns missing ≡ true) (r₁ : Drafted) (rs₁ ns₁ : List ℕ)
-    (e : ◌≡◌ {A = Drafted × List ℕ × List ℕ} (r₁, rs₁, ns₁) (begin_record rs ns base size auto (own_name at w base))) where
+    (missing : List ℕ) (h : is_register rs ns missing ≡ true) (r₁ : Option Draft) (rs₁ ns₁ : List ℕ)
+    (e : ◌≡◌ {A = Option Draft × List ℕ × List ℕ} (r₁, rs₁, ns₁) (begin_record rs ns base size auto (own_name at w base))) where
   abbrev g : Ground
   g = ground rs ns missing b h
 
@@ -157,27 +153,27 @@ module _ (at : ℕ) (w rs ns : List ℕ) (base size : ℕ) (auto : Bool) (b : Be
   begun : Writing g new r₁ rs₁ ns₁
   begun = writing_is g new e (begin_writing g base size auto (own_name at w base) hb hs)
 
-  abbrev Result : IndexResult → List ℕ → List ℕ → Type 0
-  Result i rs' ns' = ExportsLeave rs ns missing (run at (read_module base size auto) w).0 i rs' ns'
+  abbrev Leaves : Option (Unit {0}) → List ℕ → List ℕ → Type 0
+  Leaves i rs' ns' = ExportsLeave rs ns missing (run at (read_module base size auto) w).0 i rs' ns'
 
-  of_all : (i : IndexResult) {rs' ns' : List ℕ} → ExportsLeave rs ns missing (all new) i rs' ns' → Result i rs' ns'
+  of_all : (i : Option (Unit {0})) {rs' ns' : List ℕ} → ExportsLeave rs ns missing (all new) i rs' ns' → Leaves i rs' ns'
   of_all i {rs'} {ns'} o = subst (λ m. ExportsLeave rs ns missing m i rs' ns') all_is o
 
-  pub not-begun : r₁ ≡ Full → Result NoRoom rs₁ ns₁
+  pub not-begun : r₁ ≡ None → Leaves None rs₁ ns₁
   not-begun z =
-      of_all NoRoom
+      of_all None
       (full_is rs ns missing b h (all new) rs₁ ns₁ (full_lists _ _ _ g new rs₁ ns₁ new-empty (subst (λ t. Writing g new t rs₁ ns₁) z begun)))
 
-  module _ (d₁ : Draft) (z₁ : r₁ ≡ Open d₁) (r₂ : Drafted) (rs₂ ns₂ : List ℕ) (t : DraftStep EmptyModule (λ m. m) all d₁ rs₁ ns₁ r₂ rs₂ ns₂) where
+  module _ (d₁ : Draft) (z₁ : r₁ ≡ Some d₁) (r₂ : Option Draft) (rs₂ ns₂ : List ℕ) (t : DraftStep EmptyModule (λ m. m) all d₁ rs₁ ns₁ r₂ rs₂ ns₂) where
     filled : Writing g (all new) r₂ rs₂ ns₂
     filled = t g new new-empty (subst (λ x. Writing g new x rs₁ ns₁) z₁ begun)
 
-    pub not_filled : r₂ ≡ Full → Result NoRoom rs₂ ns₂
-    not_filled z = of_all NoRoom (full_is rs ns missing b h (all new) rs₂ ns₂ (subst (λ x. Writing g (all new) x rs₂ ns₂) z filled))
+    pub not_filled : r₂ ≡ None → Leaves None rs₂ ns₂
+    not_filled z = of_all None (full_is rs ns missing b h (all new) rs₂ ns₂ (subst (λ x. Writing g (all new) x rs₂ ns₂) z filled))
 
-    pub finished_all : (d₂ : Draft) {rs₃ : List ℕ} → r₂ ≡ Open d₂ → rs₃ ≡ finish_record rs₂ d₂ → Result Appended rs₃ ns₂
+    pub finished_all : (d₂ : Draft) {rs₃ : List ℕ} → r₂ ≡ Some d₂ → rs₃ ≡ finish_record rs₂ d₂ → Leaves (Some tt) rs₃ ns₂
     finished_all d₂ z f =
-        subst (λ x. Result Appended x ns₂) (sym f)
-        (of_all Appended
+        subst (λ x. Leaves (Some tt) x ns₂) (sym f)
+        (of_all (Some tt)
         (open_is rs ns missing b h (all new) rs₂ ns₂ d₂ (ap proper_module all_is ∙ module_proper at w base size auto)
         (subst (λ x. Writing g (all new) x rs₂ ns₂) z filled)))

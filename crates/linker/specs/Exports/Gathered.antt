@@ -1,5 +1,5 @@
 -- A record without exports, and after it the exports that wait: gathered entry by entry, then written.
-use Rattle.std.specs.Prelude.{◌≡◌, ℕ, zero, suc, ◌+◌, ◌-◌, ◌*◌, ◌/◌, ◌^◌, ◌<◌, ◌≤◌, true, false, List, [], ◌∷◌, ◌++◌, length, take, drop, nat_le, nat_lt, slice_set, refl}
+use Rattle.std.specs.Prelude.{◌≡◌, ℕ, zero, suc, ◌+◌, ◌-◌, ◌*◌, ◌/◌, ◌^◌, ◌<◌, ◌≤◌, true, false, List, [], ◌∷◌, ◌++◌, length, take, drop, nat_le, nat_lt, slice_set, refl, Option, Some, None, Result, Ok, Err}
 use Rattle.std.proofs.Math.Path.{sym, ap}
 use Rattle.std.proofs.Common.{◌∙◌, subst, length-append, length-drop, length-take-le, leb-true}
 use native.Mathlib.Omega.{arith}
@@ -14,11 +14,7 @@ use Rattle.register.specs.Encode.{export_words, export_names, module_names, modu
 use Rattle.register.specs.CheckComplete.{length-export_words}
 use Rattle.register.specs.Change.{put_named, with_named}
 use Rattle.register.specs.Order.{name_in, position_of, put_ascends, put-at, put_before}
-use Rattle.register.specs.declared.exports.Position.{Position}
-use Rattle.register.specs.declared.exports.Position.TheVariants.{At, Before}
 use Rattle.register.specs.declared.append.draft.Draft.{Draft}
-use Rattle.register.specs.declared.append.draft.Drafted.{Drafted}
-use Rattle.register.specs.declared.append.draft.Drafted.TheVariants.{Open, Full}
 use Rattle.register.specs.Append.Draft.{room_in, room-inside, room_word, export_fits, given_up}
 use Rattle.register.specs.Append.Sets.{sets_append, sets_over}
 use Rattle.register.specs.Append.Laid.{part_sets}
@@ -50,14 +46,14 @@ inserted_names (y ∷ xs) (suc k) x =
     )
 
 -- a draft that ends between two places, its names at a word
-unfoldable pub EndsWithin : Drafted → ℕ → ℕ → Type 0
-EndsWithin (Open d) from to = (from ≤ d.end) × (d.end ≤ to) × (d.last < 2 ^ 32)
-EndsWithin Full from to = Unit {0}
+unfoldable pub EndsWithin : Option Draft → ℕ → ℕ → Type 0
+EndsWithin (Some d) from to = (from ≤ d.end) × (d.end ≤ to) × (d.last < 2 ^ 32)
+EndsWithin None from to = Unit {0}
 
 module _ (at : ℕ) (w : List ℕ) (g : Ground) (m : Module) (first : Draft) where
   pub record Gathered (exports : List Export) (last : Draft) (rs ns : List ℕ) : Type 0 where
     pub alone : List ℕ
-    pub written : Writing g m (Open first) alone ns
+    pub written : Writing g m (Some first) alone ns
     pub none : m.named ≡ []
     pub no_indexed : m.indexed ≡ []
     pub waiting : List Waiting
@@ -73,22 +69,22 @@ module _ (at : ℕ) (w : List ℕ) (g : Ground) (m : Module) (first : Draft) whe
     pub name-room : last.last ≤ room_in (length g.names)
 
   -- a step: the exports are gathered, or they have no room and nothing changed
-  unfoldable pub GatherStep : List Export → Drafted → List ℕ → List ℕ → List ℕ → Type 0
-  GatherStep exports (Open last) rs rs' ns = Gathered exports last rs' ns
-  GatherStep exports Full rs rs' ns = (rs' ≡ rs) × (roomy g (with_named m exports) ≡ false)
+  unfoldable pub GatherStep : List Export → Option Draft → List ℕ → List ℕ → List ℕ → Type 0
+  GatherStep exports (Some last) rs rs' ns = Gathered exports last rs' ns
+  GatherStep exports None rs rs' ns = (rs' ≡ rs) × (roomy g (with_named m exports) ≡ false)
 
   -- the export of the name at `place` put to them
-  abbrev pub PutStep : List Export → ℕ → ℕ → Drafted → List ℕ → List ℕ → List ℕ → Type 0
+  abbrev pub PutStep : List Export → ℕ → ℕ → Option Draft → List ℕ → List ℕ → List ℕ → Type 0
   PutStep exports place a r rs rs' ns = GatherStep (put_named exports (name_for at w place) a) r rs rs' ns
 
   -- all of them gathered, or the record given up
-  unfoldable pub GatheredAll : List Export → Drafted → List ℕ → List ℕ → Type 0
-  GatheredAll exports (Open last) rs ns = Gathered exports last rs ns
-  GatheredAll exports Full rs ns = (rs ≡ g.records) × (ns ≡ g.names) × (roomy g (with_named m exports) ≡ false)
+  unfoldable pub GatheredAll : List Export → Option Draft → List ℕ → List ℕ → Type 0
+  GatheredAll exports (Some last) rs ns = Gathered exports last rs ns
+  GatheredAll exports None rs ns = (rs ≡ g.records) × (ns ≡ g.names) × (roomy g (with_named m exports) ≡ false)
 
   -- none yet
   pub Gathered-none
-      : (rs ns : List ℕ) → m.named ≡ [] → m.indexed ≡ [] → Writing g m (Open first) rs ns → Gathered [] first rs ns
+      : (rs ns : List ℕ) → m.named ≡ [] → m.indexed ≡ [] → Writing g m (Some first) rs ns → Gathered [] first rs ns
   unfolding exports_for waiting_words ascending flat export_names
   Gathered-none rs ns e f h =
       record {
@@ -153,7 +149,7 @@ module _ (at : ℕ) (w : List ℕ) (g : Ground) (m : Module) (first : Draft) whe
       put_is : put_named (exports_for at w h.waiting) (name_for at w place) a ≡ put
       put_is = ap (λ t. put_named t (name_for at w place) a) h.are
 
-      same_place : {p : Position} → position_of exports (name_for at w place) ≡ p → position_of (exports_for at w h.waiting) (name_for at w place) ≡ p
+      same_place : {p : Result ℕ ℕ} → position_of exports (name_for at w place) ≡ p → position_of (exports_for at w h.waiting) (name_for at w place) ≡ p
       same_place e = ap (λ t. position_of t (name_for at w place)) h.are ∙ e
 
       -- those that wait are now ys, in rs'
@@ -182,7 +178,7 @@ module _ (at : ℕ) (w : List ℕ) (g : Ground) (m : Module) (first : Draft) whe
           }
 
       pub gathered_again
-          : position_of exports (name_for at w place) ≡ At k → Gathered put last (set_word_in rs (first.end + 8 * k + 4) a) ns
+          : position_of exports (name_for at w place) ≡ Ok k → Gathered put last (set_word_in rs (first.end + 8 * k + 4) a) ns
       gathered_again e =
           let y = put_again at w h.waiting place a k h.small ha h.alone first.end (same_place e) in
           let n : length (export_names put) ≡ length (export_names exports) =
@@ -190,7 +186,7 @@ module _ (at : ℕ) (w : List ℕ) (g : Ground) (m : Module) (first : Draft) whe
           gathered-with y.0 last _ y.1 (ap (λ t. set_word_in t (first.end + 8 * k + 4) a) h.bytes ∙ y.3) refl refl
           (h.end ∙ ap (λ t. first.end + 12 * t) (sym y.2)) (h.last_name ∙ ap (λ t. first.last + t) (sym n)) h.room h.name-room
 
-      module _ (e : position_of exports (name_for at w place) ≡ Before k) where
+      module _ (e : position_of exports (name_for at w place) ≡ Err k) where
         put-size : length put ≡ length exports + 1
         put-size =
             let p = put_before exports (name_for at w place) a k e in
@@ -271,7 +267,7 @@ module _ (at : ℕ) (w : List ℕ) (g : Ground) (m : Module) (first : Draft) whe
 
     -- written: each name's offset in place of its place in the image, the names, and the count
     pub gathered-written
-        : Writing g (with_named m exports) (Open last)
+        : Writing g (with_named m exports) (Some last)
         (set_word_in (sets rs first.end (flat (export_words first.last exports))) (first.start + 24) (length exports))
         (sets ns first.last (export_names exports))
     gathered-written =

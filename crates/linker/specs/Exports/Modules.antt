@@ -1,21 +1,17 @@
 -- A module with lists in place of its own, one entry longer, and that a longer list needs no less room.
-use Rattle.std.specs.Prelude.{◌≡◌, ℕ, zero, suc, ◌+◌, ◌≤◌, true, List, [], ◌∷◌, ◌++◌, length}
+use Rattle.std.specs.declared.cmp.Ordering.{Ordering}
+use Rattle.std.specs.declared.cmp.Ordering.TheVariants.{Less, Equal, Greater}
+use Rattle.std.specs.Prelude.{◌≡◌, ℕ, zero, suc, ◌+◌, ◌≤◌, true, List, [], ◌∷◌, ◌++◌, length, Option, Some, None}
 use Rattle.std.proofs.Math.Path.{refl}
 use Rattle.std.proofs.Common.{sym, ap, ◌∙◌, subst}
 use native.Mathlib.Omega.{arith}
 use Rattle.std.proofs.Math.ListN.{length-append}
 use Rattle.window.specs.Tests.{both, also}
 use Rattle.window.specs.Name.{is_name, name_at-is_name, order_of}
-use Rattle.window.specs.declared.name.NameOrder.{NameOrder}
-use Rattle.window.specs.declared.name.NameOrder.TheVariants.{Before, Same, After}
-use Rattle.layout.specs.declared.segments.Address.{Address}
-use Rattle.layout.specs.declared.segments.Address.TheVariants.{At, Nowhere}
 use Rattle.register.specs.Module.{Export, Module, named_ok}
 use Rattle.register.specs.Encode.{module_names, export_names}
 use Rattle.register.specs.Change.{by_order, with_segment, with_indexed, with_named, put_named}
 use Rattle.register.specs.declared.append.draft.Draft.{Draft}
-use Rattle.register.specs.declared.append.draft.Drafted.{Drafted}
-use Rattle.register.specs.declared.append.draft.Drafted.TheVariants.{Open, Full}
 use Rattle.register.specs.Append.Held.{words_long}
 use Rattle.linker_spec.specs.Exports.{put_usable}
 use Rattle.linker_spec.specs.Fit.{put_grows}
@@ -79,17 +75,17 @@ module _ (g : Ground) (m : Module) where
       }
 
 pub full_greater
-    : (g : Ground) (m m' : Module) (rs ns : List ℕ) → Grows g m m' → Writing g m Full rs ns → Writing g m' Full rs ns
+    : (g : Ground) (m m' : Module) (rs ns : List ℕ) → Grows g m m' → Writing g m None rs ns → Writing g m' None rs ns
 unfolding Writing
 full_greater g m m' rs ns h e = (e.0, e.1, none_greater g m m' h e.2)
 
 -- exports put one after another
 
-usable-longer : (xs : List Export) (name : List ℕ) (a : Address)
+usable-longer : (xs : List Export) (name : List ℕ) (a : Option ℕ)
     → (length xs ≤ length (put_usable xs name a)) × (length (export_names xs) ≤ length (export_names (put_usable xs name a)))
 unfolding put_usable
-usable-longer xs name (At a) = put_grows xs name a
-usable-longer xs name Nowhere = (omega arith, omega arith)
+usable-longer xs name (Some a) = put_grows xs name a
+usable-longer xs name None = (omega arith, omega arith)
 
 put_ok : (xs : List Export) (name : List ℕ) (a : ℕ) → named_ok xs ≡ true → is_name name ≡ true → named_ok (put_named xs name a) ≡ true
 unfolding put_named named_ok by_order
@@ -97,14 +93,14 @@ put_ok [] name a h k = also k refl
 put_ok (x ∷ xs) name a h k = go (order_of name x.name) (both (is_name x.name) (named_ok xs) h) (put_ok xs name a)
   where
     go
-        : (o : NameOrder) → (is_name x.name ≡ true) × (named_ok xs ≡ true)
+        : (o : Ordering) → (is_name x.name ≡ true) × (named_ok xs ≡ true)
         → (named_ok xs ≡ true → is_name name ≡ true → named_ok (put_named xs name a) ≡ true)
         → named_ok
         (by_order o (record { name = name; address = a } ∷ x ∷ xs) (record { name = x.name; address = a } ∷ xs) (x ∷ put_named xs name a))
         ≡ true
-    go Before b ih = also k h
-    go Same b ih = also b.0 b.1
-    go After b ih = also b.0 (ih b.1 k)
+    go Less b ih = also k h
+    go Equal b ih = also b.0 b.1
+    go Greater b ih = also b.0 (ih b.1 k)
 
 module _ (at : ℕ) (w : List ℕ) (base : ℕ) where
   pub named-longer
@@ -125,10 +121,10 @@ module _ (at : ℕ) (w : List ℕ) (base : ℕ) where
   named_ok_to (suc i) = go (address_of at w base i) (named_ok_to i)
     where
       go
-          : (a : Address) → named_ok (named_to at w base i) ≡ true
+          : (a : Option ℕ) → named_ok (named_to at w base i) ≡ true
           → named_ok (put_usable (named_to at w base i) (name_of at w base i) a) ≡ true
-      go (At a) h = put_ok (named_to at w base i) (name_of at w base i) a h (name_at-is_name at _ w)
-      go Nowhere h = h
+      go (Some a) h = put_ok (named_to at w base i) (name_of at w base i) a h (name_at-is_name at _ w)
+      go None h = h
 
   pub length_indexed : (i : ℕ) → length (indexed_to at w base i) ≡ i
   unfolding indexed_to
@@ -137,9 +133,9 @@ module _ (at : ℕ) (w : List ℕ) (base : ℕ) where
 
 -- a step on a draft and two buffers: what held `from m` holds `to m`, or had no room for it
 abbrev pub DraftStep
-    : (Module → Type 0) → (Module → Module) → (Module → Module) → Draft → List ℕ → List ℕ → Drafted → List ℕ → List ℕ → Type 0
+    : (Module → Type 0) → (Module → Module) → (Module → Module) → Draft → List ℕ → List ℕ → Option Draft → List ℕ → List ℕ → Type 0
 DraftStep P from to d rs ns r rs' ns' =
-    (g : Ground) (m : Module) → P m → Writing g (from m) (Open d) rs ns → Writing g (to m) r rs' ns'
+    (g : Ground) (m : Module) → P m → Writing g (from m) (Some d) rs ns → Writing g (to m) r rs' ns'
 
 -- what a module must not have yet
 abbrev pub Bare : Module → Type 0
@@ -187,14 +183,14 @@ module _ (xs : List ℕ) (ys : List Export) (zs : List ℕ) where
       ap (with_indexeds (with_named (with_segments m xs) ys)) (sym (unindexed m p)) ∙ own_indexeds (with_named (with_segments m xs) ys)
 
   -- where there was no room before, there is none in the end
-  full_segments : (g : Ground) (m : Module) (rs ns : List ℕ) → EmptyModule m → Writing g m Full rs ns → Writing g (with_segments m xs) Full rs ns
+  full_segments : (g : Ground) (m : Module) (rs ns : List ℕ) → EmptyModule m → Writing g m None rs ns → Writing g (with_segments m xs) None rs ns
   full_segments g m rs ns p h =
       full_greater g m (with_segments m xs) rs ns
       (subst (λ x. Grows g x (with_segments m xs)) (no_segments m p) (segments_grow g m [] xs (omega arith))) h
 
   full_named
-      : (g : Ground) (m : Module) (rs ns : List ℕ) → Bare m → Writing g (with_segments m xs) Full rs ns
-      → Writing g (with_named (with_segments m xs) ys) Full rs ns
+      : (g : Ground) (m : Module) (rs ns : List ℕ) → Bare m → Writing g (with_segments m xs) None rs ns
+      → Writing g (with_named (with_segments m xs) ys) None rs ns
   unfolding export_names
   full_named g m rs ns p h =
       let n = with_segments m xs in
@@ -202,44 +198,44 @@ module _ (xs : List ℕ) (ys : List Export) (zs : List ℕ) where
       (subst (λ x. Grows g x (with_named n ys)) (no_named m p) (named_grow g n [] ys (omega arith) (omega arith))) h
 
   full_indexeds
-      : (g : Ground) (m : Module) (rs ns : List ℕ) → Bare m → Writing g (with_named (with_segments m xs) ys) Full rs ns
-      → Writing g (Lists m) Full rs ns
+      : (g : Ground) (m : Module) (rs ns : List ℕ) → Bare m → Writing g (with_named (with_segments m xs) ys) None rs ns
+      → Writing g (Lists m) None rs ns
   full_indexeds g m rs ns p h =
       let n = with_named (with_segments m xs) ys in
       full_greater g n (Lists m) rs ns
       (subst (λ x. Grows g x (Lists m)) (no_indexeds m p) (indexeds_grow g n [] zs (omega arith))) h
 
-  pub full_lists : (g : Ground) (m : Module) (rs ns : List ℕ) → EmptyModule m → Writing g m Full rs ns → Writing g (Lists m) Full rs ns
+  pub full_lists : (g : Ground) (m : Module) (rs ns : List ℕ) → EmptyModule m → Writing g m None rs ns → Writing g (Lists m) None rs ns
   full_lists g m rs ns p h =
       full_indexeds g m rs ns p.1 (full_named g m rs ns p.1 (full_segments g m rs ns p h))
 
-  module _ (d : Draft) (rs ns : List ℕ) (r₁ : Drafted) (rs₁ ns₁ : List ℕ)
+  module _ (d : Draft) (rs ns : List ℕ) (r₁ : Option Draft) (rs₁ ns₁ : List ℕ)
       (first : DraftStep Bare (λ m. with_segments m []) (λ m. with_segments m xs) d rs ns r₁ rs₁ ns₁) where
-    segments_in : (g : Ground) (m : Module) → EmptyModule m → Writing g m (Open d) rs ns → Writing g (with_segments m xs) r₁ rs₁ ns₁
-    segments_in g m p h = first g m p.1 (subst (λ x. Writing g x (Open d) rs ns) (sym (no_segments m p)) h)
+    segments_in : (g : Ground) (m : Module) → EmptyModule m → Writing g m (Some d) rs ns → Writing g (with_segments m xs) r₁ rs₁ ns₁
+    segments_in g m p h = first g m p.1 (subst (λ x. Writing g x (Some d) rs ns) (sym (no_segments m p)) h)
 
-    pub no_segments_in : r₁ ≡ Full → DraftStep EmptyModule (λ m. m) Lists d rs ns Full rs₁ ns₁
+    pub no_segments_in : r₁ ≡ None → DraftStep EmptyModule (λ m. m) Lists d rs ns None rs₁ ns₁
     no_segments_in e g m p h =
         full_indexeds g m rs₁ ns₁ p.1
         (full_named g m rs₁ ns₁ p.1 (subst (λ t. Writing g (with_segments m xs) t rs₁ ns₁) e (segments_in g m p h)))
 
-    module _ (d₁ : Draft) (e₁ : r₁ ≡ Open d₁) (r₂ : Drafted) (rs₂ ns₂ : List ℕ)
+    module _ (d₁ : Draft) (e₁ : r₁ ≡ Some d₁) (r₂ : Option Draft) (rs₂ ns₂ : List ℕ)
         (second : DraftStep Unindexed (λ m. with_named m []) (λ m. with_named m ys) d₁ rs₁ ns₁ r₂ rs₂ ns₂) where
-      named_in : (g : Ground) (m : Module) → EmptyModule m → Writing g m (Open d) rs ns → Writing g (with_named (with_segments m xs) ys) r₂ rs₂ ns₂
+      named_in : (g : Ground) (m : Module) → EmptyModule m → Writing g m (Some d) rs ns → Writing g (with_named (with_segments m xs) ys) r₂ rs₂ ns₂
       named_in g m p h =
           second g (with_segments m xs) ((segments-rest m xs).1 ∙ p.1.1)
-          (subst (λ x. Writing g x (Open d₁) rs₁ ns₁) (sym (no_named m p.1))
+          (subst (λ x. Writing g x (Some d₁) rs₁ ns₁) (sym (no_named m p.1))
           (subst (λ t. Writing g (with_segments m xs) t rs₁ ns₁) e₁ (segments_in g m p h)))
 
-      pub no_named_in : r₂ ≡ Full → DraftStep EmptyModule (λ m. m) Lists d rs ns Full rs₂ ns₂
+      pub no_named_in : r₂ ≡ None → DraftStep EmptyModule (λ m. m) Lists d rs ns None rs₂ ns₂
       no_named_in e g m p h =
           full_indexeds g m rs₂ ns₂ p.1 (subst (λ t. Writing g (with_named (with_segments m xs) ys) t rs₂ ns₂) e (named_in g m p h))
 
       pub lists_in
-          : (d₂ : Draft) → r₂ ≡ Open d₂ → (r₃ : Drafted) (rs₃ ns₃ : List ℕ)
+          : (d₂ : Draft) → r₂ ≡ Some d₂ → (r₃ : Option Draft) (rs₃ ns₃ : List ℕ)
           → DraftStep AnyModule (λ m. with_indexeds m []) (λ m. with_indexeds m zs) d₂ rs₂ ns₂ r₃ rs₃ ns₃ → DraftStep EmptyModule (λ m. m) Lists d rs ns r₃ rs₃ ns₃
       lists_in d₂ e₂ r₃ rs₃ ns₃ third g m p h =
           let n = with_named (with_segments m xs) ys in
           third g n tt
-          (subst (λ x. Writing g x (Open d₂) rs₂ ns₂) (sym (no_indexeds m p.1))
+          (subst (λ x. Writing g x (Some d₂) rs₂ ns₂) (sym (no_indexeds m p.1))
           (subst (λ t. Writing g n t rs₂ ns₂) e₂ (named_in g m p h)))

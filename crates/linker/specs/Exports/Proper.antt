@@ -1,5 +1,5 @@
 -- What is read from an image is a proper module: names are names, segments are at most 16, and its exports' names ascend.
-use Rattle.std.specs.Prelude.{◌≡◌, ℕ, zero, suc, ◌≤◌, Bool, true, List, length}
+use Rattle.std.specs.Prelude.{◌≡◌, ℕ, zero, suc, ◌≤◌, Bool, true, List, length, Option, Some, None}
 use Rattle.std.proofs.Math.Path.{refl, ap}
 use Rattle.std.proofs.Common.{◌∙◌, arith, lt-ltb, le-ltb, le-leb}
 use Rattle.std.proofs.Math.Decide.{dec_lt}
@@ -7,8 +7,6 @@ use Rattle.window.specs.Access.{run}
 use Rattle.window.specs.Tests.{also}
 use Rattle.window.specs.Name.{name_at-is_name}
 use Rattle.layout.specs.Header.{export_named_symbol_num, segment_num}
-use Rattle.layout.specs.declared.segments.Address.{Address}
-use Rattle.layout.specs.declared.segments.Address.TheVariants as address
 use Rattle.register.specs.Module.{Export, named_ok, ascending, proper_module}
 use Rattle.register.specs.Order.{put_ascends}
 use Rattle.linker_spec.specs.Exports.{put_usable, named_exports, read_segments, read_module}
@@ -26,10 +24,10 @@ module _ (at : ℕ) (w : List ℕ) (base : ℕ) where
   ascends_to (suc i) = go (address_of at w base i) (ascends_to i)
     where
       go
-          : (a : Address) → ascending (named_to at w base i) ≡ true
+          : (a : Option ℕ) → ascending (named_to at w base i) ≡ true
           → ascending (put_usable (named_to at w base i) (name_of at w base i) a) ≡ true
-      go (address.At a) h = put_ascends (named_to at w base i) (name_of at w base i) a h
-      go address.Nowhere h = h
+      go (Some a) h = put_ascends (named_to at w base i) (name_of at w base i) a h
+      go None h = h
 
   few_segments : length (run at (read_segments base) w).0 ≤ 16
   few_segments =

@@ -1,17 +1,16 @@
 -- Exports put to others one after another: two runs in name order merged, and the entries of a table put by halves.
-use Rattle.std.specs.Prelude.{◌≡◌, ℕ, zero, suc, ◌+◌, ◌-◌, ◌<◌, true, List, [], ◌∷◌, ◌++◌, length}
+use Rattle.std.specs.declared.cmp.Ordering.{Ordering}
+use Rattle.std.specs.declared.cmp.Ordering.TheVariants.{Less, Equal, Greater}
+use Rattle.std.specs.Ordering.{is_lt}
+use Rattle.std.specs.Prelude.{◌≡◌, ℕ, zero, suc, ◌+◌, ◌-◌, ◌<◌, true, List, [], ◌∷◌, ◌++◌, length, Option, Some, None}
 use Rattle.std.proofs.Math.Path.{refl, sym, ap}
 use Rattle.std.proofs.Common.{◌∙◌}
 use native.Mathlib.Omega.{arith}
 use Rattle.window.specs.Name.{order_of, order_self, order_same, order_turned, turned, before_trans}
 use Rattle.window.specs.Tests.{both}
-use Rattle.window.specs.declared.name.NameOrder.{NameOrder}
-use Rattle.window.specs.declared.name.NameOrder.TheVariants.{Before, Same, After}
-use Rattle.layout.specs.declared.segments.Address.{Address}
-use Rattle.layout.specs.declared.segments.Address.TheVariants.{At, Nowhere}
-use Rattle.register.specs.Module.{Export, is_before, ascending}
+use Rattle.register.specs.Module.{Export, ascending}
 use Rattle.register.specs.Change.{by_order, put_named}
-use Rattle.register.specs.Order.{name_in, is_before_lem, put_first, put_same, put_ascends, tail_ascends}
+use Rattle.register.specs.Order.{name_in, is_lt_lem, put_first, put_same, put_ascends, tail_ascends}
 use Rattle.linker_spec.specs.Exports.{put_usable}
 use Rattle.linker.specs.Record.Read.{name_of, address_of, named_to}
 
@@ -22,22 +21,22 @@ puts xs (y ∷ ys) = puts (put_named xs y.name y.address) ys
 -- a name before each of theirs
 unfoldable pub BeforeAll : List ℕ → List Export → Type 0
 BeforeAll name [] = Unit {0}
-BeforeAll name (x ∷ xs) = (order_of name x.name ≡ Before) × BeforeAll name xs
+BeforeAll name (x ∷ xs) = (order_of name x.name ≡ Less) × BeforeAll name xs
 
-after_is : (a b : List ℕ) → order_of a b ≡ Before → order_of b a ≡ After
+after_is : (a b : List ℕ) → order_of a b ≡ Less → order_of b a ≡ Greater
 after_is a b e = order_turned a b ∙ ap turned e
 
-before_is : (a b : List ℕ) → order_of a b ≡ After → order_of b a ≡ Before
+before_is : (a b : List ℕ) → order_of a b ≡ Greater → order_of b a ≡ Less
 before_is a b e = order_turned a b ∙ ap turned e
 
-all_trans : (a b : List ℕ) (xs : List Export) → order_of a b ≡ Before → BeforeAll b xs → BeforeAll a xs
+all_trans : (a b : List ℕ) (xs : List Export) → order_of a b ≡ Less → BeforeAll b xs → BeforeAll a xs
 unfolding BeforeAll
 all_trans a b [] e h = tt
 all_trans a b (x ∷ xs) e h = (before_trans a b x.name e h.0, all_trans a b xs e h.1)
 
-first_two : (x y : Export) (xs : List Export) → ascending (x ∷ y ∷ xs) ≡ true → order_of x.name y.name ≡ Before
+first_two : (x y : Export) (xs : List Export) → ascending (x ∷ y ∷ xs) ≡ true → order_of x.name y.name ≡ Less
 unfolding ascending
-first_two x y xs h = is_before_lem (order_of x.name y.name) (both (is_before (order_of x.name y.name)) (ascending (y ∷ xs)) h).0
+first_two x y xs h = is_lt_lem (order_of x.name y.name) (both (is_lt (order_of x.name y.name)) (ascending (y ∷ xs)) h).0
 
 pub ascends_all : (x : Export) (xs : List Export) → ascending (x ∷ xs) ≡ true → BeforeAll x.name xs
 unfolding BeforeAll
@@ -46,13 +45,13 @@ ascends_all x (y ∷ ys) h =
     let e = first_two x y ys h in
     (e, all_trans x.name y.name ys e (ascends_all y ys (tail_ascends x (y ∷ ys) h)))
 
-before_list : (name : List ℕ) (y : Export) (ys : List Export) → order_of name y.name ≡ Before → ascending (y ∷ ys) ≡ true → BeforeAll name (y ∷ ys)
+before_list : (name : List ℕ) (y : Export) (ys : List Export) → order_of name y.name ≡ Less → ascending (y ∷ ys) ≡ true → BeforeAll name (y ∷ ys)
 unfolding BeforeAll
 before_list name y ys e h = (e, all_trans name y.name ys e (ascends_all y ys h))
 
 -- one export put
 
-put-after : (x : Export) (xs : List Export) (name : List ℕ) (a : ℕ) → order_of name x.name ≡ After → put_named (x ∷ xs) name a ≡ x ∷ put_named xs name a
+put-after : (x : Export) (xs : List Export) (name : List ℕ) (a : ℕ) → order_of name x.name ≡ Greater → put_named (x ∷ xs) name a ≡ x ∷ put_named xs name a
 unfolding put_named by_order
 put-after x xs name a e = rw e
 
@@ -68,16 +67,16 @@ put-over [] name a b = rw (order_self name)
 put-over (x ∷ xs) name a b = go (order_of name x.name) refl (put-over xs name a b)
   where
     go
-        : (o : NameOrder) → order_of name x.name ≡ o → put_named (put_named xs name a) name b ≡ put_named xs name b
+        : (o : Ordering) → order_of name x.name ≡ o → put_named (put_named xs name a) name b ≡ put_named xs name b
         → put_named
         (by_order o (record { name = name; address = a } ∷ x ∷ xs) (record { name = x.name; address = a } ∷ xs) (x ∷ put_named xs name a)) name b
         ≡ by_order o (record { name = name; address = b } ∷ x ∷ xs) (record { name = x.name; address = b } ∷ xs) (x ∷ put_named xs name b)
-    go Before e ih = rw (order_self name)
-    go Same e ih = rw e
-    go After e ih = rw e (ap (λ t. x ∷ t) ih)
+    go Less e ih = rw (order_self name)
+    go Equal e ih = rw e
+    go Greater e ih = rw e (ap (λ t. x ∷ t) ih)
 
 -- two of different names are put in either order
-module _ (n m : List ℕ) (a b : ℕ) (e : order_of n m ≡ Before) where
+module _ (n m : List ℕ) (a b : ℕ) (e : order_of n m ≡ Less) where
   abbrev N : Export
   N = record { name = n; address = a }
 
@@ -86,26 +85,26 @@ module _ (n m : List ℕ) (a b : ℕ) (e : order_of n m ≡ Before) where
   put_comm [] = rw (e, after_is n m e)
   put_comm (x ∷ xs) = go (order_of n x.name) refl (put_comm xs)
     where
-      later : order_of n x.name ≡ After → order_of m x.name ≡ After
+      later : order_of n x.name ≡ Greater → order_of m x.name ≡ Greater
       later f = after_is x.name m (before_trans x.name n m (before_is n x.name f) e)
 
       front
-          : (o : NameOrder) → order_of n x.name ≡ Before
+          : (o : Ordering) → order_of n x.name ≡ Less
           → N ∷ by_order o (record { name = m; address = b } ∷ x ∷ xs) (record { name = x.name; address = b } ∷ xs) (x ∷ put_named xs m b)
           ≡ put_named (by_order o (record { name = m; address = b } ∷ x ∷ xs) (record { name = x.name; address = b } ∷ xs) (x ∷ put_named xs m b)) n a
-      front Before f = rw e
-      front Same f = rw f
-      front After f = rw f
+      front Less f = rw e
+      front Equal f = rw f
+      front Greater f = rw f
 
       go
-          : (o : NameOrder) → order_of n x.name ≡ o → put_named (put_named xs n a) m b ≡ put_named (put_named xs m b) n a
+          : (o : Ordering) → order_of n x.name ≡ o → put_named (put_named xs n a) m b ≡ put_named (put_named xs m b) n a
           → put_named (by_order o (N ∷ x ∷ xs) (record { name = x.name; address = a } ∷ xs) (x ∷ put_named xs n a)) m b
           ≡ put_named (put_named (x ∷ xs) m b) n a
-      go Before f ih = rw (after_is n m e) (front (order_of m x.name) f)
-      go Same f ih =
-          let l : order_of m x.name ≡ After = ap (order_of m) (sym (order_same n x.name f)) ∙ after_is n m e in
+      go Less f ih = rw (after_is n m e) (front (order_of m x.name) f)
+      go Equal f ih =
+          let l : order_of m x.name ≡ Greater = ap (order_of m) (sym (order_same n x.name f)) ∙ after_is n m e in
           rw (l, f)
-      go After f ih = rw (later f, f) (ap (λ t. x ∷ t) ih)
+      go Greater f ih = rw (later f, f) (ap (λ t. x ∷ t) ih)
 
 -- a list put
 
@@ -129,17 +128,17 @@ puts_none (y ∷ ys) h = puts_first y [] ys (ascends_all y ys h) ∙ ap (λ t. y
 
 -- two runs merged, by the order of their first names
 module _ (x y : Export) (xs ys : List Export) where
-  pub merge_left : order_of x.name y.name ≡ Before → ascending (y ∷ ys) ≡ true → puts (x ∷ xs) (y ∷ ys) ≡ x ∷ puts xs (y ∷ ys)
+  pub merge_left : order_of x.name y.name ≡ Less → ascending (y ∷ ys) ≡ true → puts (x ∷ xs) (y ∷ ys) ≡ x ∷ puts xs (y ∷ ys)
   merge_left e h = puts_first x xs (y ∷ ys) (before_list x.name y ys e h)
 
-  pub merge_right : order_of x.name y.name ≡ After → ascending (y ∷ ys) ≡ true → puts (x ∷ xs) (y ∷ ys) ≡ y ∷ puts (x ∷ xs) ys
+  pub merge_right : order_of x.name y.name ≡ Greater → ascending (y ∷ ys) ≡ true → puts (x ∷ xs) (y ∷ ys) ≡ y ∷ puts (x ∷ xs) ys
   unfolding puts
   merge_right e h =
       ap (λ t. puts t ys) (put_first x xs y.name y.address (before_is x.name y.name e))
       ∙ puts_first y (x ∷ xs) ys (ascends_all y ys h)
 
   -- of one name, only the later one
-  pub merge_same : order_of x.name y.name ≡ Same → ascending (x ∷ xs) ≡ true → puts (x ∷ xs) (y ∷ ys) ≡ puts xs (y ∷ ys)
+  pub merge_same : order_of x.name y.name ≡ Equal → ascending (x ∷ xs) ≡ true → puts (x ∷ xs) (y ∷ ys) ≡ puts xs (y ∷ ys)
   unfolding puts
   merge_same e h =
       let n : x.name ≡ y.name = order_same x.name y.name e in
@@ -150,7 +149,7 @@ module _ (x y : Export) (xs ys : List Export) where
 -- two runs of which the first one's last name comes before the second one's first are merged as they stand
 ordered_runs
     : (x : Export) (xs : List Export) (y : Export) (ys : List Export) → ascending (x ∷ xs) ≡ true → ascending (y ∷ ys) ≡ true
-    → order_of (name_in (x ∷ xs) (length xs)) y.name ≡ Before → (puts (x ∷ xs) (y ∷ ys) ≡ x ∷ xs ++ (y ∷ ys)) × BeforeAll x.name (y ∷ ys)
+    → order_of (name_in (x ∷ xs) (length xs)) y.name ≡ Less → (puts (x ∷ xs) (y ∷ ys) ≡ x ∷ xs ++ (y ∷ ys)) × BeforeAll x.name (y ∷ ys)
 ordered_runs x [] y ys h k e =
     let b = before_list x.name y ys e k in
     (puts_first x [] (y ∷ ys) b ∙ ap (λ t. x ∷ t) (puts_none (y ∷ ys) k), b)
@@ -161,7 +160,7 @@ ordered_runs x (z ∷ xs) y ys h k e =
 
 pub merge_ordered
     : (xs ys : List Export) → 0 < length xs → 0 < length ys → ascending xs ≡ true → ascending ys ≡ true
-    → order_of (name_in xs (length xs - 1)) (name_in ys 0) ≡ Before → puts xs ys ≡ xs ++ ys
+    → order_of (name_in xs (length xs - 1)) (name_in ys 0) ≡ Less → puts xs ys ≡ xs ++ ys
 merge_ordered [] ys l m h k e = absurd (omega arith)
 merge_ordered (x ∷ xs) [] l m h k e = absurd (omega arith)
 merge_ordered (x ∷ xs) (y ∷ ys) l m h k e =
@@ -183,17 +182,17 @@ puts-put xs (y ∷ ys) name a h =
     go (order_of name y.name) refl (puts-put (put_named xs y.name y.address) ys name a (tail_ascends y ys h))
   where
     go
-        : (o : NameOrder) → order_of name y.name ≡ o
+        : (o : Ordering) → order_of name y.name ≡ o
         → puts (put_named xs y.name y.address) (put_named ys name a) ≡ put_named (puts (put_named xs y.name y.address) ys) name a
         → puts xs (by_order o (record { name = name; address = a } ∷ y ∷ ys) (record { name = y.name; address = a } ∷ ys) (y ∷ put_named ys name a))
         ≡ put_named (puts (put_named xs y.name y.address) ys) name a
-    go Before e ih = puts_later name a xs (y ∷ ys) (before_list name y ys e h)
-    go Same e ih =
+    go Less e ih = puts_later name a xs (y ∷ ys) (before_list name y ys e h)
+    go Equal e ih =
         let n : name ≡ y.name = order_same name y.name e in
         ap (λ t. puts t ys) (sym (put-over xs y.name y.address a))
         ∙ puts_later y.name a (put_named xs y.name y.address) ys (ascends_all y ys h)
         ∙ ap (λ t. put_named (puts (put_named xs y.name y.address) ys) t a) (sym n)
-    go After e ih = ih
+    go Greater e ih = ih
 
 -- the exports of n entries of a table from number `from` on
 
@@ -210,10 +209,10 @@ module _ (at : ℕ) (w : List ℕ) (base : ℕ) where
   unfolding named_from
   from_one i = let z : i + 0 ≡ i = omega arith in rw z
 
-  usable_ascends : (xs : List Export) (name : List ℕ) (x : Address) → ascending xs ≡ true → ascending (put_usable xs name x) ≡ true
+  usable_ascends : (xs : List Export) (name : List ℕ) (x : Option ℕ) → ascending xs ≡ true → ascending (put_usable xs name x) ≡ true
   unfolding put_usable
-  usable_ascends xs name (At a) h = put_ascends xs name a h
-  usable_ascends xs name Nowhere h = h
+  usable_ascends xs name (Some a) h = put_ascends xs name a h
+  usable_ascends xs name None h = h
 
   pub from_ascends : (from n : ℕ) → ascending (named_from from n) ≡ true
   unfolding named_from ascending
@@ -221,10 +220,10 @@ module _ (at : ℕ) (w : List ℕ) (base : ℕ) where
   from_ascends from (suc n) = usable_ascends (named_from from n) (name_of at w base (from + n)) (address_of at w base (from + n)) (from_ascends from n)
 
   puts-usable
-      : (xs ys : List Export) (name : List ℕ) (x : Address) → ascending ys ≡ true → puts xs (put_usable ys name x) ≡ put_usable (puts xs ys) name x
+      : (xs ys : List Export) (name : List ℕ) (x : Option ℕ) → ascending ys ≡ true → puts xs (put_usable ys name x) ≡ put_usable (puts xs ys) name x
   unfolding put_usable
-  puts-usable xs ys name (At a) h = puts-put xs ys name a h
-  puts-usable xs ys name Nowhere h = refl
+  puts-usable xs ys name (Some a) h = puts-put xs ys name a h
+  puts-usable xs ys name None h = refl
 
   -- by two parts
   pub from_parts : (from n m : ℕ) → puts (named_from from n) (named_from (from + n) m) ≡ named_from from (n + m)

@@ -1,4 +1,6 @@
 -- Exports that wait, sorted by parts in free bytes: a run of them from number o on, and two runs while they are merged.
+use Rattle.std.specs.declared.cmp.Ordering.{Ordering}
+use Rattle.std.specs.declared.cmp.Ordering.TheVariants.{Less, Equal, Greater}
 use Rattle.std.specs.Prelude.{◌≡◌, ℕ, suc, ◌+◌, ◌-◌, ◌*◌, ◌^◌, ◌<◌, ◌≤◌, true, List, [], ◌∷◌, ◌++◌, length, take, drop, slice_index, slice_set, refl}
 use Rattle.std.proofs.Math.Path.{sym, ap, subst}
 use Rattle.std.proofs.Common.{◌∙◌, append_assoc, take-add, drop-drop, drop-set-lt, get_or-take, get_or-drop}
@@ -8,8 +10,6 @@ use Rattle.std.proofs.lemmas.List.Edits.{sets}
 use Rattle.std.proofs.Math.Seq.{length-sets, length-take-le, take_all, drop_at, take-take}
 use Rattle.std.proofs.lemmas.List.{take-set-le, drop-set-add}
 use Rattle.window.specs.Name.{order_of}
-use Rattle.window.specs.declared.name.NameOrder.{NameOrder}
-use Rattle.window.specs.declared.name.NameOrder.TheVariants.{Before, Same, After}
 use Rattle.register.specs.Words.{part, flat, words_in, words_take, words-drop}
 use Rattle.register.specs.Buffers.{Below, length-flat}
 use Rattle.register.specs.Module.{Export, ascending}
@@ -300,7 +300,7 @@ module _ (at : ℕ) (w : List ℕ) where
     right_less = let e = ap length r₀.2 in omega (arith, m.right_count)
 
     -- the names of the two first ones, compared where they stand
-    module _ (x y : ℕ) {o : NameOrder} (ex : x ≡ slice_index (words_in bytes) (2 * i)) (ey : y ≡ slice_index (words_in bytes) (2 * j))
+    module _ (x y : ℕ) {o : Ordering} (ex : x ≡ slice_index (words_in bytes) (2 * i)) (ey : y ≡ slice_index (words_in bytes) (2 * j))
         (eo : o ≡ order_of (name_for at w x) (name_for at w y)) where
       order_is : order_of (name_for at w X.place) (name_for at w Y.place) ≡ o
       order_is =
@@ -309,7 +309,7 @@ module _ (at : ℕ) (w : List ℕ) where
           ap (λ t. order_of (name_for at w t) (name_for at w Y.place)) (sym px) ∙ ap (λ t. order_of (name_for at w x) (name_for at w t)) (sym py) ∙ sym eo
 
       -- of one name only the right one stays
-      pub merging_same : o ≡ Same → Merging all n end (i + 1) j k bytes
+      pub merging_same : o ≡ Equal → Merging all n end (i + 1) j k bytes
       unfolding exports_for
       merging_same f =
           record {
@@ -333,7 +333,7 @@ module _ (at : ℕ) (w : List ℕ) where
       module _ (a : ℕ) {bytes' : List ℕ} (ha : a < 2 ^ 32) where
         -- the left one is before
         pub merging_left
-            : x < 2 ^ 32 → k + 1 ≤ j → j ≤ i → a ≡ slice_index (words_in bytes) (2 * i + 1) → o ≡ Before
+            : x < 2 ^ 32 → k + 1 ≤ j → j ≤ i → a ≡ slice_index (words_in bytes) (2 * i + 1) → o ≡ Less
             → bytes' ≡ sets bytes (8 * k) (flat (x ∷ a ∷ [])) → Merging all n end (i + 1) j (k + 1) bytes'
         unfolding exports_for
         merging_left hx lk ji ea f e =
@@ -360,7 +360,7 @@ module _ (at : ℕ) (w : List ℕ) where
 
         -- the right one is
         pub merging_right
-            : y < 2 ^ 32 → k ≤ j → j + 1 ≤ i → a ≡ slice_index (words_in bytes) (2 * j + 1) → o ≡ After
+            : y < 2 ^ 32 → k ≤ j → j + 1 ≤ i → a ≡ slice_index (words_in bytes) (2 * j + 1) → o ≡ Greater
             → bytes' ≡ sets bytes (8 * k) (flat (y ∷ a ∷ [])) → Merging all n end i (j + 1) (k + 1) bytes'
         unfolding exports_for
         merging_right hy lk ji ea f e =
@@ -497,8 +497,8 @@ module _ (at : ℕ) (w : List ℕ) where
 
     -- the left one's last name comes before the right one's first: they are merged as they stand
     pub in_order
-        : (x y : ℕ) {o : NameOrder} → 0 < left → 0 < right → x ≡ slice_index (words_in bytes) (2 * left - 2) → y ≡ slice_index (words_in bytes) (2 * left)
-        → o ≡ order_of (name_for at w x) (name_for at w y) → o ≡ Before → Sorted (puts A B) (left + right) bytes
+        : (x y : ℕ) {o : Ordering} → 0 < left → 0 < right → x ≡ slice_index (words_in bytes) (2 * left - 2) → y ≡ slice_index (words_in bytes) (2 * left)
+        → o ≡ order_of (name_for at w x) (name_for at w y) → o ≡ Less → Sorted (puts A B) (left + right) bytes
     in_order x y {o} l r ex ey eo f =
         let la : length A ≡ left = ap length (sym a.are) ∙ length_exports at w a.waiting ∙ a.counted in
         let lb : length B ≡ right = ap length (sym b.are) ∙ length_exports at w b.waiting ∙ b.counted in
@@ -510,7 +510,7 @@ module _ (at : ℕ) (w : List ℕ) where
         ∙ ap (λ t. name_in t (left - 1)) a.are ∙ ap (name_in A) zl in
         let ny : name_for at w y ≡ name_in B 0 =
         laid-place left 0 y right_run (omega (arith, b.counted)) (ey ∙ ap (λ t. slice_index (words_in bytes) t) zy) ∙ ap (λ t. name_in t 0) b.are in
-        let e : order_of (name_in A (length A - 1)) (name_in B 0) ≡ Before =
+        let e : order_of (name_in A (length A - 1)) (name_in B 0) ≡ Less =
         ap (λ t. order_of t (name_in B 0)) (sym nx) ∙ ap (order_of (name_for at w x)) (sym ny) ∙ sym eo ∙ f in
         followed a.waiting b.waiting left right bytes
         (ap (λ t. t ++ exports_for at w b.waiting) a.are ∙ ap (λ t. A ++ t) b.are

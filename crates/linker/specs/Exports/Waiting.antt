@@ -1,6 +1,7 @@
 -- Exports that wait in the free bytes after a record until all are known: two words each, where the name stands in the image, and the
 -- export's address.
-use Rattle.std.specs.Prelude.{◌≡◌, ℕ, zero, suc, ◌+◌, ◌-◌, ◌*◌, ◌/◌, ◌^◌, ◌<◌, ◌≤◌, true, List, [], ◌∷◌, ◌++◌, length, take, drop, slice_index, slice_index_or, slice_set}
+use Rattle.std.specs.declared.cmp.Ordering.{Ordering}
+use Rattle.std.specs.Prelude.{◌≡◌, ℕ, zero, suc, ◌+◌, ◌-◌, ◌*◌, ◌/◌, ◌^◌, ◌<◌, ◌≤◌, true, List, [], ◌∷◌, ◌++◌, length, take, drop, slice_index, slice_index_or, slice_set, Result, Ok, Err}
 use Rattle.std.proofs.Math.Path.{refl, sym, ap, subst}
 use Rattle.std.proofs.Common.{◌∙◌, take-append-drop, drop_at}
 use native.Mathlib.Omega.{arith}
@@ -9,15 +10,12 @@ use Rattle.std.proofs.Math.Seq.{sets, length-take-le, take_all}
 use Rattle.window.specs.Access.{run}
 use Rattle.window.specs.Name.{name_at, order_of}
 use Rattle.window.specs.Word.{set_word_in}
-use Rattle.window.specs.declared.name.NameOrder.{NameOrder}
 use Rattle.register.specs.Words.{part, flat, words_in}
 use Rattle.register.specs.Buffers.{Below, length-flat}
 use Rattle.register.specs.Module.{Export, ascending}
 use Rattle.register.specs.Encode.{export_words, export_names}
 use Rattle.register.specs.Change.{put_named}
 use Rattle.register.specs.Order.{name_in, position_of, put-at, put_before}
-use Rattle.register.specs.declared.exports.Position.{Position}
-use Rattle.register.specs.declared.exports.Position.TheVariants.{At, Before}
 use Rattle.register.specs.Append.Sets.{sets_append, sets_over, flat_append, change-laid, words_of}
 use Rattle.register.specs.Append.Laid.{part_sets, below_append, below_one, below_three}
 use Rattle.register.specs.Append.Held.{below_set}
@@ -30,9 +28,9 @@ abbrev a_waiting : Waiting
 a_waiting = record { place = 0; address = 0 }
 
 -- a position among n
-unfoldable pub Inside : Position → ℕ → Type 0
-Inside (At k) n = k < n
-Inside (Before k) n = k ≤ n
+unfoldable pub Inside : Result ℕ ℕ → ℕ → Type 0
+Inside (Ok k) n = k < n
+Inside (Err k) n = k ≤ n
 
 below_front : (a b : List ℕ) (n : ℕ) → Below n (a ++ b) → 0 < n → Below n a
 below_front [] b n h z k = omega arith
@@ -104,7 +102,7 @@ module _ (at : ℕ) (w : List ℕ) where
 
     -- a name and that of number k, compared where it stands
     pub waits_order
-        : (k : ℕ) (name : List ℕ) {place : ℕ} {o : NameOrder} → k < length xs → place ≡ slice_index (words_in bytes) (2 * k)
+        : (k : ℕ) (name : List ℕ) {place : ℕ} {o : Ordering} → k < length xs → place ≡ slice_index (words_in bytes) (2 * k)
         → o ≡ order_of name (name_for place) → o ≡ order_of name (name_in (exports_for xs) k)
     waits_order k name {place} l ep f =
         let p : place ≡ (slice_index_or xs k a_waiting).place = ep ∙ ap (λ t. slice_index t (2 * k)) waits-words ∙ place_of xs k l in
@@ -169,7 +167,7 @@ module _ (at : ℕ) (w : List ℕ) where
     pub small : Below (2 ^ 32) (waiting_words ys)
 
   module _ (xs : List Waiting) (place a k : ℕ) (s : Below (2 ^ 32) (waiting_words xs)) (ha : a < 2 ^ 32) (l : List ℕ) (o : ℕ) where
-    module _ (e : position_of (exports_for xs) (name_for place) ≡ At k) where
+    module _ (e : position_of (exports_for xs) (name_for place) ≡ Ok k) where
       again_inside : k < length xs
       again_inside = omega (arith, (put-at (exports_for xs) (name_for place) a k e).0, length_exports xs)
 
@@ -192,7 +190,7 @@ module _ (at : ℕ) (w : List ℕ) where
           )
 
     -- a new one, before number k: two words are put there and what follows moves up
-    module _ (hp : place < 2 ^ 32) (e : position_of (exports_for xs) (name_for place) ≡ Before k)
+    module _ (hp : place < 2 ^ 32) (e : position_of (exports_for xs) (name_for place) ≡ Err k)
         (inside : o + 8 * length xs ≤ length l) where
       abbrev new : Waiting
       new = record { place = place; address = a }

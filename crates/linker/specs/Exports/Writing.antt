@@ -1,5 +1,5 @@
 -- A record that is being written on buffers that encode a register: it holds a module, or the module has no room and nothing changed.
-use Rattle.std.specs.Prelude.{◌≡◌, ℕ, ◌+◌, ◌*◌, ◌^◌, ◌<◌, ◌≤◌, Bool, true, false, ◌&&◌, leb, List, [], ◌∷◌, ◌++◌, length, nat_le, nat_lt}
+use Rattle.std.specs.Prelude.{◌≡◌, ℕ, ◌+◌, ◌*◌, ◌^◌, ◌<◌, ◌≤◌, Bool, true, false, ◌&&◌, leb, List, [], ◌∷◌, ◌++◌, length, nat_le, nat_lt, Option, Some, None}
 use Rattle.std.proofs.Math.Path.{refl, ap}
 use Rattle.std.proofs.Common.{sym, ◌∙◌, subst, arith}
 use mathlib.Core.List.{append-nil}
@@ -17,8 +17,6 @@ use Rattle.register.specs.Decode.{encodes, is_register, register_of}
 use Rattle.register.specs.Change.{new_module, with_segment, with_indexed, with_named, appended}
 use Rattle.register.specs.Buffers.{Below, length-flat, encode_records, encode_names}
 use Rattle.register.specs.declared.append.draft.Draft.{Draft}
-use Rattle.register.specs.declared.append.draft.Drafted.{Drafted}
-use Rattle.register.specs.declared.append.draft.Drafted.TheVariants.{Open, Full}
 use Rattle.register.specs.Append.Draft.{room_in, room-inside, longer, push_listed, draft_at, begin_record, finish_record, given_up}
 use Rattle.register.specs.Append.Held.{Held, words_long, names-named}
 use Rattle.register.specs.Append.Steps.{listed_none, step-segment, step_indexed, step-named}
@@ -53,15 +51,15 @@ roomy g m =
     && nat_le (named g + length (module_names m)) (room_in (length g.names)))
 
 -- the draft, and what the two buffers then are
-unfoldable pub Writing : Ground → Module → Drafted → List ℕ → List ℕ → Type 0
-Writing g m (Open d) rs ns =
+unfoldable pub Writing : Ground → Module → Option Draft → List ℕ → List ℕ → Type 0
+Writing g m (Some d) rs ns =
     Held g.records g.names d m rs ns × (d.start ≡ used g) × (d.names ≡ named g) × (length g.register.modules < 64)
-Writing g m Full rs ns = (rs ≡ g.records) × (ns ≡ g.names) × (roomy g m ≡ false)
+Writing g m None rs ns = (rs ≡ g.records) × (ns ≡ g.names) × (roomy g m ≡ false)
 
 pub writing_is
-    : (g : Ground) (m : Module) {r : Drafted} {rs ns : List ℕ} {x : Drafted × List ℕ × List ℕ} → ◌≡◌ {A = Drafted × List ℕ × List ℕ} (r, rs, ns) x
+    : (g : Ground) (m : Module) {r : Option Draft} {rs ns : List ℕ} {x : Option Draft × List ℕ × List ℕ} → ◌≡◌ {A = Option Draft × List ℕ × List ℕ} (r, rs, ns) x
     → Writing g m x.0 x.1 x.2 → Writing g m r rs ns
-writing_is g m e h = subst (λ (t : Drafted × List ℕ × List ℕ). Writing g m t.0 t.1 t.2) (sym e) h
+writing_is g m e h = subst (λ (t : Option Draft × List ℕ × List ℕ). Writing g m t.0 t.1 t.2) (sym e) h
 
 -- the whole register with the module in it has room exactly if the module has
 
@@ -130,7 +128,7 @@ more_indexed q m a =
     let n : length (m.indexed ++ (a ∷ [])) ≡ length m.indexed + 1 = length-append m.indexed (a ∷ []) in
     omega (arith, words_long q m, words_long q (with_indexed m a))
 
-module _ (g : Ground) (m : Module) (d : Draft) (rs ns : List ℕ) (h : Writing g m (Open d) rs ns) where
+module _ (g : Ground) (m : Module) (d : Draft) (rs ns : List ℕ) (h : Writing g m (Some d) rs ns) where
   -- what the draft says of the module
   pub held : Held g.records g.names d m rs ns
   unfolding Writing
@@ -166,7 +164,7 @@ module _ (g : Ground) (m : Module) (d : Draft) (rs ns : List ℕ) (h : Writing g
       (le-leb (named g + length (module_names m)) (room_in (length g.names)) (omega (arith, lasts, held.name-room))))
 
   -- given up
-  pub gone : (m' : Module) → roomy g m' ≡ false → Writing g m' Full (given_up rs ns d).0 (given_up rs ns d).1
+  pub gone : (m' : Module) → roomy g m' ≡ false → Writing g m' None (given_up rs ns d).0 (given_up rs ns d).1
   unfolding Writing
   gone m' e =
       let x = flat (module_words d.names m) in
@@ -178,7 +176,7 @@ module _ (g : Ground) (m : Module) (d : Draft) (rs ns : List ℕ) (h : Writing g
       (ap (λ t. t.0) z, ap (λ t. t.1) z, e)
 
   kept : (d' : Draft) (m' : Module) (rs' ns' : List ℕ) → Held g.records g.names d' m' rs' ns' → d'.start ≡ d.start → d'.names ≡ d.names
-      → Writing g m' (Open d') rs' ns'
+      → Writing g m' (Some d') rs' ns'
   unfolding Writing
   kept d' m' rs' ns' k s n = (k, s ∙ starts, n ∙ begins, few)
 
@@ -205,7 +203,7 @@ module _ (g : Ground) (m : Module) (d : Draft) (rs ns : List ℕ) (h : Writing g
   listed
       : (field a : ℕ) (m' : Module) (after : List ℕ)
       → (d.end + 4 ≤ room_in (length g.records)
-      → (push_listed rs d field a ≡ (Open (longer d 4), after)) × Held g.records g.names (longer d 4) m' after ns)
+      → (push_listed rs d field a ≡ (Some (longer d 4), after)) × Held g.records g.names (longer d 4) m' after ns)
       → length (module_words (named g) m') ≡ length (module_words (named g) m) + 1
       → Writing g m' (tried d (push_listed rs d field a).0 (push_listed rs d field a).1 ns).0
       (tried d (push_listed rs d field a).0 (push_listed rs d field a).1 ns).1
@@ -217,7 +215,7 @@ module _ (g : Ground) (m : Module) (d : Draft) (rs ns : List ℕ) (h : Writing g
         rw e (gone m' (no_words g m' (omega (arith, ends, more))))
   ]
 
-  abbrev pushed : ℕ → ℕ → Drafted × List ℕ × List ℕ
+  abbrev pushed : ℕ → ℕ → Option Draft × List ℕ × List ℕ
   pushed field a = tried d (push_listed rs d field a).0 (push_listed rs d field a).1 ns
 
   pub segment-tried
@@ -257,7 +255,7 @@ module _ (g : Ground) (m : Module) (d : Draft) (rs ns : List ℕ) (h : Writing g
         : (last : Draft) → last.start ≡ d.start → last.names ≡ d.names → last.end ≡ d.end + 12 * length xs
         → last.last ≡ d.last + length (export_names xs) → last.end ≤ room_in (length g.records) → last.last ≤ room_in (length g.names)
         → Below (2 ^ 32) (export_words d.last xs)
-        → Writing g (with_named m xs) (Open last)
+        → Writing g (with_named m xs) (Some last)
         (set_word_in (sets rs d.end (flat (export_words d.last xs))) (d.start + 24) (length xs)) (sets ns d.last (export_names xs))
     named-written last es en ee el room name-room small =
         kept last (with_named m xs) _ _
@@ -270,7 +268,7 @@ module _ (g : Ground) (base size : ℕ) (auto : Bool) (name : List ℕ) where
   abbrev new : Module
   new = new_module base size auto name
 
-  abbrev first : Drafted × List ℕ × List ℕ
+  abbrev first : Option Draft × List ℕ × List ℕ
   first = begin_record g.records g.names base size auto name
 
   abbrev a₀ : Bool

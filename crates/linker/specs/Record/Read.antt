@@ -1,5 +1,5 @@
 -- What the loops over a module's tables gather, entry by entry, and so what `read_module` gives.
-use Rattle.std.specs.Prelude.{if◌then◌else◌, ◌≡◌, ℕ, zero, suc, ◌+◌, ◌-◌, ◌<◌, ◌≤◌, Bool, List, [], ◌∷◌, ◌++◌, length, take, nat_lt}
+use Rattle.std.specs.Prelude.{if◌then◌else◌, ◌≡◌, ℕ, zero, suc, ◌+◌, ◌-◌, ◌<◌, ◌≤◌, Bool, List, [], ◌∷◌, ◌++◌, length, take, nat_lt, Option, Some, None}
 use Rattle.std.proofs.Math.Path.{refl, ap}
 use Rattle.std.proofs.Common.{sym, ◌∙◌, take_all, lt-ltb, le-ltb}
 use native.Mathlib.Omega.{arith}
@@ -13,8 +13,6 @@ use Rattle.window.specs.Name.{name_at, name_at_reads, name_none}
 use Rattle.window.specs.Outside.{AllOutside, stride_of, first-zero, part-zero, passed-outside, stride_goes}
 use Rattle.layout.specs.Header.{export_named_symbol_table_offset, export_named_symbol_num, export_named_symbol_entry_size, export_indexed_symbol_table_offset, export_indexed_symbol_num, export_indexed_symbol_entry_size, segment_num, module_name_offset}
 use Rattle.layout.specs.Segments.{field, field-word, field_reads, entry_at, segment, segment_reads, tag_to_address, tag_to_address_reads}
-use Rattle.layout.specs.declared.segments.Address.{Address}
-use Rattle.layout.specs.declared.segments.Address.TheVariants.{At, Nowhere}
 use Rattle.register.specs.Module.{Export, Module}
 use Rattle.register.specs.Order.{put_twice}
 use Rattle.linker_spec.specs.Relocation.{address_or0}
@@ -35,10 +33,10 @@ loop_gives {A = A} at body w s turn i (suc n) =
     rw z (loop-more at body i n (s i) w ∙ ap (λ (t : A × List ℕ). run at (loop body (suc i) n t.0) t.1) (turn i)
     ∙ loop_gives at body w s turn (suc i) n)
 
-put_again : (xs : List Export) (name : List ℕ) (x : Address) → put_usable (put_usable xs name x) name x ≡ put_usable xs name x
+put_again : (xs : List Export) (name : List ℕ) (x : Option ℕ) → put_usable (put_usable xs name x) name x ≡ put_usable xs name x
 unfolding put_usable
-put_again xs name (At a) = put_twice xs name a
-put_again xs name Nowhere = refl
+put_again xs name (Some a) = put_twice xs name a
+put_again xs name None = refl
 
 module _ (at : ℕ) (w : List ℕ) (base : ℕ) where
   abbrev pub header_word : ℕ → ℕ
@@ -59,7 +57,7 @@ module _ (at : ℕ) (w : List ℕ) (base : ℕ) where
   abbrev pub name_of : ℕ → List ℕ
   name_of i = (run at (name_at (word_at at w (named_entry i))) w).0
 
-  abbrev pub address_of : ℕ → Address
+  abbrev pub address_of : ℕ → Option ℕ
   address_of i = (run at (tag_to_address base (word_at at w (named_entry i ⊕ 4))) w).0
 
   unfoldable pub named_to : ℕ → List Export

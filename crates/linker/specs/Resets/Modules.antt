@@ -1,10 +1,9 @@
 -- All modules in load order but the one that an unload removes, as a walk over the records leaves it out.
-use Rattle.std.specs.Prelude.{if◌then◌else◌, ◌≡◌, ℕ, suc, ◌+◌, ◌<◌, ◌≤◌, Bool, true, false, List, [], ◌∷◌, ◌++◌, length, ◌==◌, nat_eq, refl}
+use Rattle.std.specs.Prelude.{if◌then◌else◌, ◌≡◌, ℕ, suc, ◌+◌, ◌<◌, ◌≤◌, Bool, true, false, List, [], ◌∷◌, ◌++◌, length, ◌==◌, nat_eq, refl, Some, None}
 use Rattle.std.proofs.Common.{sym, ap, ◌∙◌, arith, eq-eqb, ne_eqb}
 use Rattle.window.specs.Access.{Prog, ret}
 use Rattle.register.specs.Module.{Module}
 use Rattle.register.specs.Change.{without}
-use Rattle.register.specs.declared.exports.Found.TheVariants as found
 use Rattle.register.specs.declared.read.Record.{Record}
 use Rattle.register.specs.Read.Read.{Encoded, modules_of, module_bytes, place_from, place_after, has_base, module_at}
 use Rattle.register.specs.Read.Encoded.{first-placed}
@@ -55,7 +54,7 @@ without_is [] m after = refl
 without_is (b ∷ before) m after = ap (λ t. b ∷ t) (without_is before m after)
 
 first_is
-    : (base p i : ℕ) (before : List Module) (m : Module) (after : List Module) → place_from p before (has_base base) ≡ found.Nothing
+    : (base p i : ℕ) (before : List Module) (m : Module) (after : List Module) → place_from p before (has_base base) ≡ None
     → has_base base m ≡ true → first_with_base base (before ++ (m ∷ after)) i ≡ stands m (i + length before)
 unfolding place_from has_base first_with_base
 first_is base p i [] m after e h = let z : i + 0 ≡ i = omega arith in rw (h, z)
@@ -64,8 +63,8 @@ first_is base p i (b ∷ before) m after e h =
     go (b.base == base) e (λ k. first_is base (p + module_bytes b) (suc i) before m after k h ∙ ap (stands m) z)
   where
     go
-        : (t : Bool) → (if t then found.At p else place_from (p + module_bytes b) before (has_base base)) ≡ found.Nothing
-        → (place_from (p + module_bytes b) before (has_base base) ≡ found.Nothing
+        : (t : Bool) → (if t then Some p else place_from (p + module_bytes b) before (has_base base)) ≡ None
+        → (place_from (p + module_bytes b) before (has_base base) ≡ None
         → first_with_base base (before ++ (m ∷ after)) (suc i) ≡ stands m (i + suc (length before)))
         → (if t then stands b i else first_with_base base (before ++ (m ∷ after)) (suc i)) ≡ stands m (i + suc (length before))
     go true e k = let z : ◌≡◌ {A = ℕ} 0 1 = cc in absurd (omega arith)
@@ -73,7 +72,7 @@ first_is base p i (b ∷ before) m after e h =
 
 pub gone_is
     : (records names : List ℕ) (base : ℕ) {place : ℕ} → Encoded records names
-    → place_from 32 (modules_of records names) (has_base base) ≡ found.At place
+    → place_from 32 (modules_of records names) (has_base base) ≡ Some place
     → (k : ℕ)
     × ((first_with_base base (modules_of records names) 0 ≡ stands (module_at records names place) k)
     × (other_than place 32 (modules_of records names) ≡ without (modules_of records names) k))

@@ -1,13 +1,10 @@
 -- A batch with or without its symbol, and a module entry's imports once its words are read.
-use Rattle.std.specs.Prelude.{◌≡◌, ℕ, true}
+use Rattle.std.specs.Prelude.{◌≡◌, ℕ, true, Option, Some, None}
 use Rattle.std.proofs.Common.{ap}
-use Rattle.std.proofs.Math.Option.{Option}
 use Rattle.window.specs.Access.{Prog, ret, ◌>>=◌}
 use Rattle.window.specs.Trace.{State, run_t}
 use Rattle.window.specs.TraceRuns.{left, gives, then_it}
 use Rattle.register.specs.Module.{Module}
-use Rattle.register.specs.declared.read.Symbol.{Symbol}
-use Rattle.register.specs.declared.read.Symbol.TheVariants.{At, Nothing}
 use Rattle.linker_spec.specs.Relocation.{apply_relocation_batch}
 use Rattle.linker_spec.specs.Imports.{resolve, imports_of}
 use Rattle.linker.specs.Sources.Source.{tables_of, link_tables}
@@ -19,13 +16,13 @@ paired at m s e = ap (λ u. ((run_t at m s).0, u)) e
 
 -- a symbol for a batch
 
-module _ (at base batch : ℕ) (s : State) {symbol : Symbol} where
-  pub unresolved_stays : symbol ≡ Nothing → s ≡ (run_t at (resolve base batch symbol) s).1
+module _ (at base batch : ℕ) (s : State) {symbol : Option ℕ} where
+  pub unresolved_stays : symbol ≡ None → s ≡ (run_t at (resolve base batch symbol) s).1
   unfolding resolve run_t
   unresolved_stays e = rw (e, resolve, run_t)
 
   pub resolved_by
-      : {a n : ℕ} {v : State} → symbol ≡ At a → (n, v) ≡ run_t at (apply_relocation_batch base batch a true) s
+      : {a n : ℕ} {v : State} → symbol ≡ Some a → (n, v) ≡ run_t at (apply_relocation_batch base batch a true) s
       → v ≡ (run_t at (resolve base batch symbol) s).1
   unfolding resolve run_t
   resolved_by {a = a} e h = rw (e, resolve) (ap left (gives at (apply_relocation_batch base batch a true) s (λ _. ret tt) h))

@@ -1,6 +1,5 @@
 -- The two tables of a module entry under one definition.
-use Rattle.std.specs.Prelude.{ℕ}
-use Rattle.std.proofs.Math.Option.{Option}
+use Rattle.std.specs.Prelude.{ℕ, Option}
 use Rattle.window.specs.Memory.{◌⊕◌}
 use Rattle.window.specs.Access.{Prog, ret, ◌>>=◌, get32}
 use Rattle.window.specs.Loop.{loop}
@@ -8,14 +7,13 @@ use Rattle.layout.specs.Header.{import_indexed_symbol_entry_size}
 use Rattle.layout.specs.Segments.{entry_at}
 use Rattle.register.specs.Module.{Module}
 use Rattle.register.specs.Read.Read.{entry_of}
-use Rattle.register.specs.declared.read.Symbol.{Symbol}
 use Rattle.linker_spec.specs.Imports.{anonymous_of, import_from, link_from}
 use Rattle.linker.specs.declared.sources.source.ImportTable.{ImportTable}
 use Rattle.linker.specs.declared.sources.source.ImportTable.TheVariants.{Indexed, Anonymous}
 use Rattle.linker.specs.declared.sources.source.ModuleTables.{ModuleTables}
 
 -- what a table's number stands for: an index, or a tag
-unfoldable pub symbol_of : ImportTable → Module → ℕ → Symbol
+unfoldable pub symbol_of : ImportTable → Module → ℕ → Option ℕ
 symbol_of Indexed m x = entry_of m.indexed x
 symbol_of Anonymous m x = anonymous_of m x
 

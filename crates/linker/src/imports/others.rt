@@ -6,10 +6,11 @@ ghost use Rattle.linker_spec.specs.Imports.{serve_named, serve_module, serve, ap
 ghost use Rattle.linker.specs.Imports.Served.{serve_all_named, serve_all_modules};
 ghost use Rattle.linker.specs.Imports.Modules.{but_last};
 
+use crate::entries::for_each_entry;
 use crate::sources::batch::{is_unresolved, resolve};
 use crate::sources::names::{export_of, is_name};
 use crate::sources::source::{link_from, tables_of};
-use layout::fields::{entry_address, field};
+use layout::fields::field;
 use layout::format::{IMPORT_MODULE_ENTRY_SIZE, IMPORT_NAMED_SYMBOL_ENTRY_SIZE};
 use layout::header::{
     IMPORT_MODULE_NUM, IMPORT_MODULE_TABLE_OFFSET, IMPORT_NAMED_SYMBOL_NUM,
@@ -17,7 +18,6 @@ use layout::header::{
 };
 use register::read::modules::module_count;
 use register::read::{record_at, record_end, record_name};
-use window::outside::silent_stride;
 
 // One named import, if it still waits and the module exports its name.
 fn serve_named(
@@ -80,19 +80,15 @@ fn serve_all_named(
 {
     let table = field(at, w, trace, base, IMPORT_NAMED_SYMBOL_TABLE_OFFSET);
     let count = field(at, w, trace, base, IMPORT_NAMED_SYMBOL_NUM);
-    let mut index: u32 = 0;
-    while index < count {
-        let entry = entry_address(table, index, IMPORT_NAMED_SYMBOL_ENTRY_SIZE);
-        serve_named(at, w, trace, records, names, place, base, entry);
-        index += silent_stride(
-            at,
-            w.len(),
-            trace,
-            entry,
-            IMPORT_NAMED_SYMBOL_ENTRY_SIZE,
-            count - index,
-        );
-    }
+    for_each_entry(
+        at,
+        w,
+        trace,
+        table,
+        count,
+        IMPORT_NAMED_SYMBOL_ENTRY_SIZE,
+        |w, trace, entry| serve_named(at, w, trace, records, names, place, base, entry),
+    );
 }
 
 // The module entries of the module at base.
@@ -110,19 +106,15 @@ fn serve_all_modules(
 {
     let table = field(at, w, trace, base, IMPORT_MODULE_TABLE_OFFSET);
     let count = field(at, w, trace, base, IMPORT_MODULE_NUM);
-    let mut index: u32 = 0;
-    while index < count {
-        let entry = entry_address(table, index, IMPORT_MODULE_ENTRY_SIZE);
-        serve_module(at, w, trace, records, names, place, base, entry);
-        index += silent_stride(
-            at,
-            w.len(),
-            trace,
-            entry,
-            IMPORT_MODULE_ENTRY_SIZE,
-            count - index,
-        );
-    }
+    for_each_entry(
+        at,
+        w,
+        trace,
+        table,
+        count,
+        IMPORT_MODULE_ENTRY_SIZE,
+        |w, trace, entry| serve_module(at, w, trace, records, names, place, base, entry),
+    );
 }
 
 // Resolves the imports of the module at base that the module at the place satisfies.
@@ -160,11 +152,9 @@ pub(crate) fn apply_exports_to_loaded(
 {
     let count = module_count(records);
     let mut next: usize = 32;
-    let mut k: u32 = 1;
-    while k < count {
+    for k in 1..count {
         let record = record_at(records, next);
         serve(at, w, trace, records, names, place, record.base);
         next = record_end(record);
-        k += 1;
     }
 }

@@ -6,6 +6,7 @@ ghost use Rattle.register.specs.Read.Read.{Encoded, modules_of};
 ghost use Rattle.linker_spec.specs.Imports.{import_named, apply_import_named_symbols, import_module, apply_module_imports};
 ghost use Rattle.linker.specs.Imports.Missing.{imported, MissingAdded};
 
+use crate::entries::for_each_entry;
 use crate::relocation::apply_relocation_batch;
 use crate::sources::batch::is_unresolved;
 use crate::sources::names::module_by_name;
@@ -16,9 +17,7 @@ use layout::header::{
     IMPORT_MODULE_NUM, IMPORT_MODULE_TABLE_OFFSET, IMPORT_NAMED_SYMBOL_NUM,
     IMPORT_NAMED_SYMBOL_TABLE_OFFSET,
 };
-use register::exports::Found;
 use register::header::missing::push_missing;
-use register::read::Symbol;
 use register::read::modules::lookup;
 use window::name::read_name;
 use window::outside::silent_stride;
@@ -46,10 +45,10 @@ fn import_named(
         let mut buffer = [0u8; 512];
         let n = read_name(at, w, trace, address, &mut buffer);
         match lookup(records, names, &buffer[..n]) {
-            Symbol::At(symbol) => {
+            Some(symbol) => {
                 apply_relocation_batch(at, w, trace, base, batch, symbol, true);
             }
-            Symbol::Nothing => {
+            None => {
                 push_missing(records, missing, &buffer[..n]);
             }
         }
@@ -75,6 +74,7 @@ pub(crate) fn apply_import_named_symbols(
     let table = field(at, w, trace, base, IMPORT_NAMED_SYMBOL_TABLE_OFFSET);
     let count = field(at, w, trace, base, IMPORT_NAMED_SYMBOL_NUM);
     let mut index: u32 = 0;
+    // Not `for_each_entry`: a turn writes records and missing too, and its contract is of closures that change no capture.
     while index < count {
         let entry = entry_address(table, index, IMPORT_NAMED_SYMBOL_ENTRY_SIZE);
         import_named(at, w, trace, records, names, missing, base, entry);
@@ -105,7 +105,7 @@ fn import_module(
     let address = window::read32(at, w, trace, entry);
     let found = module_by_name(at, w, trace, records, names, address);
     let tables = tables_of(at, w, trace, entry);
-    let Found::At(place) = found else {
+    let Some(place) = found else {
         return;
     };
     link_from(at, w, trace, records, place, base, tables);
@@ -125,17 +125,13 @@ pub(crate) fn apply_module_imports(
 {
     let table = field(at, w, trace, base, IMPORT_MODULE_TABLE_OFFSET);
     let count = field(at, w, trace, base, IMPORT_MODULE_NUM);
-    let mut index: u32 = 0;
-    while index < count {
-        let entry = entry_address(table, index, IMPORT_MODULE_ENTRY_SIZE);
-        import_module(at, w, trace, records, names, base, entry);
-        index += silent_stride(
-            at,
-            w.len(),
-            trace,
-            entry,
-            IMPORT_MODULE_ENTRY_SIZE,
-            count - index,
-        );
-    }
+    for_each_entry(
+        at,
+        w,
+        trace,
+        table,
+        count,
+        IMPORT_MODULE_ENTRY_SIZE,
+        |w, trace, entry| import_module(at, w, trace, records, names, base, entry),
+    );
 }

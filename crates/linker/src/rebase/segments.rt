@@ -1,18 +1,17 @@
 // The segments of a load: code and read-only data stay in the module's image, Data and Bss get places of their own.
-ghost use Rattle.std.specs.Prelude.{◌≡◌, length};
+ghost use Rattle.std.specs.Prelude.{◌≡◌, length, Some};
 ghost use Rattle.window.specs.Trace.{run_t};
 ghost use Rattle.window.specs.Outside.{silent_stride};
 ghost use Rattle.layout.specs.Header.{segment_entry_size};
 ghost use Rattle.layout.specs.Segments.{segment_place};
-ghost use Rattle.linker_spec.specs.declared.rebase.Moved.TheVariants.{OldPlace};
 ghost use Rattle.linker_spec.specs.Rebase.{at_offset, lent_place, moved_place, place, write_back, move_segment, move_segments, look_at_segments};
 
 use layout::fields::{entry_address, field};
 use layout::format::{SEGMENT_ENTRY_SIZE, Segment, SegmentType};
 use layout::header::{SEGMENT_NUM, SEGMENT_TABLE_OFFSET};
 use layout::peek;
-use layout::segments::{FoundSegment, segment, set_segment};
-use linker_spec::rebase::{LoadArguments, Moved, Placed};
+use layout::segments::{segment, set_segment};
+use linker_spec::rebase::LoadArguments;
 use window::outside::silent_stride;
 
 // The segment at another offset.
@@ -28,31 +27,31 @@ pub(crate) fn at_offset(s: Segment, offset: u32) -> Segment
 }
 
 // Data or Bss in the room lent for it, if that suffices.
-fn lent_place(s: Segment, address: u32, size: u32, old: u32) -> Placed
+fn lent_place(s: Segment, address: u32, size: u32, old: u32) -> Option<(Segment, u32)>
     ensures { result ≡ lent_place s address size old }
 {
     if s.size > size {
-        return Placed::Refused;
+        return None;
     }
-    Placed::Put(at_offset(s, address), old)
+    Some((at_offset(s, address), old))
 }
 
 // A segment that stays in the image, unless it would start past the end of it.
-fn moved_place(lent: LoadArguments, s: Segment, old: u32) -> Placed
+fn moved_place(lent: LoadArguments, s: Segment, old: u32) -> Option<(Segment, u32)>
     ensures { result ≡ moved_place lent s old }
 {
     if s.offset == 0 {
-        return Placed::Put(s, old);
+        return Some((s, old));
     }
     let offset = std::num::wrapping_add_u32(s.offset, lent.base);
     if offset > std::num::wrapping_add_u32(lent.base, lent.size) {
-        return Placed::Refused;
+        return None;
     }
-    Placed::Put(at_offset(s, offset), old)
+    Some((at_offset(s, offset), old))
 }
 
 // Where a load puts a segment; `old` is Data's old place so far.
-fn place(lent: LoadArguments, s: Segment, old: u32) -> Placed
+fn place(lent: LoadArguments, s: Segment, old: u32) -> Option<(Segment, u32)>
     ensures { result ≡ place lent s s.kind old }
 {
     let kind = s.kind;
@@ -82,15 +81,13 @@ fn write_back(
     trace: &mut [u8],
     base: u32,
     index: u32,
-    placed: Placed,
-) -> Moved
+    placed: Option<(Segment, u32)>,
+) -> Option<u32>
     ensures { (result, (w.new, trace.new)) ≡ run_t at (write_back base index placed) (w.old, trace.old) }
 {
-    let Placed::Put(s, old) = placed else {
-        return Moved::Bad;
-    };
+    let (s, old) = placed?;
     set_segment(at, w, trace, base, index, s);
-    Moved::OldPlace(old)
+    Some(old)
 }
 
 // Moves one segment; a lookup that finds none passes it over.
@@ -101,12 +98,12 @@ fn move_segment(
     lent: LoadArguments,
     index: u32,
     old: u32,
-) -> Moved
-    ensures { (result, (w.new, trace.new)) ≡ run_t at (move_segment lent index (OldPlace old)) (w.old, trace.old) }
+) -> Option<u32>
+    ensures { (result, (w.new, trace.new)) ≡ run_t at (move_segment lent index (Some old)) (w.old, trace.old) }
 {
     let base = lent.base;
-    let FoundSegment::Found(s) = segment(at, w, trace, base, index) else {
-        return Moved::OldPlace(old);
+    let Some(s) = segment(at, w, trace, base, index) else {
+        return Some(old);
     };
     write_back(at, w, trace, base, index, place(lent, s, old))
 }
@@ -128,21 +125,24 @@ pub(crate) fn segment_stride(
 }
 
 // Moves the segments in order, up to the first that is refused.
-pub(crate) fn move_segments(at: u32, w: &mut [u8], trace: &mut [u8], lent: LoadArguments) -> Moved
+pub(crate) fn move_segments(
+    at: u32,
+    w: &mut [u8],
+    trace: &mut [u8],
+    lent: LoadArguments,
+) -> Option<u32>
     ensures { (result, (w.new, trace.new)) ≡ run_t at (move_segments lent) (w.old, trace.old) }
 {
     let base = lent.base;
     let count = field(at, w, trace, base, SEGMENT_NUM);
     let mut old: u32 = 0;
     let mut index: u32 = 0;
+    // No range gives the indices: a turn goes on by its stride, and it needs the index, which `for_each_entry` does not give.
     while index < count {
-        let Moved::OldPlace(next) = move_segment(at, w, trace, lent, index, old) else {
-            return Moved::Bad;
-        };
-        old = next;
+        old = move_segment(at, w, trace, lent, index, old)?;
         index += segment_stride(at, w, trace, base, index, count - index);
     }
-    Moved::OldPlace(old)
+    Some(old)
 }
 
 // Looks every segment up and changes none. Once a touch is kept the lookups left cannot add one, however many a false count asks for.

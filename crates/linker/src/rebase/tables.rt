@@ -7,11 +7,11 @@ ghost use Rattle.layout.specs.Segments.{entry_at};
 ghost use Rattle.layout.specs.Tables.{pointer_tables};
 ghost use Rattle.linker_spec.specs.Rebase.{move_pointers, pointers_of, move_table, move_tables};
 
+use crate::entries::for_each_entry;
 use crate::rebase::words::{move_word, move_word_in};
 use layout::fields::{entry_address, field};
 use layout::tables::{PointerTable, pointer_table};
-use window::outside::silent_stride;
-use window::row::{Row, row_of};
+use window::row::row_of;
 
 // Moves the pointers of one entry.
 fn move_pointers(
@@ -109,13 +109,22 @@ fn move_entries(
 )
     ensures { (w.new, trace.new) ≡ (run_t at (loop (λ i _. move_pointers forward base (entry_at table i t.entry_size) (pointers_of t)) 0 count tt) (w.old, trace.old)).1 }
 {
-    let size = if pointers_within(t) { t.entry_size } else { 0 };
-    let mut index: u32 = 0;
-    while index < count {
-        let entry = entry_address(table, index, t.entry_size);
-        move_pointers(at, w, trace, forward, base, entry, t);
-        index += silent_stride(at, w.len(), trace, entry, size, count - index);
+    if !pointers_within(t) {
+        for index in 0..count {
+            let entry = entry_address(table, index, t.entry_size);
+            move_pointers(at, w, trace, forward, base, entry, t);
+        }
+        return;
     }
+    for_each_entry(
+        at,
+        w,
+        trace,
+        table,
+        count,
+        t.entry_size,
+        |w, trace, entry| move_pointers(at, w, trace, forward, base, entry, t),
+    );
 }
 
 // Moves the pointers of each entry of one table, unless its offset is 0.
@@ -130,7 +139,7 @@ fn move_table(at: u32, w: &mut [u8], trace: &mut [u8], forward: bool, base: u32,
     if t.pointers == 1 {
         if pointers_within(t) {
             let bytes = (count as usize) * (t.entry_size as usize);
-            if let Row::At(start) = row_of(at, w.len(), table, bytes) {
+            if let Some(start) = row_of(at, w.len(), table, bytes) {
                 move_single(w, forward, base, start, t.first, t.entry_size, count);
                 return;
             }

@@ -4,7 +4,6 @@ ghost use Rattle.window.specs.Trace.{run_t};
 ghost use Rattle.linker_spec.specs.Imports.{is_unresolved, resolve};
 
 use crate::relocation::{apply_relocation_batch, batch_is_resolved};
-use register::read::Symbol;
 
 // Whether a batch still waits for its symbol: one at 0 does not, and is not read.
 pub(crate) fn is_unresolved(at: u32, w: &[u8], trace: &mut [u8], batch: u32) -> bool
@@ -23,11 +22,11 @@ pub(crate) fn resolve(
     trace: &mut [u8],
     base: u32,
     batch: u32,
-    symbol: Symbol,
+    symbol: Option<u32>,
 )
     ensures { (w.new, trace.new) ≡ (run_t at (resolve base batch symbol) (w.old, trace.old)).1 }
 {
-    let Symbol::At(address) = symbol else {
+    let Some(address) = symbol else {
         return;
     };
     apply_relocation_batch(at, w, trace, base, batch, address, true);

@@ -5,9 +5,9 @@ ghost use Rattle.window.specs.Name.{name_at};
 ghost use Rattle.register.specs.Words.{same};
 ghost use Rattle.register.specs.Read.Read.{Encoded, modules_of, place_from, has_name, export_of, module_at, Sorted};
 
-use register::exports::{Found, same_name};
+use register::exports::same_name;
+use register::read::export_named;
 use register::read::modules::first_with_name;
-use register::read::{Symbol, export_named};
 use window::name::read_name;
 
 // Where the record of the first module with the name at `address` begins.
@@ -18,7 +18,7 @@ pub(crate) fn module_by_name(
     records: &[u8],
     names: &[u8],
     address: u32,
-) -> Found
+) -> Option<usize>
     requires { Encoded records.now names.now }
     ensures { (result ≡ place_from 32 (modules_of records.now names.now)
         (has_name (run_t at (name_at address) (w.now, trace.old)).0))
@@ -38,7 +38,7 @@ pub(crate) fn export_of(
     names: &[u8],
     place: usize,
     address: u32,
-) -> Symbol
+) -> Option<u32>
     requires { Sorted records.now names.now place }
     ensures { (result ≡ export_of (module_at records.now names.now place) (run_t at (name_at address) (w.now, trace.old)).0)
         × ((w.now, trace.new) ≡ (run_t at (name_at address) (w.now, trace.old)).1) }

@@ -1,16 +1,14 @@
 // Imports by index and by tag, from the module whose record begins at a place.
-ghost use Rattle.std.specs.Prelude.{◌≡◌, ℕ, List};
-ghost use Rattle.std.proofs.Math.Option.{some};
+ghost use Rattle.std.specs.Prelude.{◌≡◌, ℕ, List, Some};
 ghost use Rattle.window.specs.Trace.{run_t};
 ghost use Rattle.register.specs.Read.Read.{module_at};
 ghost use Rattle.linker_spec.specs.Imports.{anonymous_of, import_from};
 ghost use Rattle.linker.specs.Sources.Source.{symbol_of, import_table, tables_of, link_tables};
 
+use crate::entries::for_each_entry;
 use crate::sources::batch::{is_unresolved, resolve};
-use layout::fields::entry_address;
 use layout::format::{IMPORT_INDEXED_SYMBOL_ENTRY_SIZE, SegmentTag};
-use register::read::{Symbol, export_indexed, segment_address};
-use window::outside::silent_stride;
+use register::read::{export_indexed, segment_address};
 
 // The two tables of a module entry; the entries of both have the same size.
 #[derive(Clone, Copy)]
@@ -29,17 +27,15 @@ pub(crate) struct ModuleTables {
 }
 
 // An anonymous export: the segment's address and the offset, the segment's size untested.
-fn anonymous_address(records: &[u8], place: usize, tag: SegmentTag) -> Symbol
+fn anonymous_address(records: &[u8], place: usize, tag: SegmentTag) -> Option<u32>
     ensures { (names : List ℕ) → result ≡ anonymous_of (module_at records.now names place) tag.0 }
 {
-    let Symbol::At(start) = segment_address(records, place, tag.segment()) else {
-        return Symbol::Nothing;
-    };
-    Symbol::At(std::num::wrapping_add_u32(start, tag.offset()))
+    let start = segment_address(records, place, tag.segment())?;
+    Some(std::num::wrapping_add_u32(start, tag.offset()))
 }
 
 // What a table's number stands for: an index, or a tag.
-fn symbol_of(records: &[u8], place: usize, kind: ImportTable, number: u32) -> Symbol
+fn symbol_of(records: &[u8], place: usize, kind: ImportTable, number: u32) -> Option<u32>
     ensures { (names : List ℕ) → result ≡ symbol_of kind (module_at records.now names place) number }
 {
     match kind {
@@ -91,19 +87,15 @@ fn import_table(
     ensures { (names : List ℕ) → (w.new, trace.new)
         ≡ (run_t at (import_table kind (module_at records.now names place) base table count) (w.old, trace.old)).1 }
 {
-    let mut index: u32 = 0;
-    while index < count {
-        let entry = entry_address(table, index, IMPORT_INDEXED_SYMBOL_ENTRY_SIZE);
-        import_from(at, w, trace, records, place, kind, base, entry);
-        index += silent_stride(
-            at,
-            w.len(),
-            trace,
-            entry,
-            IMPORT_INDEXED_SYMBOL_ENTRY_SIZE,
-            count - index,
-        );
-    }
+    for_each_entry(
+        at,
+        w,
+        trace,
+        table,
+        count,
+        IMPORT_INDEXED_SYMBOL_ENTRY_SIZE,
+        |w, trace, entry| import_from(at, w, trace, records, place, kind, base, entry),
+    );
 }
 
 // Where the two tables of the module entry at `entry` are, and how many imports each has.
@@ -133,7 +125,7 @@ pub(crate) fn link_from(
     tables: ModuleTables,
 )
     ensures { (names : List ℕ) → (w.new, trace.new)
-        ≡ (run_t at (link_tables (some (module_at records.now names place)) base tables) (w.old, trace.old)).1 }
+        ≡ (run_t at (link_tables (Some (module_at records.now names place)) base tables) (w.old, trace.old)).1 }
 {
     import_table(
         at,

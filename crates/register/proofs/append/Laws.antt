@@ -1,94 +1,88 @@
 -- From the code's loops and tests to the definitions of `Draft`.
-use Rattle.std.specs.Prelude.{if◌then◌else◌}
-use Rattle.std.proofs.Common.{◌≡◌, ℕ, suc, ◌+◌, ◌-◌, ◌%◌, ◌^◌, ◌<◌, ◌≤◌, Bool, true, false, leb, List, [], ◌∷◌, ◌++◌, length, get_or, take, drop, set, replicate, sym, refl, ap, ◌∙◌, add-one, arith, length-drop, drop_of_length-le, length-take-le, get_or-drop, drop-cons, take-suc, le-ltb, lt-ltb, le-leb}
-use native.Mathlib.Decide.{dec_le, dec_lt}
-use lib.Seq.{sets, set_out}
+use Rattle.std.specs.Prelude.{if◌then◌else◌, Option, Some, None}
+use Rattle.std.proofs.Common.{◌⊎◌, inl, inr, append_assoc, drop-drop, take-append-drop, ◌≡◌, ℕ, min, suc, ◌+◌, ◌-◌, ◌%◌, ◌^◌, ◌<◌, ◌≤◌, Bool, true, false, leb, List, [], ◌∷◌, ◌++◌, length, take, drop, replicate, sym, refl, ap, ◌∙◌, arith, length-drop, drop_of_length-le, length-take-le, le-ltb, lt-ltb, le-leb}
+use native.Mathlib.Decide.{dec_le}
+use Rattle.std.proofs.Math.Nat.{min-eq_left, min-eq_right}
+use Rattle.std.proofs.lemmas.List.{take-replicate, length-replicate}
+use lib.Seq.{paste, sets, sets-eq, set_out, length-sets}
+use borrow.Rule.Slice.PartMut.{put_mid}
 use borrow.Author.Tests.{lt-leb}
 use Rattle.window.specs.Word.{word_in, set_word_in}
 use Rattle.register.specs.declared.append.draft.Draft.{Draft}
-use Rattle.register.specs.declared.append.draft.Drafted.{Drafted}
-use Rattle.register.specs.declared.append.draft.Drafted.TheVariants.{Open, Full}
 use Rattle.register.specs.Words.{part, flat}
 use Rattle.register.specs.Buffers.{length-flat}
-use Rattle.register.specs.Append.Sets.{sets_append, set_before, sets_before, get_d_below, get_d_above, two-words}
+use Rattle.register.specs.Append.Sets.{sets_append, sets_before, two-words}
 use Rattle.register.specs.Append.Draft.{room_in, room-inside, room_word, longer, push_word, opened, opened-parts, count_up, push_listed, export_fits, finish_record}
-
--- a copy, i bytes of it made
-pub copy_turn
-    : (b source : List ℕ) (to i : ℕ) → i < length source
-    → sets (set b to (get_or source i 0)) (to + 1) (drop (i + 1) source) ≡ sets b to (drop i source)
-copy_turn b source to i h =
-    let e₁ : to + 1 ≡ suc to = omega arith in
-    let e₂ : i + 1 ≡ suc i = omega arith in
-    rw (e₁, e₂, drop-cons source i 0 h)
-
-pub copy_end : (b source : List ℕ) (to i : ℕ) → length source ≤ i → b ≡ sets b to (drop i source)
-copy_end b source to i h = rw (drop_of_length-le source h)
 
 -- past the end nothing is stored
 pub sets_past : (b vs : List ℕ) (i : ℕ) → length b ≤ i → b ≡ sets b i vs
 sets_past b [] i h = refl
 sets_past b (v ∷ vs) i h = sets_past b vs (suc i) (omega arith) ∙ ap (λ t. sets t (suc i) vs) (sym (set_out b i v h))
 
--- zeros, from i up to `to`
-pub clear-turn
-    : (b : List ℕ) (to i : ℕ) → i < to → sets (set b i 0) (i + 1) (replicate (to - (i + 1)) 0) ≡ sets b i (replicate (to - i) 0)
-clear-turn b to i h = let e : to - i ≡ suc (to - (i + 1)) = omega arith in rw (e, add-one)
+-- n bytes put in the place of those from `to` on
+pub pasted : (l : List ℕ) (to n : ℕ) (vs : List ℕ) → n ≤ length vs → to + n ≤ length l → paste l to vs n ≡ sets l to (take n vs)
+pasted l to n vs h g =
+    let m : length (take n vs) ≡ n = length-take-le n vs h in
+    sym (sets-eq (take n vs) l to (omega (arith, m)) ∙ ap (λ k. take to l ++ take n vs ++ drop (to + k) l) m)
 
-pub clear_end : (b : List ℕ) (to i : ℕ) → to ≤ i → b ≡ sets b i (replicate (to - i) 0)
-clear_end b to i h = let e : to - i ≡ 0 = omega arith in rw e
-
--- bytes copied, the first i done
-
-within_read
-    : (l : List ℕ) (from to count i : ℕ) → from + count ≤ length l → i < count → (to < from + count → to ≤ from)
-    → get_or (sets l to (part l from i)) (from + i) 0 ≡ get_or l (from + i) 0
+-- a copy within the bytes
+pub copied_within
+    : (l : List ℕ) (from to n : ℕ) → from + n ≤ length l → to + n ≤ length l → paste l to (drop from l) n ≡ sets l to (part l from n)
 unfolding part
-within_read l from to count i h g ahead = elim (dec_le to from) [
-  | yes y ↦ get_d_above l to (take i (drop from l)) (from + i)
-      (omega (arith, length-take-le i (drop from l) (omega (arith, length-drop from l))))
-  | no y ↦ get_d_below l to (take i (drop from l)) (from + i) (elim (dec_lt to (from + count)) [
-    | yes z ↦ absurd (y (ahead z))
-    | no z ↦ omega arith
-  ])
+copied_within l from to n h g = pasted l to n (drop from l) (omega (arith, length-drop from l)) g
+
+-- those of a run that the bytes have room for, written over a part of them
+pub put_run
+    : (l vs : List ℕ) (from n : ℕ) → from + n ≤ length l → n ≤ length vs → ((n ≡ length vs) ⊎ (from + n ≡ length l))
+    → put_mid from n l (take n vs) ≡ sets l from vs
+put_run l vs from n h g whole =
+    let m : length (take n vs) ≡ n = length-take-le n vs g in
+    let some : put_mid from n l (take n vs) ≡ sets l from (take n vs) =
+    sym (sets-eq (take n vs) l from (omega (arith, m)) ∙ append_assoc (take from l) (take n vs) (drop (from + length (take n vs)) l)
+    ∙ ap (λ t. take from l ++ (take n vs ++ t)) (ap (λ k. drop (from + k) l) m ∙ sym (drop-drop n from l))) in
+    some ∙ rest whole ∙ sym (sets_append l from (take n vs) (drop n vs)) ∙ ap (sets l from) (take-append-drop n vs)
+  where
+    rest : ((n ≡ length vs) ⊎ (from + n ≡ length l)) → sets l from (take n vs) ≡ sets (sets l from (take n vs)) (from + length (take n vs)) (drop n vs)
+    rest w = elim w [
+      | inl e ↦ (let over : length vs ≤ n = omega (arith, e) in rw (drop_of_length-le vs over))
+      | inr e ↦ sets_past (sets l from (take n vs)) (drop n vs) (from + length (take n vs))
+          (omega (arith, e, length-take-le n vs g, length-sets l from (take n vs)))
+    ]
+
+-- zeros from `from` up to `to`, as far as there are bytes
+
+least : (a b n : ℕ) → n ≡ min a b → (n ≤ a) × (n ≤ b) × ((n ≡ a) ⊎ (n ≡ b))
+least a b n e = elim (dec_le a b) [
+  | yes l ↦ let m : n ≡ a = e ∙ min-eq_left l in (omega (arith, m), omega (arith, m), inl m)
+  | no l ↦ let m : n ≡ b = e ∙ min-eq_right (omega arith) in (omega (arith, m), omega (arith, m), inr m)
 ]
 
-pub within-turn
-    : (l : List ℕ) (from to count i : ℕ) {b : List ℕ} → from + count ≤ length l → i < count → (to < from + count → to ≤ from)
-    → b ≡ sets l to (part l from i) → set b (to + i) (get_or b (from + i) 0) ≡ sets l to (part l from (i + 1))
-unfolding part
-within-turn l from to count i h g ahead e =
-    let n : length (take i (drop from l)) ≡ i = length-take-le i (drop from l) (omega (arith, length-drop from l)) in
-    rw (e, add-one, take-suc (drop from l) i 0 (omega (arith, length-drop from l)), get_or-drop from l i 0)
-    (ap (set (sets l to (take i (drop from l))) (to + i)) (within_read l from to count i h g ahead)
-    ∙ ap (λ k. set (sets l to (take i (drop from l))) (to + k) (get_or l (from + i) 0)) (sym n)
-    ∙ sym (sets_append l to (take i (drop from l)) (get_or l (from + i) 0 ∷ [])))
+module _ (l : List ℕ) (from to end : ℕ) (e : end ≡ min to (length l)) where
+  pub clear_some
+      : {zeros : List ℕ} → from < end → zeros ≡ replicate (length (take (end - from) (drop from l))) 0
+      → put_mid from (end - from) l zeros ≡ sets l from (replicate (to - from) 0)
+  clear_some h f =
+      let m = least to (length l) end e in
+      let n : length (take (end - from) (drop from l)) ≡ end - from = length-take-le (end - from) (drop from l) (omega (arith, length-drop from l, m.1)) in
+      let r : length (replicate {A = ℕ} (to - from) 0) ≡ to - from = length-replicate (to - from) 0 in
+      ap (put_mid from (end - from) l) (f ∙ ap (λ k. replicate k 0) n ∙ sym (take-replicate (end - from) (to - from) 0 (omega (arith, m.0))))
+      ∙ put_run l (replicate (to - from) 0) from (end - from) (omega (arith, m.1)) (omega (arith, r, m.0))
+      (elim m.2 [ inl z ↦ inl (omega (arith, r, z)) | inr z ↦ inr (omega (arith, z)) ])
 
--- bytes moved up by 8, those from i on done
+  pub clear_none : end ≤ from → l ≡ sets l from (replicate (to - from) 0)
+  clear_none h = elim (least to (length l) end e).2 [
+    | inl z ↦ (let n : to - from ≡ 0 = omega (arith, z) in rw n)
+    | inr z ↦ sets_past l (replicate (to - from) 0) from (omega (arith, z))
+  ]
 
-pub up_none : (l : List ℕ) (i : ℕ) → l ≡ sets l (i + 8) (part l i (i - i))
-unfolding part
-up_none l i = let z : i - i ≡ 0 = omega arith in rw z
-
-up_turn
-    : (l : List ℕ) (to i : ℕ) → i < to → to ≤ length l
-    → set (sets l (suc i + 8) (part l (suc i) (to - suc i))) (i + 8) (get_or (sets l (suc i + 8) (part l (suc i) (to - suc i))) i 0)
-    ≡ sets l (i + 8) (part l i (to - i))
-unfolding part
-up_turn l to i h g =
-    let n : to - i ≡ suc (to - suc i) = omega arith in
-    let e : suc i + 8 ≡ suc (i + 8) = omega arith in
-    rw (get_d_below l (suc i + 8) (take (to - suc i) (drop (suc i) l)) i (omega arith))
-    (set_before l (suc i + 8) (take (to - suc i) (drop (suc i) l)) (i + 8) (get_or l i 0) (omega arith)
-    ∙ sym (rw (n, drop-cons l i 0 (omega arith), e)))
-
-pub up_less
-    : (l : List ℕ) (to j : ℕ) {b : List ℕ} → 0 < j → j ≤ to → to ≤ length l → b ≡ sets l (j + 8) (part l j (to - j))
-    → set b (j - 1 + 8) (get_or b (j - 1) 0) ≡ sets l (j - 1 + 8) (part l (j - 1) (to - (j - 1)))
-up_less l to j h k g e =
-    let s : j ≡ suc (j - 1) = omega arith in
-    let f : _ ≡ sets l (suc (j - 1) + 8) (part l (suc (j - 1)) (to - suc (j - 1))) = e ∙ ap (λ i. sets l (i + 8) (part l i (to - i))) s in
-    rw f (up_turn l to (j - 1) (omega arith) g)
+-- the source written, as far as there are bytes
+pub copy_some
+    : (l source : List ℕ) (place n : ℕ) {part : List ℕ} → place ≤ length l → n ≡ min (length source) (length l - place) → part ≡ take n source
+    → put_mid place n l part ≡ sets l place source
+copy_some l source place n h e f =
+    let m = least (length source) (length l - place) n e in
+    ap (put_mid place n l) f
+    ∙ put_run l source place n (omega (arith, m.1)) m.0 (elim m.2 [ inl z ↦ inl z | inr z ↦ inr (omega (arith, z)) ])
 
 -- two words put where there is a gap for them
 pub inserted
@@ -112,12 +106,12 @@ unfolding room_in
 room-large n h = rw (le-ltb n 0xffff_ffff h)
 
 module _ (records : List ℕ) (d : Draft) (v : ℕ) {free : ℕ} (e : free ≡ room_in (length records)) where
-  pub push_full : free < d.end + 4 → ◌≡◌ {A = Drafted × List ℕ} (Full, records) (push_word records d v)
+  pub push_full : free < d.end + 4 → ◌≡◌ {A = Option Draft × List ℕ} (None, records) (push_word records d v)
   unfolding push_word
   push_full h = rw (← e, lt-leb (d.end + 4) free h)
 
   pub push_open
-      : d.end + 4 ≤ free → ◌≡◌ {A = Drafted × List ℕ} (Open (longer d 4), set_word_in records d.end v) (push_word records d v)
+      : d.end + 4 ≤ free → ◌≡◌ {A = Option Draft × List ℕ} (Some (longer d 4), set_word_in records d.end v) (push_word records d v)
   unfolding push_word
   push_open h = rw (← e, le-leb (d.end + 4) free h)
 
@@ -156,51 +150,51 @@ open_places records d e z =
 
 -- a push, seen from its answer
 
-open_same : (a b : Draft) → Open a ≡ Open b → a ≡ b
+open_same : (a b : Draft) → Some a ≡ Some b → a ≡ b
 open_same a b e = cc
 
 pub listed_shut
     : (records : List ℕ) (d : Draft) (v field : ℕ) {t : Bool} → t ≡ opened d records → t ≡ false
-    → ◌≡◌ {A = Drafted × List ℕ} (Full, records) (push_listed records d field v)
+    → ◌≡◌ {A = Option Draft × List ℕ} (None, records) (push_listed records d field v)
 unfolding push_listed
 listed_shut records d v field o z = rw (← o, z)
 
-module _ (records : List ℕ) (d : Draft) (v field : ℕ) {t : Bool} (o : t ≡ opened d records) (y : t ≡ true) {r : Drafted} {after : List ℕ}
-    (e : ◌≡◌ {A = Drafted × List ℕ} (r, after) (push_word records d v)) where
-  pub listed_full : r ≡ Full → ◌≡◌ {A = Drafted × List ℕ} (Full, after) (push_listed records d field v)
+module _ (records : List ℕ) (d : Draft) (v field : ℕ) {t : Bool} (o : t ≡ opened d records) (y : t ≡ true) {r : Option Draft} {after : List ℕ}
+    (e : ◌≡◌ {A = Option Draft × List ℕ} (r, after) (push_word records d v)) where
+  pub listed_full : r ≡ None → ◌≡◌ {A = Option Draft × List ℕ} (None, after) (push_listed records d field v)
   unfolding push_word push_listed
   listed_full z = rw (← o, y) (go (leb (d.end + 4) (room_in (length records))) e)
     where
       go
-          : (b : Bool) → ◌≡◌ {A = Drafted × List ℕ} (r, after) (if b then (Open (longer d 4), set_word_in records d.end v) else (Full, records))
-          → ◌≡◌ {A = Drafted × List ℕ} (Full, after)
-          (if b then (Open (longer d 4), count_up (set_word_in records d.end v) (longer d 4) field) else (Full, records))
-      go true p = let x : r ≡ Open (longer d 4) = ap (λ t. t.0) p in let y : ◌≡◌ {A = ℕ} 0 1 = cc in absurd (omega arith)
+          : (b : Bool) → ◌≡◌ {A = Option Draft × List ℕ} (r, after) (if b then (Some (longer d 4), set_word_in records d.end v) else (None, records))
+          → ◌≡◌ {A = Option Draft × List ℕ} (None, after)
+          (if b then (Some (longer d 4), count_up (set_word_in records d.end v) (longer d 4) field) else (None, records))
+      go true p = let x : r ≡ Some (longer d 4) = ap (λ t. t.0) p in let y : ◌≡◌ {A = ℕ} 0 1 = cc in absurd (omega arith)
       go false p = let x : after ≡ records = ap (λ t. t.1) p in rw x
 
-  pub listed_open : (next : Draft) → r ≡ Open next → ◌≡◌ {A = Drafted × List ℕ} (Open next, count_up after next field) (push_listed records d field v)
+  pub listed_open : (next : Draft) → r ≡ Some next → ◌≡◌ {A = Option Draft × List ℕ} (Some next, count_up after next field) (push_listed records d field v)
   unfolding push_word push_listed
   listed_open next z = rw (← o, y) (go (leb (d.end + 4) (room_in (length records))) e)
     where
       go
-          : (b : Bool) → ◌≡◌ {A = Drafted × List ℕ} (r, after) (if b then (Open (longer d 4), set_word_in records d.end v) else (Full, records))
-          → ◌≡◌ {A = Drafted × List ℕ} (Open next, count_up after next field)
-          (if b then (Open (longer d 4), count_up (set_word_in records d.end v) (longer d 4) field) else (Full, records))
+          : (b : Bool) → ◌≡◌ {A = Option Draft × List ℕ} (r, after) (if b then (Some (longer d 4), set_word_in records d.end v) else (None, records))
+          → ◌≡◌ {A = Option Draft × List ℕ} (Some next, count_up after next field)
+          (if b then (Some (longer d 4), count_up (set_word_in records d.end v) (longer d 4) field) else (None, records))
       go true p =
           let x : after ≡ set_word_in records d.end v = ap (λ t. t.1) p in
           let n : next ≡ longer d 4 = open_same next (longer d 4) (sym z ∙ ap (λ t. t.0) p) in
           rw (x, n)
-      go false p = let x : r ≡ Full = ap (λ t. t.0) p in let y : ◌≡◌ {A = ℕ} 0 1 = cc in absurd (omega arith)
+      go false p = let x : r ≡ None = ap (λ t. t.0) p in let y : ◌≡◌ {A = ℕ} 0 1 = cc in absurd (omega arith)
 
-  pub open_start : (next : Draft) → r ≡ Open next → next.start ≡ d.start
+  pub open_start : (next : Draft) → r ≡ Some next → next.start ≡ d.start
   unfolding push_word longer
   open_start next z = go (leb (d.end + 4) (room_in (length records))) e
     where
       go
-          : (b : Bool) → ◌≡◌ {A = Drafted × List ℕ} (r, after) (if b then (Open (longer d 4), set_word_in records d.end v) else (Full, records))
+          : (b : Bool) → ◌≡◌ {A = Option Draft × List ℕ} (r, after) (if b then (Some (longer d 4), set_word_in records d.end v) else (None, records))
           → next.start ≡ d.start
       go true p = ap (λ t. t.start) (open_same next (longer d 4) (sym z ∙ ap (λ t. t.0) p))
-      go false p = let x : r ≡ Full = ap (λ t. t.0) p in let y : ◌≡◌ {A = ℕ} 0 1 = cc in absurd (omega arith)
+      go false p = let x : r ≡ None = ap (λ t. t.0) p in let y : ◌≡◌ {A = ℕ} 0 1 = cc in absurd (omega arith)
 
 -- whether an export fits
 

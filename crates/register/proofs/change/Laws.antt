@@ -1,7 +1,6 @@
 -- From the code's loops to the definitions of `Bytes`.
-use Rattle.std.proofs.Common.{◌≡◌, ℕ, suc, ◌+◌, ◌-◌, ◌*◌, ◌<◌, ◌≤◌, List, ◌++◌, length, get_or, take, drop, set, replicate, sym, ap, ◌∙◌, subst, append_assoc, append-nil, add-one, arith, length-append, length-drop, drop_of_length-le, length-take-le, get_or-drop, take_all, drop-cons, drop-drop, drop-set-lt}
-use lib.ListN.{length-replicate}
-use lib.Seq.{sets, sets-eq, take-append_seam}
+use Rattle.std.proofs.Common.{◌≡◌, ℕ, suc, ◌+◌, ◌-◌, ◌*◌, ◌<◌, ◌≤◌, List, [], ◌++◌, length, take, drop, replicate, ap, ◌∙◌, subst, append_assoc, append-nil, arith, length-drop, drop_of_length-le, length-take-le, take_all, drop-drop}
+use lib.Seq.{paste, take-paste}
 use borrow.Rule.Slice.PartMut.{put_mid, Post-is}
 use Rattle.window.specs.Word.{word_in}
 use Rattle.register.specs.Words.{part, flat, words_in}
@@ -11,45 +10,33 @@ use Rattle.register.specs.Change.Bytes.{closed, names_end, lower_word, lower_exp
 use Rattle.register.specs.Change.Lower.{RecordsFrom}
 use Rattle.register.specs.Change.Remove.{Leaving}
 
--- bytes moved down, those below i done; those from i on still as they were
-
-pub move_turn
-    : (b l : List ℕ) (gap i : ℕ) → i + gap < length l → drop i b ≡ drop i l
-    → sets (set b i (get_or b (i + gap) 0)) (i + 1) (drop (i + 1 + gap) l) ≡ sets b i (drop (i + gap) l)
-move_turn b l gap i h e =
-    let g : get_or b (i + gap) 0 ≡ get_or l (i + gap) 0 = sym (get_or-drop i b gap 0) ∙ ap (λ t. get_or t gap 0) e ∙ get_or-drop i l gap 0 in
-    let s : i + 1 + gap ≡ suc (i + gap) = omega arith in
-    rw (g, s, drop-cons l (i + gap) 0 h, add-one)
-
-pub move_rest : (b l : List ℕ) (i v : ℕ) → drop i b ≡ drop i l → drop (i + 1) (set b i v) ≡ drop (i + 1) l
-move_rest b l i v e =
-    drop-set-lt (i + 1) b i v (omega arith) ∙ sym (drop-drop 1 i b) ∙ ap (drop 1) e ∙ drop-drop 1 i l
-
-pub move_end : (b l : List ℕ) (gap i : ℕ) → length l ≤ i + gap → b ≡ sets b i (drop (i + gap) l)
-move_end b l gap i h = rw (drop_of_length-le l h)
-
--- the last bytes cleared
-cleared : (m x : List ℕ) (n gap : ℕ) → n + gap ≡ length m → take n m ≡ x → sets m n (replicate gap 0) ≡ x ++ replicate gap 0
-cleared m x n gap h f =
-    let r : length (replicate {A = ℕ} gap 0) ≡ gap = length-replicate gap 0 in
-    let k : length m ≤ n + length (replicate {A = ℕ} gap 0) = omega arith in
-    sets-eq (replicate gap 0) m n (omega arith) ∙ rw (f, drop_of_length-le m k) (append-nil (x ++ replicate gap 0))
-
--- the end cleared after the move
+-- the bytes after the gap moved down over it, and the last bytes cleared
 pub closed_in_steps
-    : (l : List ℕ) (from gap place : ℕ) {m last : List ℕ} → from + gap ≤ length l → m ≡ sets l from (drop (from + gap) l)
-    → length m ≡ length l → last ≡ sets m place (replicate (length m - place) 0) → place ≡ length m - gap → last ≡ closed l from gap
+    : (l : List ℕ) (from gap : ℕ) {m zeros : List ℕ} → from + gap ≤ length l → length m ≡ length l
+    → m ≡ paste l from (drop (from + gap) l) (length l - (from + gap))
+    → zeros ≡ replicate (length (take (length m - (length m - gap)) (drop (length m - gap) m))) 0
+    → put_mid (length m - gap) (length m - (length m - gap)) m zeros ≡ closed l from gap
 unfolding closed
-closed_in_steps l from gap place {m} h e n c p =
+closed_in_steps l from gap {m} h same e f =
     let D = drop (from + gap) l in
-    let X = take from l ++ D in
-    let z : length m - (length m - gap) ≡ gap = omega arith in
-    let d : length D ≡ length l - (from + gap) = length-drop (from + gap) l in
-    let t : length (take from l) ≡ from = length-take-le from l (omega arith) in
-    let x : length X ≡ length m - gap = length-append (take from l) D ∙ omega arith in
-    let y : m ≡ X ++ drop (from + length D) l = e ∙ sets-eq D l from (omega arith) in
-    let f : take (length m - gap) m ≡ X = rw (← x, y) (take-append_seam X (drop (from + length D) l)) in
-    rw (c, p, z) (cleared m X (length m - gap) gap (omega arith) f ∙ append_assoc (take from l) D (replicate gap 0))
+    let n = length l - (from + gap) in
+    let d : length D ≡ n = length-drop (from + gap) l in
+    let p : length m - gap ≡ from + n = omega (arith, same, h) in
+    let k : length m - (length m - gap) ≡ gap = omega (arith, same, h) in
+    let first : take (length m - gap) m ≡ take from l ++ D =
+    ap (λ i. take i m) p ∙ ap (take (from + n)) e ∙ take-paste l from D n (omega arith) (omega (arith, d))
+    ∙ ap (λ t. take from l ++ t) (take_all n D (omega (arith, d))) in
+    let z : length (take (length m - (length m - gap)) (drop (length m - gap) m)) ≡ gap =
+    length-take-le (length m - (length m - gap)) (drop (length m - gap) m) (omega (arith, length-drop (length m - gap) m)) ∙ k in
+    let none : drop (length m - (length m - gap)) (drop (length m - gap) m) ≡ [] =
+    drop-drop (length m - (length m - gap)) (length m - gap) m ∙ drop_of_length-le m (omega arith) in
+    joined first (f ∙ ap (λ i. replicate i 0) z) none
+  where
+    joined
+        : {a b c : List ℕ} → a ≡ take from l ++ drop (from + gap) l → b ≡ replicate gap 0 → c ≡ []
+        → a ++ (b ++ c) ≡ take from l ++ (drop (from + gap) l ++ replicate gap 0)
+    joined ea eb ec =
+        rw (ea, eb, ec) (ap (λ t. (take from l ++ drop (from + gap) l) ++ t) (append-nil (replicate gap 0)) ∙ append_assoc (take from l) (drop (from + gap) l) (replicate gap 0))
 
 -- exports, k of n done
 pub exports_turn

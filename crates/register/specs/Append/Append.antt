@@ -1,5 +1,5 @@
 -- A record begun, finished or given up: the buffers are then the encoding with one module more, or as they were.
-use Rattle.std.specs.Prelude.{◌≡◌, ℕ, zero, suc, ◌+◌, ◌-◌, ◌*◌, ◌%◌, ◌^◌, ◌<◌, ◌≤◌, Bool, true, false, ◌&&◌, List, [], ◌∷◌, ◌++◌, length, set, replicate, nat_le, nat_lt, slice_index, slice_index_or, slice_set}
+use Rattle.std.specs.Prelude.{◌≡◌, ℕ, zero, suc, ◌+◌, ◌-◌, ◌*◌, ◌%◌, ◌^◌, ◌<◌, ◌≤◌, Bool, true, false, ◌&&◌, List, [], ◌∷◌, ◌++◌, length, set, replicate, nat_le, nat_lt, slice_index, slice_index_or, slice_set, Some, None}
 use Rattle.std.proofs.Math.Path.{refl, sym, ap, subst}
 use Rattle.std.proofs.Common.{◌∙◌}
 use mathlib.Core.List.{append_assoc, append-nil}
@@ -17,7 +17,6 @@ use Rattle.register.specs.Encode.{export_words, export_names, module_names, modu
 use Rattle.register.specs.Change.{new_module, appended}
 use Rattle.register.specs.Buffers.{Below, padded, length-flat, records_are, names_are, encode_records, encode_names}
 use Rattle.register.specs.declared.append.draft.Draft.{Draft}
-use Rattle.register.specs.declared.append.draft.Drafted.TheVariants.{Open, Full}
 use Rattle.register.specs.Append.Sets.{sets_append, sets_over, four_inside, word_below, store_word, flat-set, flat_append}
 use Rattle.register.specs.Append.Draft.{room_in, room-inside, room_word, used_bytes, used_names, opened, first_words, draft_at, begin_record, finish_record, cleared, given_up}
 use Rattle.register.specs.Append.Held.{Held}
@@ -307,7 +306,7 @@ module _ (l n missing : List ℕ) (r : Register) (p : proper r ≡ true) (e : en
   pub begun
       : base < 2 ^ 32 → size < 2 ^ 32 → length r.modules < 64 → u + 32 ≤ room_in (length l) → q + length name ≤ room_in (length n)
       → (begin_record l n base size auto name
-      ≡ (Open (draft_at u q (length name)), sets l u (flat (module_words q new)), sets n q (module_names new)))
+      ≡ (Some (draft_at u q (length name)), sets l u (flat (module_words q new)), sets n q (module_names new)))
       × Held l n (draft_at u q (length name)) new (sets l u (flat (module_words q new))) (sets n q (module_names new))
   unfolding begin_record draft_at
   begun hb hs few g gn =
@@ -340,6 +339,6 @@ module _ (l n missing : List ℕ) (r : Register) (p : proper r ≡ true) (e : en
 
   pub not-begun
       : (nat_lt (length r.modules) 64 && (nat_le (u + 32) (room_in (length l)) && nat_le (q + length name) (room_in (length n)))) ≡ false
-      → begin_record l n base size auto name ≡ (Full, l, n)
+      → begin_record l n base size auto name ≡ (None, l, n)
   unfolding begin_record
   not-begun g = rw (modules, used l n missing r p e b, named l n missing r p e b, g)

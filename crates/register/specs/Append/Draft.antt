@@ -1,5 +1,5 @@
 -- What each step of writing a record does to the bytes of the two buffers.
-use Rattle.std.specs.Prelude.{if◌then◌else◌, ◌≡◌, ℕ, ◌+◌, ◌-◌, ◌*◌, ◌%◌, ◌^◌, ◌<◌, ◌≤◌, Bool, true, ◌&&◌, List, [], ◌∷◌, length, replicate, nat_le, nat_lt, slice_index}
+use Rattle.std.specs.Prelude.{if◌then◌else◌, ◌≡◌, ℕ, ◌+◌, ◌-◌, ◌*◌, ◌%◌, ◌^◌, ◌<◌, ◌≤◌, Bool, true, ◌&&◌, List, [], ◌∷◌, length, replicate, nat_le, nat_lt, slice_index, Option, Some, None}
 use Rattle.std.proofs.Common.{arith, lt-ltb, le-ltb, leb-true}
 use Rattle.std.proofs.Math.Decide.{dec_lt}
 use Rattle.std.proofs.lemmas.List.Edits.{sets}
@@ -9,8 +9,6 @@ use Rattle.register.specs.Words.{flat, words_in}
 use Rattle.register.specs.Encode.{flag}
 use Rattle.register.specs.Decode.{settled}
 use Rattle.register.specs.declared.append.draft.Draft.{Draft}
-use Rattle.register.specs.declared.append.draft.Drafted.{Drafted}
-use Rattle.register.specs.declared.append.draft.Drafted.TheVariants.{Open, Full}
 
 -- "Lent bytes past 2^32 − 1 never count as free."
 unfoldable pub room_in : ℕ → ℕ
@@ -42,9 +40,9 @@ used_names records = slice_index (words_in records) 4
 unfoldable pub longer : Draft → ℕ → Draft
 longer d n = record { start = d.start; end = d.end + n; names = d.names; last = d.last }
 
-unfoldable pub push_word : List ℕ → Draft → ℕ → Drafted × List ℕ
+unfoldable pub push_word : List ℕ → Draft → ℕ → Option Draft × List ℕ
 push_word records d v =
-    if nat_le (d.end + 4) (room_in (length records)) then (Open (longer d 4), set_word_in records d.end v) else (Full, records)
+    if nat_le (d.end + 4) (room_in (length records)) then (Some (longer d 4), set_word_in records d.end v) else (None, records)
 
 unfoldable pub count_up : List ℕ → Draft → ℕ → List ℕ
 count_up records d field =
@@ -67,11 +65,11 @@ opened-parts d records e =
       leb-true d.last 0xffff_ffff b.1,
     )
 
-unfoldable pub push_listed : List ℕ → Draft → ℕ → ℕ → Drafted × List ℕ
+unfoldable pub push_listed : List ℕ → Draft → ℕ → ℕ → Option Draft × List ℕ
 push_listed records d field v =
     if opened d records && nat_le (d.end + 4) (room_in (length records))
-    then (Open (longer d 4), count_up (set_word_in records d.end v) (longer d 4) field)
-    else (Full, records)
+    then (Some (longer d 4), count_up (set_word_in records d.end v) (longer d 4) field)
+    else (None, records)
 
 -- there is room for an export whose name has so many bytes
 unfoldable pub export_fits : List ℕ → List ℕ → Draft → ℕ → Bool
@@ -85,16 +83,16 @@ first_words base size auto q count = base ∷ size ∷ flag auto ∷ q ∷ count
 unfoldable pub draft_at : (used named count : ℕ) → Draft
 draft_at used named count = record { start = used; end = used + 32; names = named; last = named + count }
 
-unfoldable pub begin_record : List ℕ → List ℕ → ℕ → ℕ → Bool → List ℕ → Drafted × List ℕ × List ℕ
+unfoldable pub begin_record : List ℕ → List ℕ → ℕ → ℕ → Bool → List ℕ → Option Draft × List ℕ × List ℕ
 begin_record records names base size auto name =
     if nat_lt (slice_index (words_in records) 0) 64
     && (nat_le (used_bytes records + 32) (room_in (length records)) && nat_le (used_names records + length name) (room_in (length names)))
     then (
-      Open (draft_at (used_bytes records) (used_names records) (length name)),
+      Some (draft_at (used_bytes records) (used_names records) (length name)),
       sets records (used_bytes records) (flat (first_words base size auto (used_names records) (length name))),
       sets names (used_names records) name,
     )
-    else (Full, records, names)
+    else (None, records, names)
 
 -- the header counts the record, and its words and names as used
 unfoldable pub finish_record : List ℕ → Draft → List ℕ

@@ -1,5 +1,5 @@
 -- Each step on a buffer that holds the words of a record from the draft's start on: the words that it then holds.
-use Rattle.std.specs.Prelude.{if◌then◌else◌, ◌≡◌, ℕ, zero, suc, ◌+◌, ◌-◌, ◌*◌, ◌%◌, ◌^◌, ◌<◌, ◌≤◌, Bool, true, false, leb, List, [], ◌∷◌, ◌++◌, length, take, drop, nat_le, slice_index, slice_index_or, slice_set, refl}
+use Rattle.std.specs.Prelude.{if◌then◌else◌, ◌≡◌, ℕ, zero, suc, ◌+◌, ◌-◌, ◌*◌, ◌%◌, ◌^◌, ◌<◌, ◌≤◌, Bool, true, false, leb, List, [], ◌∷◌, ◌++◌, length, take, drop, nat_le, slice_index, slice_index_or, slice_set, refl, Option, Some, None}
 use Rattle.std.proofs.Common.{sym, ap, ◌∙◌, append_assoc, arith, length-drop, drop_at, drop-drop, length-take-le, leb-true}
 use Rattle.std.proofs.Math.ListN.{length-append, get_or-append}
 use Rattle.std.proofs.lemmas.List.Edits.{sets, sets-eq}
@@ -9,8 +9,6 @@ use Rattle.window.specs.Word.{word_in, set_word_in}
 use Rattle.register.specs.Words.{part, flat}
 use Rattle.register.specs.Buffers.{Below}
 use Rattle.register.specs.declared.append.draft.Draft.{Draft}
-use Rattle.register.specs.declared.append.draft.Drafted.{Drafted}
-use Rattle.register.specs.declared.append.draft.Drafted.TheVariants.{Open, Full}
 use Rattle.register.specs.Append.Sets.{push_laid, change-laid, word-laid}
 use Rattle.register.specs.Append.Draft.{room_in, longer, count_up, opened, push_listed}
 
@@ -65,8 +63,8 @@ module _ (l : List ℕ) (d : Draft) (ws : List ℕ) (e : d.end ≡ d.start + 4 *
       : (field v : ℕ) → field < length ws → v < 2 ^ 32 → slice_index ws field + 1 < 2 ^ 32 → room_in (length l) ≤ length l → opened d held ≡ true
       → push_listed held d field v
       ≡ (if leb (d.end + 4) (room_in (length l))
-      then (Open (longer d 4), sets l d.start (flat (slice_set (ws ++ (v ∷ [])) field (slice_index ws field + 1))))
-      else (Full, held))
+      then (Some (longer d 4), sets l d.start (flat (slice_set (ws ++ (v ∷ [])) field (slice_index ws field + 1))))
+      else (None, held))
   unfolding push_listed count_up longer
   listed-laid field v h k s r o =
       rw (o, length-sets l d.start (flat ws)) (go (nat_le (d.end + 4) (room_in (length l))) refl)
@@ -79,16 +77,16 @@ module _ (l : List ℕ) (d : Draft) (ws : List ℕ) (e : d.end ≡ d.start + 4 *
 
       go
           : (t : Bool) → nat_le (d.end + 4) (room_in (length l)) ≡ t
-          → ◌≡◌ {A = Drafted × List ℕ}
+          → ◌≡◌ {A = Option Draft × List ℕ}
           (if t then (
-            Open (longer d 4),
+            Some (longer d 4),
             set_word_in (set_word_in held d.end v) (d.start + 4 * field)
                 ((word_in (set_word_in held d.end v) (d.start + 4 * field) + 1) % 2 ^ 32),
           )
-          else (Full, held))
-          (if t then (Open (longer d 4), sets l d.start (flat (slice_set (ws ++ (v ∷ [])) field (slice_index ws field + 1)))) else (Full, held))
+          else (None, held))
+          (if t then (Some (longer d 4), sets l d.start (flat (slice_set (ws ++ (v ∷ [])) field (slice_index ws field + 1)))) else (None, held))
       go true p =
           let g : d.end + 4 ≤ room_in (length l) = leb-true (d.end + 4) (room_in (length l)) p in
-          ap (λ t. (Open (longer d 4), t))
+          ap (λ t. (Some (longer d 4), t))
           (rw pushed (count-laid (v ∷ []) field h (omega (arith, n)) (below_append ws (v ∷ []) (2 ^ 32) b (below_one v k)) s))
       go false p = refl

@@ -1,5 +1,5 @@
 -- The steps on buffers that hold a module: where there is room they hold the module with one thing more, else nothing changed.
-use Rattle.std.specs.Prelude.{◌≡◌, ℕ, ◌+◌, ◌*◌, ◌^◌, ◌<◌, ◌≤◌, true, List, [], ◌∷◌, ◌++◌, length, set, slice_index, slice_set}
+use Rattle.std.specs.Prelude.{◌≡◌, ℕ, ◌+◌, ◌*◌, ◌^◌, ◌<◌, ◌≤◌, true, List, [], ◌∷◌, ◌++◌, length, set, slice_index, slice_set, Some, None}
 use Rattle.std.proofs.Math.Path.{refl, ap, subst}
 use Rattle.std.proofs.Common.{sym, ◌∙◌, arith}
 use Rattle.std.proofs.Math.ListN.{length-append, length-set}
@@ -14,7 +14,6 @@ use Rattle.register.specs.Change.{with_segment, with_indexed, with_named}
 use Rattle.register.specs.Buffers.{Below, length-flat}
 use Rattle.register.specs.CheckComplete.{length-export_words}
 use Rattle.register.specs.declared.append.draft.Draft.{Draft}
-use Rattle.register.specs.declared.append.draft.Drafted.TheVariants.{Open, Full}
 use Rattle.register.specs.Append.Sets.{sets_append, flat_append, change-laid}
 use Rattle.register.specs.Append.Draft.{room_in, room-inside, room_word, longer, opened, push_listed}
 use Rattle.register.specs.Append.Laid.{listed-laid, below_append, below_one}
@@ -59,7 +58,7 @@ module _ (l n : List ℕ) (d : Draft) (m : Module) (records names : List ℕ) (h
       : (field a : ℕ) (m' : Module) → field < length ws → a < 2 ^ 32 → slice_index ws field ≤ length ws
       → slice_set (ws ++ (a ∷ [])) field (slice_index ws field + 1) ≡ module_words d.names m' → module_names m' ≡ module_names m
       → d.end + 4 ≤ room_in (length l)
-      → (push_listed records d field a ≡ (Open (longer d 4), sets l d.start (flat (module_words d.names m'))))
+      → (push_listed records d field a ≡ (Some (longer d 4), sets l d.start (flat (module_words d.names m'))))
       × Held l n (longer d 4) m' (sets l d.start (flat (module_words d.names m'))) names
   unfolding longer
   listed field a m' f k c w s g =
@@ -70,7 +69,7 @@ module _ (l n : List ℕ) (d : Draft) (m : Module) (records names : List ℕ) (h
       subst (Below (2 ^ 32)) w
       (below_set (2 ^ 32) (ws ++ (a ∷ [])) field (slice_index ws field + 1) (below_append ws (a ∷ []) (2 ^ 32) h.small (below_one a k))
       (omega (arith, few))) in
-      let p : push_listed (sets l d.start (flat ws)) d field a ≡ (Open (longer d 4), sets l d.start (flat (module_words d.names m'))) =
+      let p : push_listed (sets l d.start (flat ws)) d field a ≡ (Some (longer d 4), sets l d.start (flat (module_words d.names m'))) =
       listed-laid l d ws h.end h.small field a f k (omega (arith, few)) (room-inside (length l))
       (subst (λ t. opened d t ≡ true) h.words (ready_open d records names (held_ready l n d m records names h)))
       ∙ rw (le-leb (d.end + 4) (room_in (length l)) g, w) in (
@@ -87,7 +86,7 @@ module _ (l n : List ℕ) (d : Draft) (m : Module) (records names : List ℕ) (h
       )
 
   pub listed_none
-      : (field a : ℕ) → room_in (length l) < d.end + 4 → push_listed records d field a ≡ (Full, records)
+      : (field a : ℕ) → room_in (length l) < d.end + 4 → push_listed records d field a ≡ (None, records)
   unfolding push_listed
   listed_none field a g =
       let e : length records ≡ length l = ap length h.words ∙ length-sets l d.start (flat ws) in
@@ -95,7 +94,7 @@ module _ (l n : List ℕ) (d : Draft) (m : Module) (records names : List ℕ) (h
 
   pub step-segment
       : (a : ℕ) → a < 2 ^ 32 → m.named ≡ [] → m.indexed ≡ [] → d.end + 4 ≤ room_in (length l)
-      → (push_listed records d 5 a ≡ (Open (longer d 4), sets l d.start (flat (module_words d.names (with_segment m a)))))
+      → (push_listed records d 5 a ≡ (Some (longer d 4), sets l d.start (flat (module_words d.names (with_segment m a)))))
       × Held l n (longer d 4) (with_segment m a) (sets l d.start (flat (module_words d.names (with_segment m a)))) names
   unfolding module_words module_names with_segment
   step-segment a k e f g =
@@ -104,7 +103,7 @@ module _ (l n : List ℕ) (d : Draft) (m : Module) (records names : List ℕ) (h
 
   pub step_indexed
       : (a : ℕ) → a < 2 ^ 32 → d.end + 4 ≤ room_in (length l)
-      → (push_listed records d 7 a ≡ (Open (longer d 4), sets l d.start (flat (module_words d.names (with_indexed m a)))))
+      → (push_listed records d 7 a ≡ (Some (longer d 4), sets l d.start (flat (module_words d.names (with_indexed m a)))))
       × Held l n (longer d 4) (with_indexed m a) (sets l d.start (flat (module_words d.names (with_indexed m a)))) names
   unfolding module_words module_names with_indexed
   step_indexed a k g =

@@ -1,5 +1,5 @@
 -- A record that leaves: what the bytes then encode.
-use Rattle.std.specs.Prelude.{◌≡◌, ℕ, zero, suc, ◌+◌, ◌-◌, ◌*◌, ◌^◌, ◌<◌, ◌≤◌, true, List, [], ◌∷◌, ◌++◌, length, take, drop, replicate, slice_index, slice_index_or}
+use Rattle.std.specs.Prelude.{◌≡◌, ℕ, zero, suc, ◌+◌, ◌-◌, ◌*◌, ◌^◌, ◌<◌, ◌≤◌, true, List, [], ◌∷◌, ◌++◌, length, take, drop, replicate, slice_index, slice_index_or, Option}
 use Rattle.std.proofs.Math.Path.{refl, sym, ap, subst}
 use Rattle.std.proofs.Common.{◌∙◌, append_assoc}
 use native.Mathlib.Omega.{arith}
@@ -16,7 +16,6 @@ use Rattle.register.specs.Decode.{module_size, register_of, is_register}
 use Rattle.register.specs.CheckIs.{register-parts}
 use Rattle.register.specs.Change.{without, removed}
 use Rattle.register.specs.Buffers.{Below, padded, length-padded, length-flat, names_are, encode_records, encode_names}
-use Rattle.register.specs.declared.words.Crs.{Crs}
 use Rattle.register.specs.Append.Sets.{flat_append}
 use Rattle.register.specs.Append.Held.{words_long, below_set}
 use Rattle.register.specs.Append.Append.{names-append, words_append}
@@ -97,7 +96,7 @@ pub record Leaving (records names : List ℕ) (place : ℕ) (left : List ℕ × 
   pub cut : cut_record records place size gap (flat (record_words (later.from - gap) later.modules)) ≡ left.0
   pub named-closed : closed names offset gap ≡ left.1
 
-module _ (ps bs : List Module) (x : Module) (c : Crs) (ns : List (List ℕ)) where
+module _ (ps bs : List Module) (x : Module) (c : Option ℕ) (ns : List (List ℕ)) where
   abbrev all : List Module
   all = ps ++ (x ∷ bs)
 

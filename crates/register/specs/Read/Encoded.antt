@@ -1,5 +1,5 @@
 -- What an encoded register says: its records stand one after another from byte 32 on, and its counts and missing names are there.
-use Rattle.std.specs.Prelude.{if◌then◌else◌, ◌≡◌, ℕ, zero, suc, ◌+◌, ◌*◌, ◌<◌, ◌≤◌, Bool, true, false, ◌&&◌, List, [], ◌∷◌, ◌++◌, length, get_or, take, drop, ◌==◌, slice_index, slice_index_or, slice_set}
+use Rattle.std.specs.Prelude.{if◌then◌else◌, ◌≡◌, ℕ, zero, suc, ◌+◌, ◌*◌, ◌<◌, ◌≤◌, Bool, true, false, ◌&&◌, List, [], ◌∷◌, ◌++◌, length, get_or, take, drop, ◌==◌, slice_index, slice_index_or, slice_set, Some}
 use Rattle.std.proofs.Math.Path.{refl, sym, ap}
 use Rattle.std.proofs.Common.{◌∙◌, subst, append_assoc, arith, length-append, take-append-drop, drop-set-lt, drop-drop}
 use Rattle.std.proofs.Math.Seq.{drop-append_seam}
@@ -13,7 +13,6 @@ use Rattle.register.specs.Decode.{settled, settled-other, read_register, registe
 use Rattle.register.specs.CheckComplete.{module_complete}
 use Rattle.register.specs.CheckIs.{length-settled, begins_long, register-parts}
 use Rattle.register.specs.Buffers.{padded, names_are}
-use Rattle.register.specs.declared.exports.Found.TheVariants.{At}
 use Rattle.register.specs.Read.Read.{Encoded, modules_of, module_bytes, place_from, record_at, module_at}
 use Rattle.register.specs.Read.Places.{module_bytes_lem, RecordStands, RecordsStand, none, next, FirstPassing, placed}
 
@@ -145,5 +144,5 @@ module _ (records names missing : List ℕ) (h : is_register records names missi
 -- what a search over all modules gives
 pub first-placed
     : (records names : List ℕ) (test : Module → Bool) {p : ℕ} → Encoded records names
-    → place_from 32 (modules_of records names) test ≡ At p → FirstPassing records names 32 (modules_of records names) test p
+    → place_from 32 (modules_of records names) test ≡ Some p → FirstPassing records names 32 (modules_of records names) test p
 first-placed records names test e f = placed 32 (modules_of records names) test (modules_stand records names e.0 e.1) f

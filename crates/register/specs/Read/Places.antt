@@ -1,5 +1,5 @@
 -- Where the records of modules stand: one after another from a byte of the records buffer on.
-use Rattle.std.specs.Prelude.{if◌then◌else◌, ◌≡◌, ℕ, ◌+◌, ◌*◌, ◌%◌, ◌≤◌, Bool, true, false, ◌&&◌, List, [], ◌∷◌, ◌++◌, length, nat_le, refl}
+use Rattle.std.specs.Prelude.{if◌then◌else◌, ◌≡◌, ℕ, ◌+◌, ◌*◌, ◌%◌, ◌≤◌, Bool, true, false, ◌&&◌, List, [], ◌∷◌, ◌++◌, length, nat_le, refl, Some, None}
 use Rattle.std.proofs.Common.{sym, ap, subst, arith, length-append}
 use Rattle.window.specs.Name.{is_name}
 use Rattle.window.specs.Tests.{both}
@@ -8,7 +8,6 @@ use Rattle.register.specs.Module.{Module, named_ok, ascending, proper_module}
 use Rattle.register.specs.Encode.{export_words, module_words}
 use Rattle.register.specs.Decode.{read_module}
 use Rattle.register.specs.CheckComplete.{length-export_words}
-use Rattle.register.specs.declared.exports.Found.TheVariants.{At, Nothing}
 use Rattle.register.specs.Read.Read.{module_bytes, place_from, place_after, record_at, record_end, module_at, record_of, Sorted}
 
 -- the words of a module do not depend on where its names stand
@@ -71,21 +70,21 @@ pub record FirstPassing (records names : List ℕ) (place : ℕ) (ms : List Modu
   pub found : Module
   pub after : List Module
   pub split : ms ≡ before ++ (found ∷ after)
-  pub first : place_from place before test ≡ Nothing
+  pub first : place_from place before test ≡ None
   pub passes : test found ≡ true
   pub at : p ≡ place_after place before
   pub stands : RecordStands records names p found
 
 pub placed
     : {records names : List ℕ} (place : ℕ) (ms : List Module) (test : Module → Bool) {p : ℕ} → RecordsStand records names place ms
-    → place_from place ms test ≡ At p → FirstPassing records names place ms test p
+    → place_from place ms test ≡ Some p → FirstPassing records names place ms test p
 unfolding place_from place_after
 placed place [] test s e = let z : ◌≡◌ {A = ℕ} 0 1 = cc in absurd (omega arith)
 placed {records} {names} place (m ∷ ms) test {p} (next s r) e = go (test m) refl e (placed (place + module_bytes m) ms test r)
   where
     go
-        : (b : Bool) → test m ≡ b → (if b then At place else place_from (place + module_bytes m) ms test) ≡ At p
-        → (place_from (place + module_bytes m) ms test ≡ At p → FirstPassing records names (place + module_bytes m) ms test p)
+        : (b : Bool) → test m ≡ b → (if b then Some place else place_from (place + module_bytes m) ms test) ≡ Some p
+        → (place_from (place + module_bytes m) ms test ≡ Some p → FirstPassing records names (place + module_bytes m) ms test p)
         → FirstPassing records names place (m ∷ ms) test p
     go true t f ih =
         let q : place ≡ p = cc in

@@ -1,14 +1,10 @@
 -- What is read from a register, over its modules in load order; and a record by its place in the records buffer.
-use Rattle.std.specs.Prelude.{if◌then◌else◌, ◌≡◌, ℕ, ◌+◌, ◌*◌, Bool, true, List, [], ◌∷◌, length, take, drop, ◌==◌, nat_lt, slice_index}
+use Rattle.std.specs.Prelude.{if◌then◌else◌, ◌≡◌, ℕ, ◌+◌, ◌*◌, Bool, true, List, [], ◌∷◌, length, take, drop, ◌==◌, nat_lt, slice_index, Option, Some, None}
 use Rattle.register.specs.Words.{same, words_in}
 use Rattle.register.specs.Module.{Export, Module, ascending}
 use Rattle.register.specs.Encode.{flag}
 use Rattle.register.specs.Decode.{read_module, read_modules, settled, body, is_register}
-use Rattle.register.specs.declared.exports.Found.{Found}
-use Rattle.register.specs.declared.exports.Found.TheVariants as found
 use Rattle.register.specs.declared.read.Record.{Record}
-use Rattle.register.specs.declared.read.Symbol.{Symbol}
-use Rattle.register.specs.declared.read.Symbol.TheVariants.{At, Nothing}
 
 -- the buffers passed number 4's test, with some missing list
 abbrev pub Encoded : List ℕ → List ℕ → Type 0
@@ -24,9 +20,9 @@ unfoldable pub module_bytes : Module → ℕ
 module_bytes m = 4 * (8 + (length m.segments + (3 * length m.named + length m.indexed)))
 
 -- where the record of the first module that passes the test begins, the first record of all standing at `place`
-unfoldable pub place_from : ℕ → List Module → (Module → Bool) → Found
-place_from place [] test = found.Nothing
-place_from place (m ∷ ms) test = if test m then found.At place else place_from (place + module_bytes m) ms test
+unfoldable pub place_from : ℕ → List Module → (Module → Bool) → Option ℕ
+place_from place [] test = None
+place_from place (m ∷ ms) test = if test m then Some place else place_from (place + module_bytes m) ms test
 
 -- where the record after these modules' begins, the first one's standing at `place`
 unfoldable pub place_after : ℕ → List Module → ℕ
@@ -40,24 +36,24 @@ unfoldable pub has_name : List ℕ → Module → Bool
 has_name name m = same name m.name
 
 -- the address of the export of that name
-unfoldable pub address_of : List Export → List ℕ → Symbol
-address_of [] name = Nothing
-address_of (x ∷ xs) name = if same name x.name then At x.address else address_of xs name
+unfoldable pub address_of : List Export → List ℕ → Option ℕ
+address_of [] name = None
+address_of (x ∷ xs) name = if same name x.name then Some x.address else address_of xs name
 
-unfoldable pub export_of : Module → List ℕ → Symbol
+unfoldable pub export_of : Module → List ℕ → Option ℕ
 export_of m name = address_of m.named name
 
 -- number i of a module's indexed exports or segments: "if the index is below the count"
-unfoldable pub entry_of : List ℕ → ℕ → Symbol
-entry_of l i = if nat_lt i (length l) then At (slice_index l i) else Nothing
+unfoldable pub entry_of : List ℕ → ℕ → Option ℕ
+entry_of l i = if nat_lt i (length l) then Some (slice_index l i) else None
 
-unfoldable pub or_else : Symbol → Symbol → Symbol
-or_else (At a) s = At a
-or_else Nothing s = s
+unfoldable pub or_else : Option ℕ → Option ℕ → Option ℕ
+or_else (Some a) s = Some a
+or_else None s = s
 
 -- "Named lookup uses auto-linked modules, itself included, in load order."
-unfoldable pub lookup_in : List Module → List ℕ → Symbol
-lookup_in [] name = Nothing
+unfoldable pub lookup_in : List Module → List ℕ → Option ℕ
+lookup_in [] name = None
 lookup_in (m ∷ ms) name = if m.auto then or_else (export_of m name) (lookup_in ms name) else lookup_in ms name
 
 -- what is read from the bytes at `place` on, whatever they are

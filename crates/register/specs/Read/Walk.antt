@@ -1,11 +1,8 @@
 -- A walk over the records of an encoded register in load order, and what it finds.
-use Rattle.std.specs.Prelude.{◌≡◌, ℕ, ◌+◌, ◌%◌, ◌^◌, ◌<◌, ◌≤◌, Bool, true, false, List, [], ◌∷◌, length, slice_index, slice_index_or, refl}
+use Rattle.std.specs.Prelude.{◌≡◌, ℕ, ◌+◌, ◌%◌, ◌^◌, ◌<◌, ◌≤◌, Bool, true, false, List, [], ◌∷◌, length, slice_index, slice_index_or, refl, Option, Some, None}
 use Rattle.std.proofs.Common.{sym, ap, ◌∙◌, subst, arith}
 use Rattle.register.specs.Words.{words_in}
 use Rattle.register.specs.Module.{Module}
-use Rattle.register.specs.declared.exports.Found.TheVariants as found
-use Rattle.register.specs.declared.read.Symbol.{Symbol}
-use Rattle.register.specs.declared.read.Symbol.TheVariants.{At, Nothing}
 use Rattle.register.specs.Read.Read.{Encoded, modules_of, module_bytes, place_from, export_of, or_else, lookup_in, record_at, record_end, Sorted}
 use Rattle.register.specs.Read.Places.{RecordStands, stands_end, sorted_at, RecordsStand, next}
 use Rattle.register.specs.Read.Encoded.{modules_stand, module_count}
@@ -93,7 +90,7 @@ module _ {A : Type 0} (f : ℕ → List Module → A) (records names : List ℕ)
 -- steps of the searches
 
 module _ (place : ℕ) (m : Module) (ms : List Module) (test : Module → Bool) where
-  pub place_here : test m ≡ true → found.At place ≡ place_from place (m ∷ ms) test
+  pub place_here : test m ≡ true → Some place ≡ place_from place (m ∷ ms) test
   unfolding place_from
   place_here e = rw e
 
@@ -101,26 +98,26 @@ module _ (place : ℕ) (m : Module) (ms : List Module) (test : Module → Bool) 
   unfolding place_from
   place_on e = rw e
 
-pub place_none : (place : ℕ) (test : Module → Bool) → found.Nothing ≡ place_from place [] test
+pub place_none : (place : ℕ) (test : Module → Bool) → None ≡ place_from place [] test
 unfolding place_from
 place_none place test = refl
 
-or_else_lem : (s t : Symbol) {a : ℕ} → s ≡ At a → At a ≡ or_else s t
+or_else_lem : (s t : Option ℕ) {a : ℕ} → s ≡ Some a → Some a ≡ or_else s t
 unfolding or_else
-or_else_lem (At a) t e = sym e
-or_else_lem Nothing t e = let z : ◌≡◌ {A = ℕ} 0 1 = cc in absurd (omega arith)
+or_else_lem (Some a) t e = sym e
+or_else_lem None t e = let z : ◌≡◌ {A = ℕ} 0 1 = cc in absurd (omega arith)
 
-or-next : (s t : Symbol) → s ≡ Nothing → t ≡ or_else s t
+or-next : (s t : Option ℕ) → s ≡ None → t ≡ or_else s t
 unfolding or_else
-or-next (At a) t e = let z : ◌≡◌ {A = ℕ} 0 1 = cc in absurd (omega arith)
-or-next Nothing t e = refl
+or-next (Some a) t e = let z : ◌≡◌ {A = ℕ} 0 1 = cc in absurd (omega arith)
+or-next None t e = refl
 
 module _ (m : Module) (ms : List Module) (name : List ℕ) where
-  pub lookup_here : {a : ℕ} → m.auto ≡ true → export_of m name ≡ At a → At a ≡ lookup_in (m ∷ ms) name
+  pub lookup_here : {a : ℕ} → m.auto ≡ true → export_of m name ≡ Some a → Some a ≡ lookup_in (m ∷ ms) name
   unfolding lookup_in export_of
   lookup_here p e = rw p (or_else_lem (export_of m name) (lookup_in ms name) e)
 
-  pub lookup_on : m.auto ≡ true → export_of m name ≡ Nothing → lookup_in ms name ≡ lookup_in (m ∷ ms) name
+  pub lookup_on : m.auto ≡ true → export_of m name ≡ None → lookup_in ms name ≡ lookup_in (m ∷ ms) name
   unfolding lookup_in export_of
   lookup_on p e = rw p (or-next (export_of m name) (lookup_in ms name) e)
 
@@ -128,6 +125,6 @@ module _ (m : Module) (ms : List Module) (name : List ℕ) where
   unfolding lookup_in
   lookup_past p = rw p
 
-pub lookup_none : (name : List ℕ) → Nothing ≡ lookup_in [] name
+pub lookup_none : (name : List ℕ) → None ≡ lookup_in [] name
 unfolding lookup_in
 lookup_none name = refl

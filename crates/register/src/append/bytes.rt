@@ -28,40 +28,27 @@ pub fn fits(free: usize, from: usize, count: usize) -> bool
 pub fn copy_into(buffer: &mut [u8], place: usize, source: &[u8])
     ensures { buffer.new ≡ sets buffer.old place source.now }
 {
-    let mut i: usize = 0;
-    let mut to = place;
-    while i < source.len() {
-        if buffer.len() <= to {
-            return;
-        }
-        buffer[to] = source[i];
-        to += 1;
-        i += 1;
+    if buffer.len() < place {
+        return;
     }
+    let count = source.len().min(buffer.len() - place);
+    buffer[place..place + count].copy_from_slice(&source[..count]);
 }
 
 // Clears the bytes from `from` up to `to`, as far as there are bytes.
 pub fn clear(buffer: &mut [u8], from: usize, to: usize)
     ensures { buffer.new ≡ sets buffer.old from (replicate (to - from) 0) }
 {
-    let mut i = from;
-    while i < to {
-        if buffer.len() <= i {
-            return;
-        }
-        buffer[i] = 0;
-        i += 1;
+    let end = to.min(buffer.len());
+    if from < end {
+        buffer[from..end].fill(0);
     }
 }
 
-// Copies `count` bytes from `from` on to `to`, the first one first, where none is written before it is read.
+// Copies `count` bytes from `from` on to `to`.
 pub fn copy_within(buffer: &mut [u8], from: usize, count: usize, to: usize)
-    requires { (from + count ≤ length buffer.old) × (to + count ≤ length buffer.old) × (to < from + count → to ≤ from) }
+    requires { (from + count ≤ length buffer.old) × (to + count ≤ length buffer.old) }
     ensures { buffer.new ≡ sets buffer.old to (part buffer.old from count) }
 {
-    let mut i: usize = 0;
-    while i < count {
-        buffer[to + i] = buffer[from + i];
-        i += 1;
-    }
+    buffer.copy_within(from..from + count, to);
 }

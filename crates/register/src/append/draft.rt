@@ -13,27 +13,20 @@ pub struct Draft {
     pub last: usize,
 }
 
-// The record with one step more, or that there is no room for the step; then nothing changed.
-#[derive(Clone, Copy)]
-pub enum Drafted {
-    Open(Draft),
-    Full,
-}
-
 // Writes a word at the record's end.
-fn push_word(records: &mut [u8], draft: Draft, value: u32) -> Drafted
+fn push_word(records: &mut [u8], draft: Draft, value: u32) -> Option<Draft>
     ensures { (result, records.new) ≡ push_word records.old draft value }
 {
     let free = bytes::room(records.len());
     let end = draft.end;
     if free < 4 {
-        return Drafted::Full;
+        return None;
     }
     if free - 4 < end {
-        return Drafted::Full;
+        return None;
     }
     window::store32(records, end, value);
-    Drafted::Open(Draft {
+    Some(Draft {
         start: draft.start,
         end: end + 4,
         names: draft.names,
@@ -65,31 +58,27 @@ fn count_up(records: &mut [u8], draft: Draft, field: usize)
 }
 
 // Writes an address at the record's end and counts it in word number `field`.
-fn push_listed(records: &mut [u8], draft: Draft, field: usize, address: u32) -> Drafted
+fn push_listed(records: &mut [u8], draft: Draft, field: usize, address: u32) -> Option<Draft>
     requires { field < 8 }
     ensures { (result, records.new) ≡ push_listed records.old draft field address }
 {
     if !is_open(records, draft) {
-        return Drafted::Full;
+        return None;
     }
-    match push_word(records, draft, address) {
-        Drafted::Full => Drafted::Full,
-        Drafted::Open(next) => {
-            count_up(records, next, field);
-            Drafted::Open(next)
-        }
-    }
+    let next = push_word(records, draft, address)?;
+    count_up(records, next, field);
+    Some(next)
 }
 
 // Writes an address of a segment; no export stands yet.
-pub fn push_segment(records: &mut [u8], draft: Draft, address: u32) -> Drafted
+pub fn push_segment(records: &mut [u8], draft: Draft, address: u32) -> Option<Draft>
     ensures { (result, records.new) ≡ push_listed records.old draft 5 address }
 {
     push_listed(records, draft, 5, address)
 }
 
 // Writes an address of an indexed export; all named ones stand.
-pub fn push_indexed(records: &mut [u8], draft: Draft, address: u32) -> Drafted
+pub fn push_indexed(records: &mut [u8], draft: Draft, address: u32) -> Option<Draft>
     ensures { (result, records.new) ≡ push_listed records.old draft 7 address }
 {
     push_listed(records, draft, 7, address)

@@ -3,25 +3,13 @@ ghost use Rattle.std.specs.Prelude.{◌≡◌, ◌+◌, ◌-◌, ◌≤◌, [], 
 ghost use Rattle.std.proofs.lemmas.List.Edits.{sets};
 ghost use Rattle.register.specs.Words.{flat, part};
 
-// Moves the bytes from `from` up to `to` up by 8, the last one first.
-fn move_up(buffer: &mut [u8], from: usize, to: usize)
-    requires { (from ≤ to) × (to + 8 ≤ length buffer.old) }
-    ensures { buffer.new ≡ sets buffer.old (from + 8) (part buffer.old from (to - from)) }
-{
-    let mut i = to;
-    while from < i {
-        i -= 1;
-        buffer[i + 8] = buffer[i];
-    }
-}
-
 // Puts two words at `from`, before those that stand from there up to `to`.
 pub fn insert_waiting(buffer: &mut [u8], from: usize, to: usize, place: u32, address: u32)
     requires { (from ≤ to) × (to + 8 ≤ length buffer.old) }
     ensures { buffer.new
         ≡ sets buffer.old from (flat (place ∷ address ∷ []) ++ part buffer.old from (to - from)) }
 {
-    move_up(buffer, from, to);
+    buffer.copy_within(from..to, from + 8);
     window::store32(buffer, from, place);
     window::store32(buffer, from + 4, address);
 }

@@ -22,12 +22,8 @@ fn lower_exports(bytes: &mut [u8], place: usize, count: u32, d: u32)
     requires { place + 12 * count ≤ length bytes.old }
     ensures { bytes.new ≡ lower_exports count bytes.old place d }
 {
-    let mut k: u32 = 0;
-    let mut next = place;
-    while k < count {
-        lower_word(bytes, next, d);
-        next += 12;
-        k += 1;
+    for k in 0..count as usize {
+        lower_word(bytes, place + 12 * k, d);
     }
 }
 
@@ -48,6 +44,7 @@ pub(crate) fn lower_records(bytes: &mut [u8], d: u32)
     ensures { (s : RecordsFrom d bytes.old) → bytes.new ≡ flat (record_words (s.from - d) s.modules) }
 {
     let mut place: usize = 0;
+    // No range gives the places: a turn goes on by the size of its record.
     while place < bytes.len() {
         let size = 4 * record::module_size(&bytes[place..]);
         lower_record(bytes, place, d);

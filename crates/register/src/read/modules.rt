@@ -1,11 +1,12 @@
 // The modules in load order: their count, the first with a base or a name, and named lookup; and the missing names.
-ghost use Rattle.std.specs.Prelude.{◌≡◌, ℕ, ◌+◌, ◌*◌, List, slice_index};
-ghost use Rattle.register.specs.Words.{part, words_in};
+ghost use Rattle.std.specs.Prelude.{◌≡◌, ℕ, ◌+◌, ◌*◌, Bool, List, nat_eq, slice_index};
+ghost use Rattle.register.specs.Words.{part, same, words_in};
+ghost use Rattle.register.specs.Module.{Module};
+ghost use Rattle.register.specs.Read.Search.{Tells};
 ghost use Rattle.register.specs.Decode.{slot_name};
 ghost use Rattle.register.specs.Read.Read.{Encoded, modules_of, place_from, has_base, has_name, lookup_in};
 
-use crate::exports::Found;
-use crate::read::Symbol;
+use crate::read::Record;
 use crate::{exports, words};
 
 // How many modules stand.
@@ -15,64 +16,70 @@ pub fn module_count(records: &[u8]) -> u32
     words::word(records, 0)
 }
 
+// Where the first record begins that the test takes.
+fn first_record<F: Fn(Record) -> bool>(records: &[u8], test: F) -> Option<usize>
+    requires callable { F.IsAlwaysCallable test }
+    requires encoded { (names : List ℕ) × Encoded records.now names }
+    ensures { (names : List ℕ) (takes : Module → Bool) → Encoded records.now names
+        → Tells records.now names takes (F.post test)
+        → result ≡ place_from 32 (modules_of records.now names) takes }
+{
+    let count = module_count(records);
+    let mut place: usize = 32;
+    for k in 0..count {
+        let record = crate::read::record_at(records, place);
+        if test(record) {
+            return Some(place);
+        }
+        place = crate::read::record_end(record);
+    }
+    None
+}
+
 // Where the record of the first module with that base begins.
-pub fn first_with_base(records: &[u8], base: u32) -> Found
+pub fn first_with_base(records: &[u8], base: u32) -> Option<usize>
     requires { (names : List ℕ) × Encoded records.now names }
     ensures { (names : List ℕ) → Encoded records.now names
         → result ≡ place_from 32 (modules_of records.now names) (has_base base) }
 {
-    let count = module_count(records);
-    let mut place: usize = 32;
-    let mut k: u32 = 0;
-    while k < count {
-        let record = crate::read::record_at(records, place);
-        if record.base == base {
-            return Found::At(place);
-        }
-        place = crate::read::record_end(record);
-        k += 1;
-    }
-    Found::Nothing
+    first_record(
+        records,
+        |record: Record| -> bool
+            ensures { result ≡ nat_eq «record».base base }
+        { record.base == base },
+    )
 }
 
 // Where the record of the first module with that name begins.
-pub fn first_with_name(records: &[u8], names: &[u8], name: &[u8]) -> Found
+pub fn first_with_name(records: &[u8], names: &[u8], name: &[u8]) -> Option<usize>
     requires { Encoded records.now names.now }
     ensures { result ≡ place_from 32 (modules_of records.now names.now) (has_name name.now) }
 {
-    let count = module_count(records);
-    let mut place: usize = 32;
-    let mut k: u32 = 0;
-    while k < count {
-        let record = crate::read::record_at(records, place);
-        if exports::same_name(name, crate::read::record_name(names, record)) {
-            return Found::At(place);
-        }
-        place = crate::read::record_end(record);
-        k += 1;
-    }
-    Found::Nothing
+    first_record(
+        records,
+        |record: Record| -> bool
+            ensures { result ≡ same name.entry.now (part names.entry.now «record».name_offset «record».name_length) }
+        { exports::same_name(name, crate::read::record_name(names, record)) },
+    )
 }
 
 // Named lookup: the address in the first auto-linked module that exports the name.
-pub fn lookup(records: &[u8], names: &[u8], name: &[u8]) -> Symbol
+pub fn lookup(records: &[u8], names: &[u8], name: &[u8]) -> Option<u32>
     requires { Encoded records.now names.now }
     ensures { result ≡ lookup_in (modules_of records.now names.now) name.now }
 {
     let count = module_count(records);
     let mut place: usize = 32;
-    let mut k: u32 = 0;
-    while k < count {
+    for k in 0..count {
         let record = crate::read::record_at(records, place);
         if record.auto_link == 1 {
-            if let Symbol::At(address) = crate::read::export_named(records, names, place, name) {
-                return Symbol::At(address);
+            if let Some(address) = crate::read::export_named(records, names, place, name) {
+                return Some(address);
             }
         }
         place = crate::read::record_end(record);
-        k += 1;
     }
-    Symbol::Nothing
+    None
 }
 
 // How many names are missing.

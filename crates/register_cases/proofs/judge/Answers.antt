@@ -1,35 +1,24 @@
 -- The buffers are long enough, or one is not.
-use mathlib.Core.Path.{sym}
 use native.Mathlib.Omega.{arith}
-use lib.Seq.{length-take-le}
-use Rattle.register_cases.specs.Cases.{verdict}
 use Rattle.register_cases.proofs.Laws.{short-records, short-names, short_missing, enough}
 use Rattle.register_cases.proofs.judge.Goals as goal
 
-pub returns-then-records-a : goal.returns-then-records-a
-returns-then-records-a c = short-records _ _ _ _ _ _ _ c.if-records-a.true
+pub returns-in_err-records : goal.returns-in_err-records
+returns-in_err-records c = rw c.from_residual.ensures (short-records _ _ _ _ _ _ _ (omega (arith, c.in_err-records.ensures.lookup)))
 
-pub returns-then-names-b : goal.returns-then-names-b
-returns-then-names-b c = short-names _ _ _ _ _ _ _ c.if-records-a.false c.if-names-b.true
+pub returns-in_err-names : goal.returns-in_err-names
+returns-in_err-names c =
+    rw c.from_residual-in_err-names.ensures
+    (short-names _ _ _ _ _ _ _ c.in_ok-records.ensures.lookup.0.1 (omega (arith, c.in_err-names.ensures.lookup)))
 
-pub returns-then-missing-c : goal.returns-then-missing-c
-returns-then-missing-c c = short_missing _ _ _ _ _ _ _ c.if-records-a.false c.if-names-b.false c.if-missing-c.true
-
-pub slice_bounds-is_register-end : goal.slice_bounds-is_register-end
-slice_bounds-is_register-end c = sym (length-take-le _ _ (omega arith))
-
-pub slice_bounds-is_register-end-2 : goal.slice_bounds-is_register-end-2
-slice_bounds-is_register-end-2 c = sym (length-take-le _ _ (omega arith))
-
-pub slice_bounds-is_register-end-3 : goal.slice_bounds-is_register-end-3
-slice_bounds-is_register-end-3 c = sym (length-take-le _ _ (omega arith))
-
-pub returns-then-is_register : goal.returns-then-is_register
-unfolding verdict
-returns-then-is_register c =
-    enough _ _ _ _ _ _ _ c.if-records-a.false c.if-names-b.false c.if-missing-c.false c.is_register.ensures c.if-is_register.true
+pub returns-in_err-missing : goal.returns-in_err-missing
+returns-in_err-missing c =
+    rw c.from_residual-in_err-missing.ensures
+    (short_missing _ _ _ _ _ _ _ c.in_ok-records.ensures.lookup.0.1 c.in_ok-names.ensures.lookup.0.1 (omega (arith, c.in_err-missing.ensures.lookup)))
 
 pub returns : goal.returns
-unfolding verdict
 returns c =
-    enough _ _ _ _ _ _ _ c.if-records-a.false c.if-names-b.false c.if-missing-c.false c.is_register.ensures c.if-is_register.false
+    let a = c.in_ok-records.ensures.lookup.0 in
+    let b = c.in_ok-names.ensures.lookup.0 in
+    let d = c.in_ok-missing.ensures.lookup.0 in
+    enough _ _ _ _ _ _ _ a.1 a.2 b.1 b.2 d.1 d.2 c.is_register-valid.ensures

@@ -1,6 +1,5 @@
 use mathlib.Core.Path.{sym, ◌∙◌}
 use lib.Seq.{length-take-le}
-use borrow.Author.Tests.{not-true, not-false}
 use Rattle.register_test.proofs.Contents.{modules_are, slots_are, modules_wrong, slots-wrong, records-wrong, names-wrong, contents_right}
 use Rattle.register_test.proofs.contents_ok.Goals as goal
 
@@ -29,7 +28,7 @@ returns-then-not-zero_from c =
     c.modules_ok.ensures c.if-not-modules_ok.false)
     (slots_are _ c.word-kept.ensures
     c.slots_ok.ensures c.if-not-slots_ok.false)
-    (sym c.zero_from.ensures ∙ not-true _ c.if-not-zero_from.true-raw)
+    (sym c.zero_from.ensures ∙ c.if-not-zero_from.true)
 
 pub returns-then-not-zero_from-2 : goal.returns-then-not-zero_from-2
 returns-then-not-zero_from-2 c =
@@ -39,8 +38,8 @@ returns-then-not-zero_from-2 c =
     c.if-not-modules_ok.false)
     (slots_are _ c.word-kept.ensures
     c.slots_ok.ensures c.if-not-slots_ok.false)
-    (sym c.zero_from.ensures ∙ not-false _ c.if-not-zero_from.false-raw)
-    (sym c.zero_from-2.ensures ∙ not-true _ c.if-not-zero_from-2.true-raw)
+    (sym c.zero_from.ensures ∙ c.if-not-zero_from.false)
+    (sym c.zero_from-2.ensures ∙ c.if-not-zero_from-2.true)
 
 pub returns : goal.returns
 returns c =
@@ -52,5 +51,5 @@ returns c =
     c.if-not-modules_ok.false)
     (slots_are _ c.word-kept.ensures
     c.slots_ok.ensures c.if-not-slots_ok.false)
-    (sym c.zero_from.ensures ∙ not-false _ c.if-not-zero_from.false-raw)
-    (sym c.zero_from-2.ensures ∙ not-false _ c.if-not-zero_from-2.false-raw)))
+    (sym c.zero_from.ensures ∙ c.if-not-zero_from.false)
+    (sym c.zero_from-2.ensures ∙ c.if-not-zero_from-2.false)))

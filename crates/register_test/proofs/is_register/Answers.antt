@@ -1,6 +1,6 @@
 use mathlib.Core.Path.{refl, sym, ◌∙◌}
 use native.Mathlib.Omega.{arith}
-use borrow.Author.Tests.{eq-eqb, ne_eqb, le-leb, lt-leb, not-true, not-false}
+use borrow.Author.Tests.{eq-eqb, ne_eqb, le-leb, lt-leb}
 use Rattle.register.specs.CheckIs.{counts, sizes}
 use Rattle.register_test.proofs.Laws.{in_steps}
 use Rattle.register_test.proofs.is_register.Goals as goal
@@ -10,7 +10,7 @@ returns-then-records-lt32 c = in_steps _ _ _ (λ i. (c.type_inv.missing i).fits)
 
 pub returns-then-not-counts_ok : goal.returns-then-not-counts_ok
 returns-then-not-counts_ok c = in_steps _ _ _ (λ i. (c.type_inv.missing i).fits) refl refl
-    (rw (le-leb _ _ c.if-records-lt32.false, ← c.counts_ok.ensures, not-true c.counts_ok.result c.if-not-counts_ok.true-raw))
+    (rw (le-leb _ _ c.if-records-lt32.false, ← c.counts_ok.ensures, c.if-not-counts_ok.true))
 
 pub returns-then-not-sizes_ok : goal.returns-then-not-sizes_ok
 returns-then-not-sizes_ok c = in_steps _ _ _ (λ i. (c.type_inv.missing i).fits)
@@ -18,9 +18,9 @@ returns-then-not-sizes_ok c = in_steps _ _ _ (λ i. (c.type_inv.missing i).fits)
     (rw (
       le-leb _ _ c.if-records-lt32.false,
       ← c.counts_ok.ensures,
-      not-false c.counts_ok.result c.if-not-counts_ok.false-raw,
+      c.if-not-counts_ok.false,
       ← c.sizes_ok.ensures,
-      not-true c.sizes_ok.result c.if-not-sizes_ok.true-raw,
+      c.if-not-sizes_ok.true,
     ))
 
 pub returns-then-missing-ne32896 : goal.returns-then-missing-ne32896
@@ -29,18 +29,17 @@ returns-then-missing-ne32896 c = in_steps _ _ _ (λ i. (c.type_inv.missing i).fi
     (rw (
       le-leb _ _ c.if-records-lt32.false,
       ← c.counts_ok.ensures,
-      not-false
-          c.counts_ok.result c.if-not-counts_ok.false-raw,
+      c.if-not-counts_ok.false,
       ← c.sizes_ok.ensures,
-      not-false c.sizes_ok.result c.if-not-sizes_ok.false-raw,
+      c.if-not-sizes_ok.false,
       ne_eqb _ _ c.if-missing-ne32896.true,
     ))
 
 pub contents_ok-requires : goal.contents_ok-requires
 contents_ok-requires c = let n =
     counts _ (sym c.counts_ok.ensures
-    ∙ not-false _ c.if-not-counts_ok.false-raw) in
-    let s = sizes _ _ _ _ (sym c.sizes_ok.ensures ∙ not-false _ c.if-not-sizes_ok.false-raw) in
+    ∙ c.if-not-counts_ok.false) in
+    let s = sizes _ _ _ _ (sym c.sizes_ok.ensures ∙ c.if-not-sizes_ok.false) in
     (s.least, s.inside, s.named-inside, omega (arith, n.kept))
 
 pub returns : goal.returns
@@ -49,10 +48,9 @@ returns c = in_steps _ _ _ (λ i. (c.type_inv.missing i).fits)
     (rw (
       le-leb _ _ c.if-records-lt32.false,
       ← c.counts_ok.ensures,
-      not-false
-          c.counts_ok.result c.if-not-counts_ok.false-raw,
+      c.if-not-counts_ok.false,
       ← c.sizes_ok.ensures,
-      not-false c.sizes_ok.result c.if-not-sizes_ok.false-raw,
+      c.if-not-sizes_ok.false,
       eq-eqb _ _
           c.if-missing-ne32896.false,
     ) c.contents_ok.ensures)

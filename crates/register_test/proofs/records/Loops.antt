@@ -1,5 +1,5 @@
 -- The test's loops and branches: exports of a record, records of the buffer.
-use Rattle.std.specs.Prelude.{if◌then◌else◌}
+use Rattle.std.specs.Prelude.{if◌then◌else◌, Option, Some, None}
 use Prim.Native.Nat.{ℕ, suc, ◌+◌, ◌-◌, ◌*◌, ◌/◌, ◌%◌, ◌≤◌, ◌<◌}
 use mathlib.Core.Path.{◌≡◌, refl, sym, ap, ◌∙◌}
 use mathlib.Core.List.{List}
@@ -16,14 +16,12 @@ use Rattle.register.specs.Decode.{module_size, exports_in}
 use Rattle.register.specs.Check.{name_ok, exports_end, fixed_ok, export_part, module_end, modules_ok}
 use Rattle.register.specs.CheckSound.{named, fixed}
 use Rattle.register.proofs.Laws.{part-whole}
-use Rattle.register.specs.declared.record.End.{End}
-use Rattle.register.specs.declared.record.End.TheVariants.{At, Bad}
 
 -- the names of n exports, k of them seen
 
 module _ (n : ℕ) (ws names : List ℕ) (k q : ℕ) (t : Bool) {o l : ℕ} (h : k < n) (eo : o ≡ get_or ws (3 * k) 0) (el : l ≡ get_or ws (3 * k + 1) 0)
     (s : t ≡ name_ok names q o l) where
-  pub end_bad : t ≡ false → Bad ≡ exports_end (n - k) ws names k q
+  pub end_bad : t ≡ false → None ≡ exports_end (n - k) ws names k q
   unfolding exports_end
   end_bad z = let m : n - k ≡ suc (n - (k + 1)) = omega arith in rw (m, ← eo, ← el, ← s, z)
 
@@ -31,7 +29,7 @@ module _ (n : ℕ) (ws names : List ℕ) (k q : ℕ) (t : Bool) {o l : ℕ} (h :
   unfolding exports_end
   end_on z = let m : n - k ≡ suc (n - (k + 1)) = omega arith in rw (m, ← eo, ← el, ← s, z)
 
-pub end_done : (n : ℕ) (ws names : List ℕ) (k q : ℕ) → n ≤ k → At q ≡ exports_end (n - k) ws names k q
+pub end_done : (n : ℕ) (ws names : List ℕ) (k q : ℕ) → n ≤ k → Some q ≡ exports_end (n - k) ws names k q
 unfolding exports_end
 end_done n ws names k q h = let m : n - k ≡ 0 = omega arith in rw m
 
@@ -74,18 +72,18 @@ unfolding export_part
 export_words_lem b list {s} {n} es en el = rw (el, export_bytes b s n, part-words b (8 + s) (3 * n), es, en)
 
 module _ (ws names : List ℕ) (q : ℕ) where
-  pub module_bad : {t : Bool} → t ≡ fixed_ok ws names q → t ≡ false → Bad ≡ module_end ws names q
+  pub module_bad : {t : Bool} → t ≡ fixed_ok ws names q → t ≡ false → None ≡ module_end ws names q
   unfolding module_end
   module_bad s z = rw (← s, z)
 
   pub module_disordered
       : {t u : Bool} (es : List ℕ) → t ≡ fixed_ok ws names q → t ≡ true → es ≡ export_part ws → u ≡ ascending (exports_in es names) → u ≡ false
-      → Bad ≡ module_end ws names q
+      → None ≡ module_end ws names q
   unfolding module_end
   module_disordered es s z e d y = rw (← s, z, ← e, ← d, y)
 
   pub module_end_lem
-      : {t u : Bool} {r : End} {l : ℕ} (es : List ℕ) → t ≡ fixed_ok ws names q → t ≡ true → es ≡ export_part ws → u ≡ ascending (exports_in es names)
+      : {t u : Bool} {r : Option ℕ} {l : ℕ} (es : List ℕ) → t ≡ fixed_ok ws names q → t ≡ true → es ≡ export_part ws → u ≡ ascending (exports_in es names)
       → u ≡ true → l ≡ get_or ws 4 0 → r ≡ exports_end (length es / 3) es names 0 (q + l) → r ≡ module_end ws names q
   unfolding module_end
   module_end_lem es s z e d y el f = f ∙ rw (el, e, ← s, z, ← e, ← d, y)
@@ -97,13 +95,13 @@ module _ (n : ℕ) (r names : List ℕ) (k place q : ℕ) (h : k < n) where
   turn = omega arith
 
   pub modules_bad
-      : (rest : List ℕ) {e : End} → rest ≡ drop place r → e ≡ module_end (words_in rest) names q → e ≡ Bad
+      : (rest : List ℕ) {e : Option ℕ} → rest ≡ drop place r → e ≡ module_end (words_in rest) names q → e ≡ None
       → false ≡ modules_ok (n - k) (words_in (drop place r)) names q
   unfolding modules_ok
   modules_bad rest f s z = rw (turn, ← f, ← s, z)
 
   pub modules_on
-      : (rest : List ℕ) {e : End} {q' m : ℕ} → rest ≡ drop place r → e ≡ module_end (words_in rest) names q → e ≡ At q' → m ≡ module_size (words_in rest)
+      : (rest : List ℕ) {e : Option ℕ} {q' m : ℕ} → rest ≡ drop place r → e ≡ module_end (words_in rest) names q → e ≡ Some q' → m ≡ module_size (words_in rest)
       → modules_ok (n - (k + 1)) (words_in (drop (place + 4 * m) r)) names q' ≡ modules_ok (n - k) (words_in (drop place r)) names q
   unfolding modules_ok
   modules_on rest {m = m} f s z y =
@@ -120,20 +118,20 @@ left_over r place = length-words (drop place r) ∙ ap (λ x. x / 4) (length-dro
 
 -- a record that passed ends inside the bytes
 pub module_fits
-    : (ws names : List ℕ) (q : ℕ) {e : End} {q' : ℕ} → e ≡ module_end ws names q → e ≡ At q' → module_size ws ≤ length ws
+    : (ws names : List ℕ) (q : ℕ) {e : Option ℕ} {q' : ℕ} → e ≡ module_end ws names q → e ≡ Some q' → module_size ws ≤ length ws
 unfolding module_end
 module_fits ws names q {q' = q'} s z = go (fixed_ok ws names q) (ascending (exports_in (export_part ws) names)) refl (sym s ∙ z)
   where
     go
         : (a b : Bool) → fixed_ok ws names q ≡ a
-        → (if a && b then exports_end (length (export_part ws) / 3) (export_part ws) names 0 (q + get_or ws 4 0) else Bad) ≡ At q'
+        → (if a && b then exports_end (length (export_part ws) / 3) (export_part ws) names 0 (q + get_or ws 4 0) else None) ≡ Some q'
         → module_size ws ≤ length ws
     go true b p y = fixed_size_lem ws names q refl p
     go false b p y = let x : ◌≡◌ {A = ℕ} 0 1 = cc in absurd (omega arith)
 
 pub place-fits
-    : (r rest names : List ℕ) (place q : ℕ) {e : End} {q' m : ℕ} → place ≤ length r → rest ≡ drop place r
-    → e ≡ module_end (words_in rest) names q → e ≡ At q' → m ≡ module_size (words_in rest) → place + 4 * m ≤ length r
+    : (r rest names : List ℕ) (place q : ℕ) {e : Option ℕ} {q' m : ℕ} → place ≤ length r → rest ≡ drop place r
+    → e ≡ module_end (words_in rest) names q → e ≡ Some q' → m ≡ module_size (words_in rest) → place + 4 * m ≤ length r
 place-fits r rest names place q {m = m} h f s z y =
     let a : m ≤ length (words_in rest) = rw y (module_fits (words_in rest) names q s z) in
     let b : length (words_in rest) ≡ (length r - place) / 4 = rw f (left_over r place) in

@@ -1,4 +1,5 @@
 -- What the code of `session::file` finds, test by test: the steps of a table, and the judgement.
+use Rattle.std.specs.Prelude.{Option, is_some}
 use Prim.Native.Nat.{ℕ, zero, suc, ◌+◌, ◌<◌}
 use mathlib.Core.Logic.{inl, inr}
 use mathlib.Core.Path.{◌≡◌}
@@ -9,20 +10,21 @@ use native.Mathlib.Nat.{eq-or-lt_of_le}
 use native.Mathlib.Numerals.{add-one}
 use lib.ListN.{length}
 use lib.Dec.{leb}
+use Rattle.linker_spec.specs.declared.call.Call.{Call}
 use Rattle.session.specs.Head.{head_word}
 use Rattle.session.proofs.head.Laws.{parts}
 use Rattle.session.specs.Steps.{step_at}
-use Rattle.session.specs.File.{is_step, are_steps, is_session}
+use Rattle.session.specs.File.{are_steps, is_session}
 
 -- once a step is no call, the steps are not all calls
-pub step_bad : (file : List ℕ) (k count : ℕ) {t : Bool} → k < count → t ≡ is_step (step_at file k) → t ≡ false → false ≡ are_steps file count
+pub step_bad : (file : List ℕ) (k count : ℕ) {step : Option Call} → k < count → step ≡ step_at file k → is_some step ≡ false → false ≡ are_steps file count
 unfolding are_steps
 step_bad file k zero h s e = absurd (omega arith)
 step_bad file k (suc n) h s e =
     elim (eq-or-lt_of_le {n = k} {m = n} (omega arith))
     [ inl z ↦ rw (← z, ← s, e, and-false (are_steps file k)) | inr l ↦ rw (← step_bad file k n l s e) ]
 
-pub step_on : (file : List ℕ) (k : ℕ) {t : Bool} → are_steps file k ≡ true → t ≡ is_step (step_at file k) → t ≡ true → are_steps file (k + 1) ≡ true
+pub step_on : (file : List ℕ) (k : ℕ) {step : Option Call} → are_steps file k ≡ true → step ≡ step_at file k → is_some step ≡ true → are_steps file (k + 1) ≡ true
 unfolding are_steps
 step_on file k z s e = rw (add-one, z, ← s, e)
 

@@ -1,19 +1,17 @@
 -- The pieces of the line, in the order in which they are put.
+use Rattle.std.specs.Prelude.{Option}
 use Prim.Native.Nat.{ℕ}
-use mathlib.Core.Path.{◌≡◌}
-use mathlib.Core.List.{List, ◌++◌}
-use Rattle.text.specs.Text.{bytes, hex_of, decimal_of, put}
-use Rattle.text.specs.Laws.{put_then, put-then-two}
-use Rattle.session.specs.declared.step.Step.{Step}
+use mathlib.Core.List.{◌++◌}
+use Rattle.text.specs.declared.Text.{Text}
+use Rattle.text.specs.Text.{bytes, hex_of, decimal_of}
+use Rattle.text.specs.Puts.{Puts, puts_then, puts-then-two}
+use Rattle.linker_spec.specs.declared.call.Call.{Call}
 use Rattle.session.specs.Lines.{step_name, step_line}
 
-module _ (k : ℕ) (step : Step) (number value : ℕ) (o : ℕ × List ℕ) {p₁ p₂ p₃ p₄ p₅ p₆ : ℕ × List ℕ} where
-  pub step_line_lem
-      : p₁ ≡ put (decimal_of k) o → p₂ ≡ put (bytes " ") p₁ → p₃ ≡ put (step_name step) p₂
-      → p₄ ≡ put (bytes " " ++ decimal_of number) p₃ → p₅ ≡ put (bytes " " ++ hex_of value) p₄ → p₆ ≡ put (bytes "\n") p₅
-      → p₆ ≡ put (step_line k step number value) o
-  unfolding step_line
-  step_line_lem e₁ e₂ e₃ e₄ e₅ e₆ =
-      put_then _ _ o
-      (put-then-two _ _ o (put-then-two _ _ o (put_then _ _ o (put_then _ _ o e₁ e₂) e₃) _ e₄) _ e₅)
-      e₆
+pub step_line_lem
+    : (k : ℕ) (step : Option Call) (number value : ℕ) {t₀ t₁ t₂ t₃ t₄ t₅ t₆ : Text} → Puts (decimal_of k) t₀ t₁ → Puts (bytes " ") t₁ t₂
+    → Puts (step_name step) t₂ t₃ → Puts (bytes " " ++ decimal_of number) t₃ t₄ → Puts (bytes " " ++ hex_of value) t₄ t₅ → Puts (bytes "\n") t₅ t₆
+    → Puts (step_line k step number value) t₀ t₆
+unfolding step_line
+step_line_lem k step number value e₁ e₂ e₃ e₄ e₅ e₆ =
+    puts_then (puts-then-two _ _ (puts-then-two _ _ (puts_then (puts_then e₁ e₂) e₃) e₄) e₅) e₆

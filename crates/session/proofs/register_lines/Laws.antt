@@ -22,44 +22,43 @@ use Rattle.register.specs.Read.Places.{RecordStands, RecordsStand, stands_end, s
 use Rattle.register.specs.Read.Encoded.{modules_stand, module_count, missing_count, missing_name}
 use Rattle.register.specs.Read.Walk.{WalkStep, turn, unwrapped}
 use Rattle.text.specs.Text.{bytes, hex_of, decimal_of, pairs_of, put}
-use Rattle.text.specs.Laws.{put-append, put_then, put-then-two}
+use Rattle.text.specs.Laws.{put-append, put_then}
+use Rattle.text.specs.declared.Text.{Text}
+use Rattle.text.specs.Puts.{Puts, puts_then, puts-then-two}
 use Rattle.session.specs.RegisterLines.Lines.{name_text, module_line, module_lines, name_lines, missing_lines}
 
 -- a name
 
-pub name-empty
-    : (name : List ℕ) (o : ℕ × List ℕ) {p : ℕ × List ℕ} → length name ≡ 0 → p ≡ put (decimal_of (length name)) o → p ≡ put (name_text name) o
+pub name-empty : (name : List ℕ) {a b : Text} → length name ≡ 0 → Puts (decimal_of (length name)) a b → Puts (name_text name) a b
 unfolding name_text
-name-empty [] o h e = e
-name-empty (b ∷ s) o h e = absurd (omega arith)
+name-empty [] h e = e
+name-empty (b ∷ s) h e = absurd (omega arith)
 
 pub name-bytes
-    : (name : List ℕ) (o : ℕ × List ℕ) {p q r : ℕ × List ℕ} → length name ≢ 0 → p ≡ put (decimal_of (length name)) o
-    → q ≡ put (bytes " ") p → r ≡ put (pairs_of name) q → r ≡ put (name_text name) o
+    : (name : List ℕ) {a b c d : Text} → length name ≢ 0 → Puts (decimal_of (length name)) a b → Puts (bytes " ") b c → Puts (pairs_of name) c d
+    → Puts (name_text name) a d
 unfolding name_text
-name-bytes [] o h e f g = absurd (h refl)
-name-bytes (b ∷ s) o h e f g = put_then _ _ o (put_then _ _ o e f) g
+name-bytes [] h e f g = absurd (h refl)
+name-bytes (b ∷ s) h e f g = puts_then (puts_then e f) g
 
 -- a module
 
 module_pieces
-    : (m : Module) (o : ℕ × List ℕ) {p₁ p₂ p₃ p₄ p₅ p₆ p₇ p₈ : ℕ × List ℕ}
-    → p₁ ≡ put (bytes "module " ++ hex_of m.base) o
-    → p₂ ≡ put (bytes " " ++ hex_of m.size) p₁
-    → p₃ ≡ put (bytes " " ++ decimal_of (flag m.auto)) p₂
-    → p₄ ≡ put (bytes " " ++ decimal_of (length m.named)) p₃
-    → p₅ ≡ put (bytes " " ++ decimal_of (length m.indexed)) p₄
-    → p₆ ≡ put (bytes " ") p₅
-    → p₇ ≡ put (name_text m.name) p₆
-    → p₈ ≡ put (bytes "\n") p₇
-    → p₈ ≡ put (module_line m) o
+    : (m : Module) {t₀ t₁ t₂ t₃ t₄ t₅ t₆ t₇ t₈ : Text}
+    → Puts (bytes "module " ++ hex_of m.base) t₀ t₁
+    → Puts (bytes " " ++ hex_of m.size) t₁ t₂
+    → Puts (bytes " " ++ decimal_of (flag m.auto)) t₂ t₃
+    → Puts (bytes " " ++ decimal_of (length m.named)) t₃ t₄
+    → Puts (bytes " " ++ decimal_of (length m.indexed)) t₄ t₅
+    → Puts (bytes " ") t₅ t₆
+    → Puts (name_text m.name) t₆ t₇
+    → Puts (bytes "\n") t₇ t₈
+    → Puts (module_line m) t₀ t₈
 unfolding module_line
-module_pieces m o e₁ e₂ e₃ e₄ e₅ e₆ e₇ e₈ =
-    let f₂ = put-then-two _ _ o e₁ _ e₂ in
-    let f₃ = put-then-two _ _ o f₂ _ e₃ in
-    let f₄ = put-then-two _ _ o f₃ _ e₄ in
-    let f₅ = put-then-two _ _ o f₄ _ e₅ in
-    put_then _ _ o (put_then _ _ o (put_then _ _ o f₅ e₆) e₇) e₈
+module_pieces m e₁ e₂ e₃ e₄ e₅ e₆ e₇ e₈ =
+    let f₃ = puts-then-two _ _ (puts-then-two _ _ e₁ e₂) e₃ in
+    let f₅ = puts-then-two _ _ (puts-then-two _ _ f₃ e₄) e₅ in
+    puts_then (puts_then (puts_then f₅ e₆) e₇) e₈
 
 module _ (records names : List ℕ) (place : ℕ) (m : Module) (s : RecordStands records names place m) {r : Record} {name : List ℕ}
     (er : r ≡ record_at records place) (en : name ≡ part names r.name_offset r.name_length) where
@@ -77,19 +76,19 @@ module _ (records names : List ℕ) (place : ℕ) (m : Module) (s : RecordStands
       rw its_name (omega (arith, leb-true (length m.name) 512 b.0))
 
   pub module_line_lem
-      : (o : ℕ × List ℕ) {p₁ p₂ p₃ p₄ p₅ p₆ p₇ p₈ : ℕ × List ℕ}
-      → p₁ ≡ put (bytes "module " ++ hex_of r.base) o
-      → p₂ ≡ put (bytes " " ++ hex_of r.size) p₁
-      → p₃ ≡ put (bytes " " ++ decimal_of r.auto_link) p₂
-      → p₄ ≡ put (bytes " " ++ decimal_of r.named) p₃
-      → p₅ ≡ put (bytes " " ++ decimal_of r.indexed) p₄
-      → p₆ ≡ put (bytes " ") p₅
-      → p₇ ≡ put (name_text name) p₆
-      → p₈ ≡ put (bytes "\n") p₇
-      → p₈ ≡ put (module_line (module_at records names place)) o
-  module_line_lem o e₁ e₂ e₃ e₄ e₅ e₆ e₇ e₈ =
+      : {t₀ t₁ t₂ t₃ t₄ t₅ t₆ t₇ t₈ : Text}
+      → Puts (bytes "module " ++ hex_of r.base) t₀ t₁
+      → Puts (bytes " " ++ hex_of r.size) t₁ t₂
+      → Puts (bytes " " ++ decimal_of r.auto_link) t₂ t₃
+      → Puts (bytes " " ++ decimal_of r.named) t₃ t₄
+      → Puts (bytes " " ++ decimal_of r.indexed) t₄ t₅
+      → Puts (bytes " ") t₅ t₆
+      → Puts (name_text name) t₆ t₇
+      → Puts (bytes "\n") t₇ t₈
+      → Puts (module_line (module_at records names place)) t₀ t₈
+  module_line_lem e₁ e₂ e₃ e₄ e₅ e₆ e₇ e₈ =
       rw s.back
-      (module_pieces m o (rw its_record at e₁) (rw its_record at e₂) (rw its_record at e₃) (rw its_record at e₄)
+      (module_pieces m (rw its_record at e₁) (rw its_record at e₂) (rw its_record at e₃) (rw its_record at e₄)
       (rw its_record at e₅) e₆ (rw its_name at e₇) e₈)
 
 -- the modules that are left: their records, and their lines
@@ -125,9 +124,6 @@ module _ (records names : List ℕ) (o : ℕ × List ℕ) where
     module _ (h : k < get_or (words_in records) 0 0) where
       first : WalkStep records names place k w.left
       first = turn records names place k w.left w.standing w.count h
-
-      pub left_here : (m : Module) × RecordStands records names place m
-      left_here = (first.here, first.stands)
 
       pub left_goes
           : {q : ℕ × List ℕ} {r : Record} {end : ℕ} → q ≡ put (module_line (module_at records names place)) p

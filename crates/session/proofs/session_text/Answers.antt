@@ -1,35 +1,46 @@
-use mathlib.Core.Path.{sym, ◌∙◌}
-use native.Mathlib.Omega.{arith}
-use borrow.Author.Tests.{not-true, not-false}
+use Rattle.std.proofs.Common.{sym, ◌∙◌, rules, length-take-le, ℕ, arith}
+use lib.ListN.{length-replicate}
 use Rattle.text.specs.Text.{bytes}
-use Rattle.text.specs.Laws.{put-within}
 use Rattle.session.specs.Parts.{session_parts}
 use Rattle.session.specs.Start.{zeroed}
-use Rattle.session.proofs.Whole.{text_bad, window_laid, text_good}
+use Rattle.session.proofs.Whole.{text_bad, window_fits, in_buffer, text_good}
 use Rattle.session.proofs.session_text.Goals as goal
 
 pub returns-then-not-is_session : goal.returns-then-not-is_session
 unfolding bytes
 returns-then-not-is_session c =
     let a = c.args in
-    text_bad a.file.now (0, a.out.now) (sym c.is_session.ensures ∙ not-true _ c.if-not-is_session.true-raw) c.put_text.ensures
+    let s = sym c.is_session.ensures ∙ c.if-not-is_session.true in
+    let same = c.put.ensures.same in
+    in_buffer (text_bad a.file.now (0, a.out.now) s c.put.ensures.text) (search rules)
 
 pub slice_bounds-window-end : goal.slice_bounds-window-end
-slice_bounds-window-end c = (put-within _ 0 _ (omega arith) c.put_text-length.ensures).0
+slice_bounds-window-end c =
+    let h = window_fits c.args.file.now (sym c.is_session.ensures ∙ c.if-not-is_session.false) c.window_bytes-bytes.ensures in
+    omega (arith, h, length-replicate {A = ℕ} 32768 0)
 
-pub slice_bounds-run_steps-end : goal.slice_bounds-run_steps-end
-slice_bounds-run_steps-end c = (put-within _ 0 _ (omega arith) c.put_text-length.ensures).1
+pub slice_bounds-window-end-2 : goal.slice_bounds-window-end-2
+slice_bounds-window-end-2 c =
+    sym (length-take-le _ _ (window_fits c.args.file.now (sym c.is_session.ensures ∙ c.if-not-is_session.false) c.window_bytes-bytes.ensures))
 
-pub run_steps-i-requires : goal.run_steps-i-requires
-run_steps-i-requires c =
+pub copy_from_slice-requires : goal.copy_from_slice-requires
+copy_from_slice-requires c =
+    length-take-le _ _ (window_fits c.args.file.now (sym c.is_session.ensures ∙ c.if-not-is_session.false) c.window_bytes-bytes.ensures)
+
+pub run_steps-requires : goal.run_steps-requires
+run_steps-requires c =
     let a = c.args in
-    ((session_parts a.file.now (sym c.is_session.ensures ∙ not-false _ c.if-not-is_session.false-raw)).0, zeroed)
+    ((session_parts a.file.now (sym c.is_session.ensures ∙ c.if-not-is_session.false)).0, zeroed)
 
 pub returns : goal.returns
 unfolding bytes
 returns c =
     let a = c.args in
-    let s = sym c.is_session.ensures ∙ not-false _ c.if-not-is_session.false-raw in
-    text_good a.file.now (0, a.out.now) s (window_laid a.file.now _ s c.window_bytes.ensures c.put_text-length.ensures)
-    c.put_text-i.ensures c.step_count.ensures c.put_decimal-i.ensures c.put_text-i-2.ensures
-    c.run_steps-i.ensures c.put_register.ensures
+    let s = sym c.is_session.ensures ∙ c.if-not-is_session.false in
+    let same =
+    c.put_register.ensures.same ∙ c.run_steps.ensures.same ∙ c.put-3.ensures.same ∙ c.put_decimal.ensures.same ∙ c.put-2.ensures.same in
+    in_buffer
+    (text_good a.file.now (0, a.out.now) s (c.copy_from_slice.ensures.after ∙ c.window_bytes-bytes.ensures)
+    c.put-2.ensures.text c.step_count.ensures c.put_decimal.ensures.text c.put-3.ensures.text
+    c.run_steps.ensures.ran c.put_register.ensures.text)
+    (search rules)

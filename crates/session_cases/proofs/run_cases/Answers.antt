@@ -1,9 +1,9 @@
--- One case less is left at each turn.
+-- A case's text ends within the buffer.
 use Rattle.session_cases.proofs.Laws.{within}
 use Rattle.session_cases.proofs.run_cases.Goals as goal
 
 pub slice_bounds-text-end : goal.slice_bounds-text-end
-slice_bounds-text-end g c = (within _ _ _ c.run_case.ensures c.in-Text.is).0
+slice_bounds-text-end g c = (within _ _ _ c.run_case.ensures c.in-Some.is).0
 
-pub slice_bounds-write_all-end-in-Text : goal.slice_bounds-write_all-end-in-Text
-slice_bounds-write_all-end-in-Text g c = (within _ _ _ c.run_case.ensures c.in-Text.is).1
+pub slice_bounds-write_all-end-in-loop-k-2 : goal.slice_bounds-write_all-end-in-loop-k-2
+slice_bounds-write_all-end-in-loop-k-2 g c = (within _ _ _ c.run_case.ensures c.in-Some.is).1

@@ -1,4 +1,5 @@
 -- From the code's loops over names to the definitions of `Name`.
+use Rattle.std.specs.declared.cmp.Ordering.TheVariants.{Less, Equal, Greater}
 use Rattle.std.proofs.Common.{◌≡◌, ℕ, zero, suc, ◌+◌, ◌-◌, ◌%◌, ◌^◌, ◌<◌, ◌≤◌, true, leb, ◌≢◌, List, [], ◌∷◌, ◌++◌, length, get_or, take, drop, set, sym, refl, ap, ◌∙◌, append_assoc, append-nil, add-one, arith, take-append-drop, drop_of_length-le, length-take-le, get_or-drop, drop-cons, get_or-take, drop-drop, take-suc-set, drop-set-lt, le-ltb, lt-ltb, eq-eqb, ne_eqb}
 use native.Mathlib.Decide.{ℕ_discrete, dec_lt}
 use Rattle.window.specs.Memory.{◌⊕◌, place, byte_at}
@@ -12,7 +13,6 @@ use Rattle.window.specs.Silent.{reads_run_t}
 use Rattle.window.specs.Name.{name_at, name_from, name_at_0, name_some, name-stop, name_on, name_at_reads, name_at-is_name, is_name, no_zero, same-bytes-same-name, laid_over, order_of, turned, order_turned}
 use Rattle.window.proofs.Laws.{byte_in}
 use Rattle.window.proofs.TraceLaws.{saw_byte_in, read8_is}
-use Rattle.window.specs.declared.name.NameOrder.TheVariants.{Before, Same, After}
 
 pub name_nothing : (at p : ℕ) (s : State) → p ≡ 0 → ([], s) ≡ run_t at (name_at p) s
 name_nothing at p s e = rw (e, name_at_0) (given at [] s)
@@ -164,16 +164,16 @@ module _ (at p : ℕ) (w t : List ℕ) {i : ℕ} (e : i ≡ place at p) (h : i +
 -- the order of what is left from place i on
 
 module _ (a b : List ℕ) (i : ℕ) where
-  pub order_after : i < length a → length b ≤ i → After ≡ order_of (drop i a) (drop i b)
+  pub order_after : i < length a → length b ≤ i → Greater ≡ order_of (drop i a) (drop i b)
   unfolding order_of
   order_after l h = rw (drop-cons a i 0 l, drop_of_length-le b h)
 
-  pub order_less : i < length a → i < length b → get_or a i 0 < get_or b i 0 → Before ≡ order_of (drop i a) (drop i b)
+  pub order_less : i < length a → i < length b → get_or a i 0 < get_or b i 0 → Less ≡ order_of (drop i a) (drop i b)
   unfolding order_of
   order_less l m h = rw (drop-cons a i 0 l, drop-cons b i 0 m) (simp (lt-ltb _ _ h))
 
   pub order_more
-      : i < length a → i < length b → get_or b i 0 ≤ get_or a i 0 → get_or b i 0 < get_or a i 0 → After ≡ order_of (drop i a) (drop i b)
+      : i < length a → i < length b → get_or b i 0 ≤ get_or a i 0 → get_or b i 0 < get_or a i 0 → Greater ≡ order_of (drop i a) (drop i b)
   unfolding order_of
   order_more l m g h = rw (drop-cons a i 0 l, drop-cons b i 0 m) (simp (le-ltb _ _ g, lt-ltb _ _ h))
 
@@ -183,11 +183,11 @@ module _ (a b : List ℕ) (i : ℕ) where
   unfolding order_of
   order_on l m g h = rw (drop-cons a i 0 l, drop-cons b i 0 m, add-one) (simp (le-ltb _ _ g, le-ltb _ _ h))
 
-  pub order_shorter : length a ≤ i → i < length b → Before ≡ order_of (drop i a) (drop i b)
+  pub order_shorter : length a ≤ i → i < length b → Less ≡ order_of (drop i a) (drop i b)
   unfolding order_of
   order_shorter l m = rw (drop_of_length-le a l, drop-cons b i 0 m)
 
-  pub order_end : length a ≤ i → length b ≤ i → Same ≡ order_of (drop i a) (drop i b)
+  pub order_end : length a ≤ i → length b ≤ i → Equal ≡ order_of (drop i a) (drop i b)
   unfolding order_of
   order_end l m = rw (drop_of_length-le a l, drop_of_length-le b m)
 
@@ -196,10 +196,10 @@ module _ (a b : List ℕ) (i : ℕ) where
 -- a byte decides, or what follows it
 order_first
     : (a b : List ℕ) (i j : ℕ) → j ≡ i + 1 → i < length a → i < length b → get_or a i 0 ≤ get_or b i 0
-    → (get_or a i 0 ≡ get_or b i 0 → Before ≡ order_of (drop j a) (drop j b)) → Before ≡ order_of (drop i a) (drop i b)
+    → (get_or a i 0 ≡ get_or b i 0 → Less ≡ order_of (drop j a) (drop j b)) → Less ≡ order_of (drop i a) (drop i b)
 order_first a b i j e l m h rest = go (dec_lt (get_or a i 0) (get_or b i 0))
   where
-    go : Dec (get_or a i 0 < get_or b i 0) → Before ≡ order_of (drop i a) (drop i b)
+    go : Dec (get_or a i 0 < get_or b i 0) → Less ≡ order_of (drop i a) (drop i b)
     go (yes y) = order_less a b i l m y
     go (no n) =
         let s : get_or a i 0 ≡ get_or b i 0 = omega arith in
@@ -237,7 +237,7 @@ module _ (a b : List ℕ) (i : ℕ) (small-a : (k : ℕ) → get_or a k 0 < 256)
       ∙ order_on a b i (omega arith) (omega arith) (omega (arith, s.0)) (omega (arith, s.0))
 
   -- not the same: the numbers, highest byte first, stand in the order of the bytes
-  order_high : i + 4 ≤ length a → i + 4 ≤ length b → high_word_in a i < high_word_in b i → Before ≡ order_of (drop i a) (drop i b)
+  order_high : i + 4 ≤ length a → i + 4 ≤ length b → high_word_in a i < high_word_in b i → Less ≡ order_of (drop i a) (drop i b)
   unfolding high_word_in
   order_high l m h =
       let a₁ = small-a (i + 1) in
@@ -257,12 +257,12 @@ module _ (a b : List ℕ) (i : ℕ) (small-a : (k : ℕ) → get_or a k 0 < 256)
 
   pub word_before
       : i + 4 ≤ length a → i + 4 ≤ length b → word_in a i ≢ word_in b i → high_word_in a i ≤ high_word_in b i
-      → Before ≡ order_of (drop i a) (drop i b)
+      → Less ≡ order_of (drop i a) (drop i b)
   word_before l m n h = order_high l m (omega (arith, high_differs n))
 
 pub word_after
     : (a b : List ℕ) (i : ℕ) → ((k : ℕ) → get_or a k 0 < 256) → ((k : ℕ) → get_or b k 0 < 256) → i + 4 ≤ length a → i + 4 ≤ length b
-    → high_word_in b i < high_word_in a i → After ≡ order_of (drop i a) (drop i b)
+    → high_word_in b i < high_word_in a i → Greater ≡ order_of (drop i a) (drop i b)
 word_after a b i small-a small_b l m h =
     ap turned (order_high b a i small_b small-a m l h) ∙ sym (order_turned (drop i b) (drop i a))
 

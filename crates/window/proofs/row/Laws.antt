@@ -1,5 +1,5 @@
 -- From the code's tests to `row_of`; an access inside, by place, is the access at its address, and leaves no touch.
-use Rattle.std.proofs.Common.{◌≡◌, ℕ, ◌+◌, ◌-◌, ◌^◌, ◌<◌, ◌≤◌, List, length, get_or, refl, arith, le-leb}
+use Rattle.std.proofs.Common.{◌≡◌, ℕ, ◌+◌, ◌-◌, ◌^◌, ◌<◌, ◌≤◌, List, length, get_or, refl, arith, le-leb, Some, None}
 use borrow.Author.Tests.{lt-leb}
 use Rattle.window.specs.Memory.{place}
 use Rattle.window.specs.Bytes.{place-small}
@@ -7,12 +7,11 @@ use Rattle.window.specs.Word.{word_in, set_word_in}
 use Rattle.window.specs.Access.{get8, get32, put32}
 use Rattle.window.specs.Trace.{saw, run_t}
 use Rattle.window.specs.Row.{row_of, Stands}
-use Rattle.window.specs.declared.row.Row.TheVariants.{At, Elsewhere}
 use Rattle.window.proofs.Laws.{byte_in, row_word, row_put}
 use Rattle.window.proofs.TraceLaws.{read8_is, read32_is, write32_is, row_in, saw_in, saw_byte_in}
 
 module _ (at n x count : ℕ) {p : ℕ} (e : p ≡ place at x) where
-  pub row_wraps : 2 ^ 32 - p < count → Elsewhere ≡ row_of at n x count
+  pub row_wraps : 2 ^ 32 - p < count → None ≡ row_of at n x count
   unfolding row_of
   row_wraps h = rw (← e, lt-leb (p + count) (2 ^ 32) (omega arith))
 
@@ -20,11 +19,11 @@ module _ (at n x count : ℕ) {p : ℕ} (e : p ≡ place at x) where
     low_sum : p + count ≤ 2 ^ 32
     low_sum = omega (arith, e, place-small at x)
 
-    pub row_ends : n < p + count → Elsewhere ≡ row_of at n x count
+    pub row_ends : n < p + count → None ≡ row_of at n x count
     unfolding row_of
     row_ends h = rw (← e, le-leb (p + count) (2 ^ 32) low_sum, lt-leb (p + count) n h)
 
-    pub row-there : p + count ≤ n → At p ≡ row_of at n x count
+    pub row-there : p + count ≤ n → Some p ≡ row_of at n x count
     unfolding row_of
     row-there h = rw (← e, le-leb (p + count) (2 ^ 32) low_sum, le-leb (p + count) n h)
 

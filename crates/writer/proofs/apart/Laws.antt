@@ -1,5 +1,5 @@
 -- What the proofs of `writer::apart` cite: two words that do not overlap, a walk over both tables of words, and words past the image's end.
-use Prim.Native.Nat.{ℕ, suc, ◌+◌, ◌-◌, ◌≤◌, ◌<◌, max}
+use Prim.Native.Nat.{ℕ, ◌+◌, ◌-◌, ◌≤◌, ◌<◌, max}
 use mathlib.Core.Path.{◌≡◌, refl, sym, ◌∙◌}
 use mathlib.Core.Logic.{◌⊎◌, inl, inr, ⊎_elim}
 use mathlib.Core.List.{List}
@@ -7,17 +7,16 @@ use mathlib.Core.Bool.{Bool, true, false, not, ◌&&◌, ◌||◌}
 use native.Mathlib.Omega.{arith}
 use native.Mathlib.Nat.{le-max_left, le-max_right}
 use native.Mathlib.Decide.{ℕ_discrete, dec_lt}
-use lib.Dec.{leb, ltb}
+use lib.Dec.{leb}
 use borrow.Author.Tests.{le-leb, leb-true, eq-eqb, ne_eqb, not-true}
 use Rattle.window.specs.Tests.{both}
 use Rattle.history.specs.Image.{externals, internals, count}
-use Rattle.writer_spec.specs.All.{all_below, all-at, all_more, all_true, all_false, all_fails, all_same, all_none}
-use Rattle.writer_spec.specs.Words.{word_count, word_of, places_apart, words_apart, free, far_clear, far_past, far_apart, past_image}
+use Rattle.writer_spec.specs.All.{all_below, all-at, all_true, all_false, all_fails, all_same}
+use Rattle.writer_spec.specs.Words.{word_count, word_of, places_apart, words_apart, far_past, far_apart, past_image}
 use Rattle.writer_spec.specs.declared.words.WordPlace.{WordPlace}
 use Rattle.writer_spec.specs.declared.words.WordPlace.TheVariants.{InImage, InData, InBss, Nowhere}
 use Rattle.writer_spec.specs.declared.words.Room.{Room}
-use Rattle.writer.specs.Apart.{key_of, is_somewhere, apart_between, apart_from, clear_of, next_number, ExternalFirst}
-use Rattle.writer.proofs.Laws.{and_stops, and_goes_on, or_stops, or_goes_on}
+use Rattle.writer.specs.Apart.{key_of, is_somewhere, apart_between, apart_from, clear_of, far_from, next_number, ExternalFirst}
 
 or_swapped : (a b : Bool) → (a || b) ≡ (b || a)
 or_swapped true true = refl
@@ -87,11 +86,9 @@ module _ (F : ℕ → ℕ) where
   abbrev pub Next : (i j n : ℕ) → Type 0
   Next i j n = ((n ≡ i) × (i < count F externals)) ⊎ ((n ≡ count F externals + j) × (j < count F internals))
 
-  pub either_first
-      : (i j : ℕ) (first : Bool) {external internal : ℕ} → external ≡ count F externals → i < external → internal ≡ count F internals
-      → j < internal → ExternalFirst F i j first
-  either_first i j true external l internal m = omega arith
-  either_first i j false external l internal m = λ _. omega arith
+  pub both_counted : {external internal : ℕ} → external ≡ count F externals → internal ≡ count F internals → external + internal ≡ word_count F
+  unfolding word_count
+  both_counted external internal = rw (external, internal)
 
   pub external_left : (i j : ℕ) {first : Bool} → first ≡ true → ExternalFirst F i j first → i < count F externals
   external_left i j taken next = rw taken at next
@@ -129,29 +126,6 @@ module _ (F : ℕ → ℕ) where
 module _ (F : ℕ → ℕ) (kinds : List ℕ) (room : Room) where
   -- a word against those with numbers from `from` to `to`
   module _ (w : WordPlace) (from : ℕ) where
-    pub none_between : true ≡ apart_between F kinds room w from from
-    unfolding apart_between
-    none_between =
-        let none : from - from ≡ 0 = omega arith in
-        rw none (sym (all_none (λ i. places_apart (word_of F kinds room (from + i)) w)))
-
-    pub more-between
-        : (i : ℕ) {place : WordPlace} {answer : Bool} → from ≤ i → true ≡ apart_between F kinds room w from i
-        → place ≡ word_of F kinds room i → answer ≡ places_apart place w → answer ≡ true → true ≡ apart_between F kinds room w from (i + 1)
-    unfolding apart_between
-    more-between i past before said answered held =
-        let one_more : i + 1 - from ≡ suc (i - from) = omega arith in
-        let number : from + (i - from) ≡ i = omega arith in
-        rw one_more (sym (all_more (i - from) _ (rw (number, ← said, ← answered) held) (sym before)))
-
-    pub not-between
-        : (i to : ℕ) {place : WordPlace} {answer : Bool} → from ≤ i → i < to → place ≡ word_of F kinds room i
-        → answer ≡ places_apart place w → answer ≡ false → false ≡ apart_between F kinds room w from to
-    unfolding apart_between
-    not-between i to past inside said answered failed =
-        let number : from + (i - from) ≡ i = omega arith in
-        sym (all_false (to - from) _ (i - from) (omega arith) (rw (number, ← said, ← answered) failed))
-
     between-at
         : (to r : ℕ) → apart_between F kinds room w from to ≡ true → from ≤ r → r < to → places_apart (word_of F kinds room r) w ≡ true
     unfolding apart_between
@@ -190,33 +164,10 @@ module _ (F : ℕ → ℕ) (kinds : List ℕ) (room : Room) where
           let found = between_fails w (count F externals) (count F externals + j) f in
           (found.0, inr (found.1, found.2), found.3)
 
-  -- how the code finds that a word is clear of those walked
-  module _ (w : WordPlace) (i j last : ℕ) {somewhere : Bool} (said : somewhere ≡ is_somewhere w) where
-    pub clear_nowhere : somewhere ≡ false → true ≡ clear_of F kinds room w i j last
-    unfolding clear_of
-    clear_nowhere none = rw (← said, none)
-
-    module _ (some : somewhere ≡ true) {k : ℕ} {past : Bool} (key : k ≡ key_of w) (answered : past ≡ leb (last + 4) k) where
-      pub clear-past : past ≡ true → true ≡ clear_of F kinds room w i j last
-      unfolding clear_of
-      clear-past held = rw (← said, some, ← key, ← answered, held)
-
-      pub clear-apart-from
-          : {apart : Bool} → past ≡ false → apart ≡ apart_from F kinds room w i j → apart ≡ clear_of F kinds room w i j last
-      unfolding clear_of
-      clear-apart-from failed apart = rw (← said, some, ← key, ← answered, failed) apart
-
   -- no two of those walked overlap, and their keys are at most `last`
   pub record Walked (i j last : ℕ) : Type 0 where
     pub apart : (r k : ℕ) → Seen F i j r → Seen F i j k → r < k → places_apart (word_of F kinds room r) (word_of F kinds room k) ≡ true
     pub below : (r : ℕ) → Seen F i j r → key_of (word_of F kinds room r) ≤ last
-
-  pub none_walked : Walked 0 0 0
-  none_walked =
-      record {
-        apart = λ r k seen _ _. absurd (⊎_elim (λ l. omega arith) (λ l. omega arith) seen);
-        below = λ r seen. absurd (⊎_elim (λ l. omega arith) (λ l. omega arith) seen);
-      }
 
   Clear-apart
       : {i j last : ℕ} (w : WordPlace) → Walked i j last → clear_of F kinds room w i j last ≡ true → (r : ℕ) → Seen F i j r
@@ -310,54 +261,13 @@ module _ (F : ℕ → ℕ) (kinds : List ℕ) (room : Room) where
       (λ k l. all_true k _ (λ r m. walked.apart r k (seen r (omega arith)) (seen k l) m)))
 
   -- a word against all that lie in the lent areas
-  abbrev pub far_from : WordPlace → Bool
-  far_from a = all_below (word_count F) (λ k. far_apart room a (word_of F kinds room k))
-
   pub far_from_lem
       : {e : ℕ} (a : WordPlace) {answer : Bool} → e ≡ past_image room a → (e ≡ 0 → ⊥)
-      → answer ≡ all_below (word_count F) (λ k. far_past room e (word_of F kinds room k)) → answer ≡ far_from a
-  unfolding far_apart
+      → answer ≡ all_below (word_count F) (λ k. far_past room e (word_of F kinds room k)) → answer ≡ far_from F kinds room a
+  unfolding far_from far_apart
   far_from_lem {e} a said past answered =
       answered ∙ all_same (word_count F) _ _ (λ k l. rw (← said, ne_eqb e 0 past))
 
-  pub near_from : {e : ℕ} (a : WordPlace) → e ≡ past_image room a → e ≡ 0 → far_from a ≡ true
-  unfolding far_apart
+  pub near_from : {e : ℕ} (a : WordPlace) → e ≡ past_image room a → e ≡ 0 → far_from F kinds room a ≡ true
+  unfolding far_from far_apart
   near_from {e} a said none = all_true (word_count F) _ (λ k l. rw (← said, eq-eqb e 0 none))
-
--- the sum could overflow, so the code asks whether four bytes end there
-three-more : (e x : ℕ) → leb (e + 4) x ≡ ltb (e + 3) x
-three-more e x = let same : e + 4 ≡ suc (e + 3) = omega arith in rw same
-
-module _ (e t s free_bytes : ℕ) {answer : Bool} (answered : answer ≡ leb (e + 4) (s + t)) where
-  pub before_area : answer ≡ true → true ≡ far_clear e t s free_bytes
-  before_area held = or_stops (ltb (s + (t + (free_bytes + 3))) e) (answered ∙ three-more e (s + t)) held
-
-  pub not_before_area : answer ≡ false → ltb (s + (t + (free_bytes + 3))) e ≡ far_clear e t s free_bytes
-  not_before_area failed = or_goes_on (answered ∙ three-more e (s + t)) failed refl
-
-module _ (room : Room) (e : ℕ) where
-  in_room
-      : (t s : ℕ) {free_bytes : ℕ} {answer : Bool} → free_bytes ≡ free room → answer ≡ far_clear e t s free_bytes
-      → answer ≡ far_clear e t s (free room)
-  in_room t s said answered = answered ∙ rw said
-
-  pub far_data_stops
-      : {word : WordPlace} {t free_bytes : ℕ} {answer : Bool} → free_bytes ≡ free room → word ≡ InData t → answer ≡ far_clear e t 0 free_bytes
-      → not answer ≡ true → false ≡ far_past room e word
-  unfolding far_past
-  far_data_stops {t = t} said place answered failed =
-      rw place (and_stops (far_clear e t room.bss_size (free room)) (in_room t 0 said answered) failed)
-
-  pub far_data_goes_on
-      : {word : WordPlace} {t free_bytes : ℕ} {answer result : Bool} → free_bytes ≡ free room → word ≡ InData t
-      → answer ≡ far_clear e t 0 free_bytes → not answer ≡ false → result ≡ far_clear e t room.bss_size free_bytes
-      → result ≡ far_past room e word
-  unfolding far_past
-  far_data_goes_on {t = t} said place answered held last =
-      rw place (and_goes_on (in_room t 0 said answered) held (in_room t room.bss_size said last))
-
-  pub far_bss
-      : {word : WordPlace} {t free_bytes : ℕ} {answer : Bool} → free_bytes ≡ free room → word ≡ InBss t → answer ≡ far_clear e t 0 free_bytes
-      → answer ≡ far_past room e word
-  unfolding far_past
-  far_bss {t = t} said place answered = rw place (in_room t 0 said answered)

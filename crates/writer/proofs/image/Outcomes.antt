@@ -2,28 +2,28 @@
 use Prim.Native.Nat.{ℕ, ◌<◌, ◌≤◌}
 use mathlib.Core.Path.{◌≡◌, sym, ◌∙◌}
 use mathlib.Core.List.{List}
-use mathlib.Core.Bool.{Bool, true, false, not}
+use mathlib.Core.Bool.{Bool, true, false}
 use lib.ListN.{length}
-use borrow.Author.Tests.{lt-ltb, le-ltb, not-true, not-false}
+use borrow.Author.Tests.{lt-ltb, le-ltb}
 use Rattle.layout.specs.Header.{header_size}
 use Rattle.writer_spec.specs.Description.{image_size, image_of, described_size, read_back}
 use Rattle.writer_spec.specs.Accepts.{accepts}
 use Rattle.writer_spec.specs.Outcome.{left, over, write_outcome, read_outcome}
 
 module _ (d b : List ℕ) {answer : Bool} (said : answer ≡ accepts d) where
-  pub refused : not answer ≡ true → left 6 0 b ≡ write_outcome d b
+  pub refused : answer ≡ false → left 6 0 b ≡ write_outcome d b
   unfolding write_outcome
-  refused h = rw (sym said ∙ not-true answer h)
+  refused failed = rw (sym said ∙ failed)
 
-  pub taken : not answer ≡ false → accepts d ≡ true
-  taken h = sym said ∙ not-false answer h
+  pub taken : answer ≡ true → accepts d ≡ true
+  taken held = sym said ∙ held
 
-  pub too_short : {size : ℕ} → not answer ≡ false → size ≡ image_size d → length b < size → left 7 0 b ≡ write_outcome d b
+  pub too_short : {size : ℕ} → answer ≡ true → size ≡ image_size d → length b < size → left 7 0 b ≡ write_outcome d b
   unfolding write_outcome
   too_short h is short = rw (taken h, lt-ltb (length b) (image_size d) (rw is at short))
 
   pub written
-      : {size : ℕ} {done : List ℕ} → not answer ≡ false → size ≡ image_size d → size ≤ length b → done ≡ over (image_of d) b
+      : {size : ℕ} {done : List ℕ} → answer ≡ true → size ≡ image_size d → size ≤ length b → done ≡ over (image_of d) b
       → left 0 size done ≡ write_outcome d b
   unfolding write_outcome
   written h is room whole = rw (taken h, le-ltb (length b) (image_size d) (rw is at room), is, whole)

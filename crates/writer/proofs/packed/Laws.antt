@@ -1,13 +1,14 @@
 -- Bytes that are 0, a part after another, and a walk over the parts.
+use Rattle.std.specs.Prelude.{Option, Some, None, option_and_then}
 use Prim.Native.Nat.{ℕ, zero, suc, ◌+◌, ◌-◌, ◌*◌, ◌^◌, ◌≤◌, ◌<◌}
-use mathlib.Core.Path.{◌≡◌, refl, sym, ◌∙◌}
+use mathlib.Core.Path.{◌≡◌, refl}
 use mathlib.Core.List.{List, [], ◌∷◌, ◌++◌}
 use mathlib.Core.Bool.{Bool, true, false, ◌&&◌}
 use native.Mathlib.Omega.{arith}
 use native.Mathlib.Nat.{mul-le-mul}
 use native.Mathlib.Numerals.{add-one}
 use lib.ListN.{get_or}
-use lib.Dec.{eqb, leb}
+use lib.Dec.{leb}
 use borrow.Author.Tests.{eq-eqb, ne_eqb, leb-true}
 use Rattle.window.specs.Tests.{both}
 use Rattle.window.specs.Mirror.{word}
@@ -15,62 +16,36 @@ use Rattle.layout.specs.Header.{module_name_offset}
 use Rattle.layout.specs.Tables.{table_entry_sizes}
 use Rattle.layout.specs.declared.format.Segment.{Segment}
 use Rattle.history.specs.Image.{file_segment}
-use Rattle.writer_spec.specs.All.{all_below, all_more, all_false}
-use Rattle.writer_spec.specs.Description.{Block, up4, zeros, in_file, and_then, ends_at, block_after, packed_from, segment_blocks, pair_block, pair_blocks}
-use Rattle.writer_spec.specs.declared.packed.Reached.{Reached}
-use Rattle.writer_spec.specs.declared.packed.Reached.TheVariants.{At, Nowhere}
+use Rattle.writer_spec.specs.Description.{Block, up4, zeros, in_file, block_after, packed_from, segment_blocks, pair_block, pair_blocks}
 
 module _ (F : ℕ → ℕ) where
-  pub zeros_none : (from : ℕ) → zeros F from (from - from) ≡ true
-  unfolding zeros all_below
-  zeros_none from = let e : from - from ≡ 0 = omega arith in rw e
-
-  pub zeros-more
-      : (from i : ℕ) {byte : ℕ} → zeros F from (i - from) ≡ true → from ≤ i → byte ≡ F i → byte ≡ 0 → zeros F from (i + 1 - from) ≡ true
-  unfolding zeros
-  zeros-more from i all l said z =
-      let e : i + 1 - from ≡ suc (i - from) = omega arith in
-      let o : from + (i - from) ≡ i = omega arith in
-      rw e (all_more (i - from) (λ k. eqb (F (from + k)) 0) (rw o (eq-eqb (F i) 0 (sym said ∙ z))) all)
-
-  pub zeros_fail
-      : (from to i : ℕ) {byte : ℕ} → from ≤ i → i < to → byte ≡ F i → (byte ≡ 0 → ⊥) → false ≡ zeros F from (to - from)
-  unfolding zeros
-  zeros_fail from to i l m said z =
-      let o : from + (i - from) ≡ i = omega arith in
-      sym (all_false (to - from) (λ k. eqb (F (from + k)) 0) (i - from) (omega arith) (rw o (ne_eqb (F i) 0 (λ e. z (said ∙ e)))))
-
-  pub zeros-all
-      : (from to i : ℕ) → zeros F from (i - from) ≡ true → from ≤ i → i - from ≤ to - from → to ≤ i → true ≡ zeros F from (to - from)
-  zeros-all from to i all l m n = let e : i - from ≡ to - from = omega arith in sym (rw e at all)
-
   -- a part that does not start at the next multiple of 4, one behind bytes that are not 0, and one in its place
-  pub block_misplaced : (pos offset size : ℕ) → (offset ≡ up4 pos → ⊥) → Nowhere ≡ block_after F pos offset size
+  pub block_misplaced : (pos offset size : ℕ) → (offset ≡ up4 pos → ⊥) → None ≡ block_after F pos offset size
   unfolding block_after
   block_misplaced pos offset size off = rw (ne_eqb offset (up4 pos) off)
 
   pub block-behind-bytes
       : (pos offset size : ℕ) {answer : Bool} → offset ≡ up4 pos → answer ≡ zeros F pos (offset - pos) → answer ≡ false
-      → Nowhere ≡ block_after F pos offset size
+      → None ≡ block_after F pos offset size
   unfolding block_after
   block-behind-bytes pos offset size at said failed = rw (eq-eqb offset (up4 pos) at, ← at, ← said, failed)
 
   pub block-placed
       : (pos offset size : ℕ) {answer : Bool} → offset ≡ up4 pos → answer ≡ zeros F pos (offset - pos) → answer ≡ true
-      → At (offset + size) ≡ block_after F pos offset size
+      → Some (offset + size) ≡ block_after F pos offset size
   unfolding block_after
   block-placed pos offset size at said held = rw (eq-eqb offset (up4 pos) at, ← at, ← said, held)
 
   -- one part of a walk
   packed-at
-      : (pos : ℕ) (b : Block) (bs : List Block) {r : Reached} (next : ℕ) → r ≡ block_after F pos b.offset b.size → r ≡ At next
+      : (pos : ℕ) (b : Block) (bs : List Block) {r : Option ℕ} (next : ℕ) → r ≡ block_after F pos b.offset b.size → r ≡ Some next
       → packed_from F pos (b ∷ bs) ≡ packed_from F next bs
   unfolding packed_from
   packed-at pos b bs next said there = rw (← said, there)
 
   packed_nowhere
-      : (pos : ℕ) (b : Block) (bs : List Block) {r : Reached} → r ≡ block_after F pos b.offset b.size → r ≡ Nowhere
-      → packed_from F pos (b ∷ bs) ≡ Nowhere
+      : (pos : ℕ) (b : Block) (bs : List Block) {r : Option ℕ} → r ≡ block_after F pos b.offset b.size → r ≡ None
+      → packed_from F pos (b ∷ bs) ≡ None
   unfolding packed_from
   packed_nowhere pos b bs said none = rw (← said, none)
 
@@ -85,11 +60,8 @@ module _ (F : ℕ → ℕ) where
   segments_out n i h = rw h
 
   -- what is left of the walk over the segments, after i of them
-  abbrev pub segments_left : (all i pos : ℕ) → Reached
+  abbrev pub segments_left : (all i pos : ℕ) → Option ℕ
   segments_left all i pos = packed_from F pos (segment_blocks F (all - i) i)
-
-  pub segments-start : (all number pos : ℕ) → all ≡ number → segments_left all 0 pos ≡ packed_from F pos (segment_blocks F number 0)
-  segments-start all number pos said = let e : all - 0 ≡ number = omega arith in rw e
 
   pub segment-left_out
       : (all i pos : ℕ) {s : Segment} {inside : Bool} → i < all → s ≡ file_segment F i → inside ≡ in_file s.kind → inside ≡ false
@@ -100,8 +72,8 @@ module _ (F : ℕ → ℕ) where
       rw (e, segments_out (all - (i + 1)) i h, add-one)
 
   pub segment-passed
-      : (all i pos next : ℕ) {s : Segment} {inside : Bool} {r : Reached} → i < all → s ≡ file_segment F i → inside ≡ in_file s.kind
-      → inside ≡ true → r ≡ block_after F pos s.offset s.size → r ≡ At next
+      : (all i pos next : ℕ) {s : Segment} {inside : Bool} {r : Option ℕ} → i < all → s ≡ file_segment F i → inside ≡ in_file s.kind
+      → inside ≡ true → r ≡ block_after F pos s.offset s.size → r ≡ Some next
       → segments_left all (i + 1) next ≡ segments_left all i pos
   segment-passed all i pos next {s} l seg said held placed there =
       let e : all - i ≡ suc (all - (i + 1)) = omega arith in
@@ -110,26 +82,26 @@ module _ (F : ℕ → ℕ) where
       rw (e, segments_in (all - (i + 1)) i h, packed-at pos _ (segment_blocks F (all - (i + 1)) (suc i)) next p there, add-one)
 
   pub segment-refused
-      : (all i pos : ℕ) {s : Segment} {inside : Bool} {r : Reached} → i < all → s ≡ file_segment F i → inside ≡ in_file s.kind
-      → inside ≡ true → r ≡ block_after F pos s.offset s.size → r ≡ Nowhere
-      → Nowhere ≡ segments_left all i pos
+      : (all i pos : ℕ) {s : Segment} {inside : Bool} {r : Option ℕ} → i < all → s ≡ file_segment F i → inside ≡ in_file s.kind
+      → inside ≡ true → r ≡ block_after F pos s.offset s.size → r ≡ None
+      → None ≡ segments_left all i pos
   segment-refused all i pos {s} l seg said held placed none =
       let e : all - i ≡ suc (all - (i + 1)) = omega arith in
       let h : in_file (file_segment F i).kind ≡ true = rw (← seg, ← said, held) in
       let p = rw seg at placed in
       rw (e, segments_in (all - (i + 1)) i h, packed_nowhere pos _ (segment_blocks F (all - (i + 1)) (suc i)) p none)
 
-  pub segments_end : (all i pos : ℕ) → all ≤ i → At pos ≡ segments_left all i pos
+  pub segments_end : (all i pos : ℕ) → all ≤ i → Some pos ≡ segments_left all i pos
   unfolding packed_from segment_blocks
   segments_end all i pos l = let e : all - i ≡ 0 = omega arith in rw e
 
   -- what is left of the walk over the header's pairs of offset and count, after k of them
-  abbrev pub pairs_left : (all k pos : ℕ) → Reached
+  abbrev pub pairs_left : (all k pos : ℕ) → Option ℕ
   pairs_left all k pos = packed_from F pos (pair_blocks F (all - k) k)
 
   pub pair-passed
-      : (all k pos next : ℕ) {offset number width : ℕ} {r : Reached} → k < all → number ≡ word F (module_name_offset + 8 * k + 4)
-      → width ≡ get_or table_entry_sizes k 0 → offset ≡ word F (module_name_offset + 8 * k) → r ≡ block_after F pos offset (number * width) → r ≡ At next
+      : (all k pos next : ℕ) {offset number width : ℕ} {r : Option ℕ} → k < all → number ≡ word F (module_name_offset + 8 * k + 4)
+      → width ≡ get_or table_entry_sizes k 0 → offset ≡ word F (module_name_offset + 8 * k) → r ≡ block_after F pos offset (number * width) → r ≡ Some next
       → pairs_left all (k + 1) next ≡ pairs_left all k pos
   unfolding pair_block pair_blocks
   pair-passed all k pos next l n w o placed there =
@@ -139,9 +111,9 @@ module _ (F : ℕ → ℕ) where
       rw (e, packed-at pos (pair_block F k) (pair_blocks F (all - (k + 1)) (suc k)) next p there, add-one)
 
   pub pair-refused
-      : (all k pos : ℕ) {offset number width : ℕ} {r : Reached} → k < all → number ≡ word F (module_name_offset + 8 * k + 4)
-      → width ≡ get_or table_entry_sizes k 0 → offset ≡ word F (module_name_offset + 8 * k) → r ≡ block_after F pos offset (number * width) → r ≡ Nowhere
-      → Nowhere ≡ pairs_left all k pos
+      : (all k pos : ℕ) {offset number width : ℕ} {r : Option ℕ} → k < all → number ≡ word F (module_name_offset + 8 * k + 4)
+      → width ≡ get_or table_entry_sizes k 0 → offset ≡ word F (module_name_offset + 8 * k) → r ≡ block_after F pos offset (number * width) → r ≡ None
+      → None ≡ pairs_left all k pos
   unfolding pair_block pair_blocks
   pair-refused all k pos l n w o placed none =
       let e : all - k ≡ suc (all - (k + 1)) = omega arith in
@@ -149,36 +121,22 @@ module _ (F : ℕ → ℕ) where
       let p = rw (o, n, w, f) at placed in
       rw (e, packed_nowhere pos (pair_block F k) (pair_blocks F (all - (k + 1)) (suc k)) p none)
 
-  pub pairs_end : (all k pos : ℕ) → all ≤ k → At pos ≡ pairs_left all k pos
+  pub pairs_end : (all k pos : ℕ) → all ≤ k → Some pos ≡ pairs_left all k pos
   unfolding packed_from pair_blocks
   pairs_end all k pos l = let e : all - k ≡ 0 = omega arith in rw e
 
   -- two lists of parts, one after the other
-  pub packed-append
-      : (pos : ℕ) (bs cs : List Block) → packed_from F pos (bs ++ cs) ≡ and_then (packed_from F pos bs) (λ next. packed_from F next cs)
+  pub packed_append
+      : (pos : ℕ) (bs cs : List Block) → packed_from F pos (bs ++ cs) ≡ option_and_then (λ next. packed_from F next cs) (packed_from F pos bs)
   unfolding packed_from
-  packed-append pos [] cs = refl
-  packed-append pos (b ∷ bs) cs = go (block_after F pos b.offset b.size) (λ next. packed-append next bs cs)
+  packed_append pos [] cs = refl
+  packed_append pos (b ∷ bs) cs = go (block_after F pos b.offset b.size) (λ next. packed_append next bs cs)
     where
       go
-          : (r : Reached) → ((next : ℕ) → packed_from F next (bs ++ cs) ≡ and_then (packed_from F next bs) (λ p. packed_from F p cs))
-          → and_then r (λ next. packed_from F next (bs ++ cs)) ≡ and_then (and_then r (λ next. packed_from F next bs)) (λ p. packed_from F p cs)
-      go (At next) rest = rest next
-      go Nowhere rest = refl
-
-  pub first-refused
-      : (pos end : ℕ) (bs cs : List Block) {r : Reached} → r ≡ packed_from F pos bs → r ≡ Nowhere → false ≡ ends_at (packed_from F pos (bs ++ cs)) end
-  first-refused pos end bs cs said none = rw (packed-append pos bs cs, ← said, none)
-
-  pub second_refused
-      : (pos next end : ℕ) (bs cs : List Block) {r s : Reached} → r ≡ packed_from F pos bs → r ≡ At next → s ≡ packed_from F next cs → s ≡ Nowhere
-      → false ≡ ends_at (packed_from F pos (bs ++ cs)) end
-  second_refused pos next end bs cs said there next-said none = rw (packed-append pos bs cs, ← said, there, ← next-said, none)
-
-  pub both_passed
-      : (pos next last end : ℕ) (bs cs : List Block) {r s : Reached} → r ≡ packed_from F pos bs → r ≡ At next → s ≡ packed_from F next cs
-      → s ≡ At last → eqb last end ≡ ends_at (packed_from F pos (bs ++ cs)) end
-  both_passed pos next last end bs cs said there next-said ends = rw (packed-append pos bs cs, ← said, there, ← next-said, ends)
+          : (r : Option ℕ) → ((next : ℕ) → packed_from F next (bs ++ cs) ≡ option_and_then (λ p. packed_from F p cs) (packed_from F next bs))
+          → option_and_then (λ next. packed_from F next (bs ++ cs)) r ≡ option_and_then (λ p. packed_from F p cs) (option_and_then (λ next. packed_from F next bs) r)
+      go (Some next) rest = rest next
+      go None rest = refl
 
 -- no table has entries above 2^16 bytes
 all_small : List ℕ → Bool

@@ -1,35 +1,17 @@
 -- A run of a table's entries, and runs that have no entry in common.
-use Prim.Native.Nat.{ℕ, ◌+◌, ◌-◌, ◌*◌, ◌/◌, ◌%◌, ◌≤◌, ◌<◌, max}
+use Prim.Native.Nat.{ℕ, ◌+◌, ◌*◌, ◌≤◌, ◌<◌, max}
 use mathlib.Core.Path.{◌≡◌, refl, sym, ◌∙◌}
-use mathlib.Core.Bool.{Bool, true, false, not, ◌||◌}
+use mathlib.Core.Bool.{Bool, true, false, ◌||◌}
 use native.Mathlib.Omega.{arith}
 use native.Mathlib.Decide.{ℕ_discrete}
 use native.Mathlib.Numerals.{add-one}
 use lib.Dec.{eqb, leb}
-use borrow.Author.Tests.{eq-eqb, ne_eqb, le-leb, lt-leb, not-true, not-false}
-use Rattle.history.specs.Image.{Table, start, count, module_entries}
+use borrow.Author.Tests.{eq-eqb, ne_eqb, le-leb}
+use Rattle.history.specs.Image.{Table, count, module_entries}
 use Rattle.writer_spec.specs.All.{all_below, all_none, all_more, all_true, all_false}
 use Rattle.writer_spec.specs.Runs.{run_pointer, run_length, runs_meet_not, is_run, runs_apart}
 
 module _ (F : ℕ → ℕ) where
-  pub run-empty : (t : Table) (p n : ℕ) → n ≡ 0 → true ≡ is_run F t p n
-  unfolding is_run
-  run-empty t p n none = rw (eq-eqb n 0 none)
-
-  module _ (t : Table) {first : ℕ} (said : first ≡ start F t) (p n : ℕ) (some : n ≡ 0 → ⊥) where
-    pub run_before : p < first → false ≡ is_run F t p n
-    unfolding is_run
-    run_before l = rw (← said, ne_eqb n 0 some, lt-leb first p l)
-
-    pub run-between : first ≤ p → ((p - first) % 8 ≡ 0 → ⊥) → false ≡ is_run F t p n
-    unfolding is_run
-    run-between l off = rw (← said, ne_eqb n 0 some, le-leb first p l, ne_eqb ((p - first) % 8) 0 off)
-
-    pub run-tested
-        : {all : ℕ} → first ≤ p → (p - first) % 8 ≡ 0 → all ≡ count F t → leb ((p - first) / 8 + n) all ≡ is_run F t p n
-    unfolding is_run
-    run-tested l on counted = rw (← said, ← counted, ne_eqb n 0 some, le-leb first p l, eq-eqb ((p - first) % 8) 0 on)
-
   module _ (run : ℕ) where
     -- the tests that a loop makes of module entry j
     abbrev pub is_run_at : Table → ℕ → Bool
@@ -41,24 +23,13 @@ module _ (F : ℕ → ℕ) where
     abbrev pub meets_none_at : ℕ → Bool
     meets_none_at j = all_below j (meets_not_at (run_pointer F run j) (run_length F run j))
 
-    pub is_run-at
-        : (t : Table) (j : ℕ) {p n : ℕ} {answer : Bool} → p ≡ run_pointer F run j → n ≡ run_length F run j → answer ≡ is_run F t p n
-        → answer ≡ is_run_at t j
-    is_run-at t j pointed counted said = rw (← pointed, ← counted) said
-
-    pub meets-not-at
-        : (q m i : ℕ) {p n : ℕ} {answer : Bool} → p ≡ run_pointer F run i → n ≡ run_length F run i → answer ≡ runs_meet_not p n q m
-        → answer ≡ meets_not_at q m i
-    meets-not-at q m i pointed counted said = rw (← pointed, ← counted) said
-
     -- no two of the first j runs meet, and all of them end at `end` or before
-    pub record RunsSoFar (all j end : ℕ) : Type 0 where
-      pub within : j ≤ all
+    pub record RunsSoFar (j end : ℕ) : Type 0 where
       pub apart : all_below j meets_none_at ≡ true
       pub ended : (i : ℕ) → i < j → (run_length F run i ≡ 0 → ⊥) → run_pointer F run i + 8 * run_length F run i ≤ end
 
-    pub no_runs : (all : ℕ) → RunsSoFar all 0 0
-    no_runs all = record { within = omega arith; apart = all_none meets_none_at; ended = λ i l some. omega arith }
+    pub no_runs : RunsSoFar 0 0
+    no_runs = record { apart = all_none meets_none_at; ended = λ i l some. omega arith }
 
     meets-empty : (p n q m : ℕ) → m ≡ 0 → runs_meet_not p n q m ≡ true
     unfolding runs_meet_not
@@ -77,11 +48,10 @@ module _ (F : ℕ → ℕ) where
         go (no some) true = rw (ne_eqb n 0 some)
         go (no some) false = rw (ne_eqb n 0 some, le-leb (p + 8 * n) q (past some))
 
-    module _ {all j end p m : ℕ} (so_far : RunsSoFar all j end) (l : j < all) (pointed : p ≡ run_pointer F run j) (counted : m ≡ run_length F run j) where
-      one_more : {new : ℕ} → meets_none_at j ≡ true → end ≤ new → ((m ≡ 0 → ⊥) → p + 8 * m ≤ new) → RunsSoFar all (j + 1) new
+    module _ {all j end p m : ℕ} (so_far : RunsSoFar j end) (l : j < all) (pointed : p ≡ run_pointer F run j) (counted : m ≡ run_length F run j) where
+      one_more : {new : ℕ} → meets_none_at j ≡ true → end ≤ new → ((m ≡ 0 → ⊥) → p + 8 * m ≤ new) → RunsSoFar (j + 1) new
       one_more {new} clear grown ends =
           record {
-            within = omega arith;
             apart = rw add-one (all_more j meets_none_at clear so_far.apart);
             ended = λ i k some. go i (ℕ_discrete i j) k some;
           }
@@ -93,7 +63,7 @@ module _ (F : ℕ → ℕ) where
           go i (yes e) k some = rw e (last (λ z. some (rw e z)))
           go i (no other) k some = omega (arith, so_far.ended i (omega arith) some)
 
-      pub run_none : m ≡ 0 → RunsSoFar all (j + 1) end
+      pub run_none : m ≡ 0 → RunsSoFar (j + 1) end
       run_none none =
           one_more
           (all_true j (meets_not_at (run_pointer F run j) (run_length F run j))
@@ -101,7 +71,7 @@ module _ (F : ℕ → ℕ) where
           (omega arith)
           (λ some. absurd (some none))
 
-      pub run_past : {new : ℕ} → end ≤ p → new ≡ max end (p + 8 * m) → RunsSoFar all (j + 1) new
+      pub run_past : {new : ℕ} → end ≤ p → new ≡ max end (p + 8 * m) → RunsSoFar (j + 1) new
       run_past {new} past grown =
           one_more
           (all_true j (meets_not_at (run_pointer F run j) (run_length F run j))
@@ -111,19 +81,17 @@ module _ (F : ℕ → ℕ) where
           (λ some. omega arith)
 
       pub run-clear
-          : {new : ℕ} {answer : Bool} → answer ≡ all_below j (meets_not_at p m) → not answer ≡ false → new ≡ max end (p + 8 * m)
-          → RunsSoFar all (j + 1) new
-      run-clear {new} {answer} said held grown =
-          one_more (rw (← pointed, ← counted, ← said) (not-false answer held)) (omega arith) (λ some. omega arith)
+          : {new : ℕ} {answer : Bool} → answer ≡ all_below j (meets_not_at p m) → answer ≡ true → new ≡ max end (p + 8 * m)
+          → RunsSoFar (j + 1) new
+      run-clear said held grown =
+          one_more (rw (← pointed, ← counted, ← said) held) (omega arith) (λ some. omega arith)
 
       pub run-meets
-          : {answer : Bool} → answer ≡ all_below j (meets_not_at p m) → not answer ≡ true → all ≡ count F module_entries → false ≡ runs_apart F run
+          : {answer : Bool} → answer ≡ all_below j (meets_not_at p m) → answer ≡ false → all ≡ count F module_entries → false ≡ runs_apart F run
       unfolding runs_apart
-      run-meets {answer} said failed every =
-          sym (all_false (count F module_entries) meets_none_at j (omega arith) (rw (← pointed, ← counted, ← said) (not-true answer failed)))
+      run-meets said failed every =
+          sym (all_false (count F module_entries) meets_none_at j (omega arith) (rw (← pointed, ← counted, ← said) failed))
 
-    pub runs_end : {all j end : ℕ} → RunsSoFar all j end → all ≤ j → all ≡ count F module_entries → true ≡ runs_apart F run
+    pub runs_end : {j end : ℕ} → RunsSoFar j end → j ≡ count F module_entries → true ≡ runs_apart F run
     unfolding runs_apart
-    runs_end {all} {j} so_far l every =
-        let e : j ≡ count F module_entries = omega (arith, so_far.within) in
-        sym (rw e at so_far.apart)
+    runs_end so_far every = sym (rw every at so_far.apart)

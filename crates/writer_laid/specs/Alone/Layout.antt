@@ -1,6 +1,6 @@
 -- What "packed" says: the segments with bytes and then the header's 15 pairs are successive intervals of the description.
 use Prim.Native.Nat.{ℕ, zero, suc, ◌+◌, ◌≤◌, ◌<◌}
-use Rattle.std.specs.Prelude.{if◌then◌else◌, ◌≡◌, refl, Bool, ◌&&◌, length, eqb}
+use Rattle.std.specs.Prelude.{if◌then◌else◌, ◌≡◌, refl, Option, Some, None, option_and_then, Bool, ◌&&◌, length, eqb}
 use Rattle.std.proofs.Common.{ap}
 use mathlib.Core.List.{List, [], ◌∷◌, ◌++◌}
 use Rattle.std.proofs.Math.Bool.{true, false}
@@ -12,25 +12,23 @@ use Rattle.window.specs.Mirror.{word}
 use Rattle.layout.specs.Header.{module_name_offset, header_size, export_tree_num, static_anonymous_symbol_num, static_relocation_table_offset, static_relocation_num}
 use Rattle.layout.specs.Tables.{table_entry_sizes}
 use Rattle.history.specs.Image.{segments, static_relocations, count, file_segment}
-use Rattle.writer_spec.specs.Description.{file_of, Block, in_file, and_then, ends_at, header_zeros, segment_blocks, pair_block, pair_blocks, up4, block_after, packed_from, others_empty, packed_to, packed, image_size}
-use Rattle.writer_spec.specs.declared.packed.Reached.{Reached}
-use Rattle.writer_spec.specs.declared.packed.Reached.TheVariants.{At, Nowhere}
+use Rattle.writer_spec.specs.Description.{file_of, Block, in_file, ends_at, header_zeros, segment_blocks, pair_block, pair_blocks, up4, block_after, packed_from, others_empty, packed_to, packed, image_size}
 use Rattle.writer_laid.specs.Cases.{contradiction}
 
 -- where one was in order and the rest ends well, that one reached a position and the rest ends well from it
 pub then_ends
-    : (first : Reached) (rest : ℕ → Reached) (end : ℕ) → ends_at (and_then first rest) end ≡ true
-    → (next : ℕ) × (first ≡ At next) × (ends_at (rest next) end ≡ true)
-then_ends (At next) rest end h = (next, refl, h)
-then_ends Nowhere rest end h = contradiction h
+    : (first : Option ℕ) (rest : ℕ → Option ℕ) (end : ℕ) → ends_at (option_and_then rest first) end ≡ true
+    → (next : ℕ) × (first ≡ Some next) × (ends_at (rest next) end ≡ true)
+then_ends (Some next) rest end h = (next, refl, h)
+then_ends None rest end h = contradiction h
 
 -- what ends well has reached that end
-pub ends_reached : (reached : Reached) (end : ℕ) → ends_at reached end ≡ true → reached ≡ At end
-ends_reached (At position) end h = ap At (eqb-true position end h)
-ends_reached Nowhere end h = contradiction h
+pub ends_reached : (reached : Option ℕ) (end : ℕ) → ends_at reached end ≡ true → reached ≡ Some end
+ends_reached (Some position) end h = ap Some (eqb-true position end h)
+ends_reached None end h = contradiction h
 
 -- what a guarded position says: the guard holds
-pub guarded : (test : Bool) (there next : ℕ) → (if test then At there else Nowhere) ≡ At next → (test ≡ true) × (there ≡ next)
+pub guarded : (test : Bool) (there next : ℕ) → (if test then Some there else None) ≡ Some next → (test ≡ true) × (there ≡ next)
 guarded true there next h = (refl, cc)
 guarded false there next h = let z : ◌≡◌ {A = ℕ} 0 1 = cc in absurd (omega arith)
 

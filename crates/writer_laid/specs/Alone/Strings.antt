@@ -1,6 +1,6 @@
 -- What "named" says: each string area is a row of strings, each of at most 512 bytes and its zero, one for each pointer.
 use Prim.Native.Nat.{ℕ, zero, suc, ◌+◌, ◌-◌, ◌≤◌, ◌<◌}
-use Rattle.std.specs.Prelude.{◌≡◌, ◌≢◌, true, ◌&&◌, eqb}
+use Rattle.std.specs.Prelude.{◌≡◌, ◌≢◌, Some, true, ◌&&◌, eqb}
 use Rattle.std.proofs.Math.Path.{refl}
 use Rattle.std.proofs.Common.{ap}
 use Rattle.std.proofs.Math.Logic.{inl, inr}
@@ -18,7 +18,6 @@ use Rattle.layout.specs.Tables.{table_entry_sizes}
 use Rattle.history.specs.Image.{Table, named_exports, module_entries, named_imports, count, entry}
 use Rattle.history.specs.WellLaid.{Pointer, of_module, of_export, of_import, of_entry}
 use Rattle.writer_spec.specs.Description.{file_of, pair_block, ends_at, name_room, nonzeros, string_after, strings_from, pointers, pointers_of, names_packed, named}
-use Rattle.writer_spec.specs.declared.packed.Reached.TheVariants.{At}
 use Rattle.writer_laid.specs.Alone.Layout.{then_ends, ends_reached, guarded}
 use Rattle.writer_laid.specs.Alone.Pairs.{StringArea, name_area, export_area, import_area, InPair}
 
@@ -54,7 +53,7 @@ module _ (F : ℕ → ℕ) where
     pub zero-there : F ending ≡ 0
     pub no_zero_before : (q : ℕ) → p ≤ q → q < ending → F q ≢ 0
 
-  string_after_lem : (position p next : ℕ) → string_after F position p ≡ At next → (p ≡ position) × (ending : ℕ) × (next ≡ suc ending) × StringAt p ending
+  string_after_lem : (position p next : ℕ) → string_after F position p ≡ Some next → (p ≡ position) × (ending : ℕ) × (next ≡ suc ending) × StringAt p ending
   unfolding string_after
   string_after_lem position p next h =
       let guard = guarded (eqb p position && ltb (nonzeros F name_room p) name_room) (position + (nonzeros F name_room p + 1)) next h in

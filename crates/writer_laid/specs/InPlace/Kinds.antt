@@ -1,5 +1,5 @@
 -- Which relocation kinds write a word: those that the writer counts.
-use Rattle.std.specs.Prelude.{if◌then◌else◌, ℕ, refl, ◌≢◌, Bool, eqb}
+use Rattle.std.specs.Prelude.{if◌then◌else◌, ℕ, refl, ◌≢◌, Bool, eqb, Some, None}
 use Rattle.std.proofs.Math.Path.{◌≡◌, sym}
 use Rattle.std.proofs.Common.{◌∙◌, arith}
 use Rattle.std.proofs.Math.Bool.{true, false}
@@ -9,14 +9,13 @@ use Rattle.layout.specs.Format.{relocation_type}
 use Rattle.layout.specs.Relocation.Relocation.{relocated_word}
 use Rattle.layout.specs.declared.format.RelocationType.{RelocationType}
 use Rattle.layout.specs.declared.format.RelocationType.TheVariants.{Unknown}
-use Rattle.layout.specs.declared.relocation.Patch.TheVariants.{Word, Nothing}
 use Rattle.history.specs.LoadedModule.{Image}
 use Rattle.history.specs.WellLaid.{Writes}
 use Rattle.writer_spec.specs.Words.{counts, word_kinds}
 
 -- a kind that writes no word
 abbrev Silent : RelocationType → Type 0
-Silent t = relocated_word t 0 0 0 ≡ Nothing
+Silent t = relocated_word t 0 0 0 ≡ None
 
 silent_if : (b : Bool) (x y : RelocationType) → Silent x → Silent y → Silent (if b then x else y)
 silent_if true x y h g = h
@@ -45,5 +44,5 @@ module _ (a : Image) where
       go (no e) (no f) (no g) = (
         λ h. let z : ◌≡◌ {A = Bool} false true = rw (ne_eqb 2 k (omega arith), ne_eqb 3 k (omega arith), ne_eqb 10 k (omega arith)) at h in
             (0, (cc)),
-        λ h. let z : Word h.0 ≡ Nothing = sym h.1 ∙ silent_kind k e f g in cc,
+        λ h. let z : Some h.0 ≡ None = sym h.1 ∙ silent_kind k e f g in cc,
       )

@@ -2,7 +2,7 @@
 use Prim.Native.Nat.{ℕ, zero, suc, ◌+◌, ◌≤◌, ◌<◌}
 use Rattle.std.proofs.Math.Path.{◌≡◌, refl}
 use Rattle.std.proofs.Common.{◌∙◌, arith}
-use Rattle.std.specs.Prelude.{◌≢◌, Bool, ◌&&◌}
+use Rattle.std.specs.Prelude.{◌≢◌, Bool, ◌&&◌, Some, None}
 use Rattle.std.proofs.Math.Bool.{true, false}
 use Rattle.std.proofs.Math.Decide.{ℕ_discrete}
 use Rattle.std.proofs.Math.Dec.{ltb}
@@ -15,7 +15,6 @@ use Rattle.layout.specs.Format.{tag_segment, tag_offset}
 use Rattle.layout.specs.Segments.{address_in}
 use Rattle.layout.specs.declared.format.SegmentType.{SegmentType}
 use Rattle.layout.specs.declared.format.SegmentType.TheVariants.{Code, RoData, Data, Bss}
-use Rattle.layout.specs.declared.segments.Address.TheVariants.{At, Nowhere}
 use Rattle.linker_spec.specs.declared.rebase.LoadArguments.{LoadArguments}
 use Rattle.linker_spec.specs.Relocation.{write_place}
 use Rattle.history.specs.Image.{segments, count, file_segment}
@@ -63,26 +62,26 @@ module _ (G : ℕ → ℕ) (l : LoadArguments) where
   usable-parts t h = let g = both _ _ h in (ltb-true _ _ g.0, ltb-true _ _ g.1)
 
   -- a usable tag, and no other, gives an address
-  pub address-usable : (t : ℕ) → usable G t ≡ true → address a t ≡ At (address_at t)
+  pub address-usable : (t : ℕ) → usable G t ≡ true → address a t ≡ Some (address_at t)
   unfolding address placed_segment address_in
   address-usable t h =
       let g = usable-parts t h in
       rw (lt-ltb (tag_segment t) (count G segments) g.0, address_in, lt-ltb (tag_offset t) (file_segment G (tag_segment t)).size g.1)
 
-  address_unusable : (t : ℕ) → usable G t ≡ false → address a t ≡ Nowhere
+  address_unusable : (t : ℕ) → usable G t ≡ false → address a t ≡ None
   unfolding address placed_segment address_in usable
   address_unusable t h = go (ltb (tag_segment t) (count G segments)) refl (ltb (tag_offset t) (file_segment G (tag_segment t)).size) refl h
     where
       go
           : (b : Bool) → ltb (tag_segment t) (count G segments) ≡ b → (c : Bool) → ltb (tag_offset t) (file_segment G (tag_segment t)).size ≡ c
           → (b && c) ≡ false
-          → address a t ≡ Nowhere
+          → address a t ≡ None
       go false e c f g = rw (e, address_in)
       go true e false f g = rw (e, address_in, f)
       go true e true f g = let z : ◌≡◌ {A = Bool} true false = g in cc
 
   -- a tag that gives an address is usable
-  pub address-at : (t p : ℕ) → address a t ≡ At p → (usable G t ≡ true) × (p ≡ address_at t)
+  pub address-at : (t p : ℕ) → address a t ≡ Some p → (usable G t ≡ true) × (p ≡ address_at t)
   address-at t p e = go (usable G t) refl
     where
       go : (b : Bool) → usable G t ≡ b → (usable G t ≡ true) × (p ≡ address_at t)

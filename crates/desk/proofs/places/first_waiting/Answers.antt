@@ -2,9 +2,6 @@ use Rattle.std.proofs.Common.{sym, ◌∙◌, arith}
 use Rattle.desk.proofs.places.Turns.{waits_here, waits_later, waits_nowhere}
 use Rattle.desk.proofs.places.first_waiting.Goals as goal
 
-pub place_word-requires : goal.place_word-requires
-place_word-requires c = c.requires
-
 pub returns-then-place_word-ne0 : goal.returns-then-place_word-ne0
 returns-then-place_word-ne0 c =
     let now = c.loop-i in

@@ -3,12 +3,6 @@ use Rattle.desk_spec.specs.Bytes.{desk_of}
 use Rattle.desk.proofs.places.Turns.{its_place, other_place, no_place}
 use Rattle.desk.proofs.places.place_of.Goals as goal
 
-pub loop-i-init : goal.loop-i-init
-loop-i-init c = (omega arith, omega arith)
-
-pub place_word-requires : goal.place_word-requires
-place_word-requires c = c.requires
-
 pub returns-then-place_word-caller : goal.returns-then-place_word-caller
 returns-then-place_word-caller c =
     let args = c.args in
@@ -21,7 +15,7 @@ loop-i-preserved c =
     let args = c.args in
     let more =
     other_place args.caller (desk_of args.desk.now).places c.loop-i.i (omega arith) (λ e. c.if-place_word-caller.false (c.place_word.ensures ∙ e)) in
-    (omega arith, omega arith)
+    omega arith
 
 pub returns : goal.returns
 returns c =

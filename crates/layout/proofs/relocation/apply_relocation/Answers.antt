@@ -12,4 +12,4 @@ pub returns : goal.returns
 returns c =
     let a = c.args in
     word-written a.at a.target a.kind a.addend a.symbol a.target_final (a.w.now, a.trace.now)
-    c.relocated_word.ensures c.in-Word.word c.in-Word.is c.write32_privileged.ensures
+    c.relocated_word.ensures c.in-Some.word c.in-Some.is c.write32_privileged.ensures

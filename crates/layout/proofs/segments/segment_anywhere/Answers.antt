@@ -13,4 +13,4 @@ returns c =
     segment-there a.at a.base a.index (a.w.now, a.trace.now) c.field.ensures c.if-index-field.false
     c.field-table.ensures c.entry_address-entry.ensures
     (entry_read a.at c.entry_address-entry.result _ c.read32-offset.ensures c.wrapping_add_u32.ensures.value c.read32-size.ensures
-    c.wrapping_add_u32-2.ensures.value c.read32-kind.ensures c.from_raw.ensures)
+    c.wrapping_add_u32-2.ensures.value c.read32-kind.ensures c.from.ensures)

@@ -11,4 +11,4 @@ returns-in_default c =
 pub returns : goal.returns
 returns c =
     let a = c.args in
-    listed_known a.at a.base a.auto_link (a.w.now, a.trace.now) _ (sym c.read_crs.ensures ∙ c.in-Known.is) c.register.ensures
+    listed_known a.at a.base a.auto_link (a.w.now, a.trace.now) _ (sym c.read_crs.ensures ∙ c.in-Some.is) c.register.ensures

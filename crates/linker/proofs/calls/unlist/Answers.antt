@@ -11,4 +11,4 @@ returns-in_default c =
 pub returns : goal.returns
 returns c =
     let a = c.args in
-    unlisted_known a.at a.base (a.w.now, a.trace.now) _ (sym c.read_crs.ensures ∙ c.in-Known.is) c.unregister.ensures
+    unlisted_known a.at a.base (a.w.now, a.trace.now) _ (sym c.read_crs.ensures ∙ c.in-Some.is) c.unregister.ensures

@@ -17,18 +17,18 @@ reset_importers-requires c =
     let a = c.args in
     let b = buffers a.w.now a.records.now a.names.now a.missing.now in record {
       encoded = (_, c.requires);
-      sorted = unload_sorted a.at a.base b a.trace.now c.requires c.first_with_base.ensures _ c.in-At.is;
+      sorted = unload_sorted a.at a.base b a.trace.now c.requires c.first_with_base.ensures _ c.in-Some.is;
     }
 
 pub remove_record-requires : goal.remove_record-requires
 remove_record-requires c =
     let a = c.args in
     let b = buffers a.w.now a.records.now a.names.now a.missing.now in
-    unload_stands a.at a.base b a.trace.now c.requires c.first_with_base.ensures _ c.in-At.is
+    unload_stands a.at a.base b a.trace.now c.requires c.first_with_base.ensures _ c.in-Some.is
 
 pub returns : goal.returns
 returns c =
     let a = c.args in
     let b = buffers a.w.now a.records.now a.names.now a.missing.now in
-    unload-done a.at a.base b a.trace.now c.requires c.first_with_base.ensures _ c.in-At.is
+    unload-done a.at a.base b a.trace.now c.requires c.first_with_base.ensures _ c.in-Some.is
     c.reset_importers.ensures c.unlist.ensures c.unrebase.ensures c.remove_record.ensures

@@ -9,16 +9,13 @@ use Rattle.linker.proofs.exports.insert_all_named.Goals as goal
 pub loop-i-init : goal.loop-i-init
 loop-i-init c = (refl, refl, omega arith, omega arith, c.requires.0, c.requires.1, gathered-first _ _ _ _ _ _)
 
-pub gather_named-requires : goal.gather_named-requires
-gather_named-requires c = (c.loop-i.invariant.3, c.loop-i.invariant.4, c.loop-i.invariant.5)
-
-pub returns-in-Full : goal.returns-in-Full
-returns-in-Full c =
+pub returns-in-None : goal.returns-in-None
+returns-in-None c =
     let a = c.args in let l = c.loop-i in (
       ends_full _ _,
       gathered-given_up a.at a.w.now a.base a.first l.last _ _ l.records l.names l.i l.invariant.6 _ _
           (c.gather_named.ensures.1 (c.field-table.ensures ∙ field-word a.at a.base export_named_symbol_table_offset a.w.now))
-          _ (omega (arith, c.loop-i-test.true)) c.field-count.ensures c.in-Full.is c.give_up.ensures,
+          _ (omega (arith, c.loop-i-test.true)) c.field-count.ensures c.in-None.is c.give_up.ensures,
     )
 
 pub overflow_add-i : goal.overflow_add-i
@@ -31,7 +28,7 @@ pub loop-i-preserved : goal.loop-i-preserved
 loop-i-preserved c =
     let a = c.args in let l = c.loop-i in
     let table = c.field-table.ensures in
-    let e = open_ends _ _ _ _ c.gather_named.ensures.0 c.in-Open.is in (
+    let e = open_ends _ _ _ _ c.gather_named.ensures.0 c.in-Some.is in (
       c.gather_named.auto.records ∙ l.invariant.0,
       l.invariant.1,
       omega (arith, stride_goes _ _ _ _ _ c.stride-i.ensures (omega (arith, c.loop-i-test.true))),
@@ -42,7 +39,7 @@ loop-i-preserved c =
           (omega (arith, c.loop-i-test.true))
           (gathered-turn a.at a.w.now a.base a.first l.last _ _ l.records l.names l.i l.invariant.6 _ _
           (c.gather_named.ensures.1 (table ∙ field-word a.at a.base export_named_symbol_table_offset a.w.now))
-          _ c.in-Open.is),
+          _ c.in-Some.is),
     )
 
 pub returns : goal.returns

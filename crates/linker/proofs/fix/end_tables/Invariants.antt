@@ -12,6 +12,3 @@ invariant-loop-i l =
     × (run_t l.at (loop (λ i _. set_field l.base (l.barrier + 8 * i) l.end) l.i (l.count - l.i) tt) (l.w, l.trace)
     ≡ run_t l.at (end_tables l.base l.barrier l.end) (l.initial.w, l.initial.trace))
     × (length l.trace ≡ length l.initial.trace)
-
-abbrev pub decreases-loop-i : goal.decreases-loop-i
-decreases-loop-i l = l.count - l.i

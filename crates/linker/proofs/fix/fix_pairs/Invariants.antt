@@ -10,6 +10,3 @@ invariant-loop-i l =
     × (length l.w ≡ length l.initial.w)
     × (run_t l.at (loop (fix_pair l.base l.barrier) l.i (15 - l.i) l.last) (l.w, l.trace) ≡ run_t l.at (loop (fix_pair l.base l.barrier) 0 15 l.end) (l.initial.w, l.initial.trace))
     × (length l.trace ≡ length l.initial.trace)
-
-abbrev pub decreases-loop-i : goal.decreases-loop-i
-decreases-loop-i l = 15 - l.i

@@ -15,4 +15,4 @@ returns c =
     entry_applied a.at a.base a.symbol a.entry (a.w.now, a.trace.now)
     c.read32-tag.ensures c.wrapping_add_u32.ensures.value c.read8-kind.ensures c.wrapping_add_u32-2.ensures.value c.read32-addend.ensures
     (relocate-at a.at a.base a.symbol _ _ _ _
-    c.tag_to_address.ensures c.in-At.is c.from_raw.ensures c.apply_relocation.ensures)
+    c.tag_to_address.ensures c.in-Some.is c.from.ensures c.apply_relocation.ensures)

@@ -17,4 +17,4 @@ returns c =
     c.read32-tag.ensures c.wrapping_add_u32.ensures.value c.read8-number.ensures c.wrapping_add_u32-2.ensures.value c.read8-end.ensures
     c.wrapping_add_u32-3.ensures.value c.read32-addend.ensures
     (relocate-at a.at a.base a.symbol _ _ _ _
-    c.tag_to_address.ensures c.in-At.is c.from_raw-kind.ensures c.apply_relocation.ensures)
+    c.tag_to_address.ensures c.in-Some.is c.from-kind.ensures c.apply_relocation.ensures)

@@ -1,4 +1,4 @@
-use Rattle.std.proofs.Common.{◌≡◌, ◌-◌, length}
+use Rattle.std.proofs.Common.{◌≡◌, length}
 use Rattle.window.specs.Trace.{run_t}
 use Rattle.register.specs.Read.Read.{modules_of, module_at}
 use Rattle.linker_spec.specs.Resets.{reset_importers}
@@ -13,6 +13,3 @@ invariant-loop-k l =
     × RecordWalk (resetting l.at (module_at l.records l.names l.place) l.place) l.records l.names l.next l.k (l.w, l.trace)
     (run_t l.at (reset_importers (module_at l.records l.names l.place) (other_than l.place 32 (modules_of l.records l.names))) (l.initial.w, l.initial.trace))
     × (length l.trace ≡ length l.initial.trace)
-
-abbrev pub decreases-loop-k : goal.decreases-loop-k
-decreases-loop-k l = l.count - l.k

@@ -15,4 +15,4 @@ returns c =
     let a = c.args in
     let m = module_at a.records.now a.names.now a.place in
     named-reset a.at a.base a.handler a.entry (a.w.now, a.trace.now) c.read32-address.ensures c.export_of.ensures.1 m c.export_of.ensures.0
-    c.in-At.is c.reset_at.ensures
+    c.in-Some.is c.reset_at.ensures

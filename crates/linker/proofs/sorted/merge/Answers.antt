@@ -8,11 +8,11 @@ returns-then-left-eq0 c = (omega arith, λ before after a b. no_left _ _ _ _ a b
 pub returns-then-right-eq0 : goal.returns-then-right-eq0
 returns-then-right-eq0 c = (omega arith, λ before after a b. no_right _ _ _ _ a b (omega arith) c.if-right-eq0.true)
 
-pub returns-in-Before : goal.returns-in-Before
-returns-in-Before c = (
+pub returns-in-Less : goal.returns-in-Less
+returns-in-Less c = (
   omega arith,
   λ before after a b. in_order _ _ _ _ a b (omega arith) _ _ (omega arith) (omega arith) c.word-last.ensures c.word-first.ensures
-      c.compare_names_at.ensures c.in-Before.is,
+      c.compare_names_at.ensures c.in-Less.is,
 )
 
 pub returns : goal.returns

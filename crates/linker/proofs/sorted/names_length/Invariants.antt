@@ -1,9 +1,6 @@
-use Rattle.std.proofs.Common.{◌-◌, ◌*◌, ◌≤◌}
+use Rattle.std.proofs.Common.{◌*◌, ◌≤◌}
 use Rattle.linker.proofs.sorted.Laws.{SummedTo}
 use Rattle.linker.proofs.sorted.names_length.Given as goal
 
 abbrev pub invariant-loop-k : goal.invariant-loop-k
-invariant-loop-k l = (l.k ≤ l.n) × (l.sum ≤ 512 * l.k) × SummedTo l.at l.w l.waiting l.k l.sum
-
-abbrev pub decreases-loop-k : goal.decreases-loop-k
-decreases-loop-k l = l.n - l.k
+invariant-loop-k l = (l.sum ≤ 512 * l.k) × SummedTo l.at l.w l.waiting l.k l.sum

@@ -10,5 +10,5 @@ returns-in_default c =
 pub returns : goal.returns
 returns c =
     let a = c.args in
-    unmoved a.at a.base a.index (a.w.now, a.trace.now) c.segment.ensures c.in-Found.is
+    unmoved a.at a.base a.index (a.w.now, a.trace.now) c.segment.ensures c.in-Some.is
     c.leaves_as.ensures c.set_segment.ensures

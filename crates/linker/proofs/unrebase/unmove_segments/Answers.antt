@@ -7,9 +7,6 @@ use Rattle.linker.proofs.unrebase.Laws.{unmove_starts}
 use Rattle.linker.proofs.rebase.Outside.{unmoved-past}
 use Rattle.linker.proofs.unrebase.unmove_segments.Goals as goal
 
-pub loop-index-init : goal.loop-index-init
-loop-index-init c = (omega arith, refl, refl, refl)
-
 pub overflow_add-index : goal.overflow_add-index
 overflow_add-index c = omega (arith, silent_goes _ _ _ _ _ _ c.segment_stride-index.ensures (omega arith))
 

@@ -6,20 +6,20 @@ use Rattle.linker.proofs.waiting.position_of.Goals as goal
 pub loop-low-init : goal.loop-low-init
 loop-low-init c = (omega arith, omega arith, search_starts _ _ _ _)
 
-pub loop-low-preserved-in-Before : goal.loop-low-preserved-in-Before
-loop-low-preserved-in-Before c = (
+pub loop-low-preserved-in-Less : goal.loop-low-preserved-in-Less
+loop-low-preserved-in-Less c = (
   omega arith,
   omega arith,
   search_below _ _ _ _ c.loop-low.invariant.2 _ (omega arith) (omega arith) c.loop-low.invariant.1 c.word-place.ensures
-      c.compare_name_at.ensures c.in-Before.is,
+      c.compare_name_at.ensures c.in-Less.is,
 )
 
-pub returns-in-Same : goal.returns-in-Same
+pub returns-in-Equal : goal.returns-in-Equal
 unfolding Inside
-returns-in-Same c = (
+returns-in-Equal c = (
   omega arith,
   search_found _ _ _ _ c.loop-low.invariant.2 _ (omega arith) (omega arith) c.loop-low.invariant.1 c.word-place.ensures
-      c.compare_name_at.ensures c.in-Same.is,
+      c.compare_name_at.ensures c.in-Equal.is,
 )
 
 pub loop-low-preserved : goal.loop-low-preserved
@@ -27,7 +27,7 @@ loop-low-preserved c = (
   omega arith,
   omega arith,
   search_above _ _ _ _ c.loop-low.invariant.2 _ (omega arith) (omega arith) c.loop-low.invariant.1 c.word-place.ensures
-      c.compare_name_at.ensures c.in-After.is,
+      c.compare_name_at.ensures c.in-Greater.is,
 )
 
 pub returns : goal.returns

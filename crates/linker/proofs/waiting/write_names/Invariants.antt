@@ -9,6 +9,3 @@ invariant-loop-k l =
     (length l.waiting ≡ length l.initial.waiting) × (length l.names ≡ length l.initial.names) × (l.offset < 2 ^ 32) × (l.k ≤ length l.initial.waiting / 12)
     × ((xs : List Waiting) (first : ℕ) → length l.initial.waiting ≡ 12 * length xs → Waits l.at l.w xs (take (8 * length xs) l.initial.waiting)
     → first + length (export_names (exports_for l.at l.w xs)) ≡ l.last → NamesLeft l.at l.w xs l.initial.names l.last l.k l.offset l.waiting l.names)
-
-abbrev pub decreases-loop-k : goal.decreases-loop-k
-decreases-loop-k l = l.k

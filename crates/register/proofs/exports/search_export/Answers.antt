@@ -5,29 +5,23 @@ use Rattle.register.proofs.exports.search_export.Goals as goal
 pub loop-low-init : goal.loop-low-init
 loop-low-init c = search_starts _ _ _
 
-pub overflow_add-middle : goal.overflow_add-middle
-overflow_add-middle c = omega (arith, search_inside _ _ _ c.loop-low.invariant)
-
 pub export_name-requires : goal.export_name-requires
 export_name-requires c = omega (arith, search_inside _ _ _ c.loop-low.invariant)
 
-pub loop-low-preserved-in-Before : goal.loop-low-preserved-in-Before
-loop-low-preserved-in-Before c =
+pub loop-low-preserved-in-Less : goal.loop-low-preserved-in-Less
+loop-low-preserved-in-Less c =
     search_below _ _ _ c.loop-low.invariant c.requires _ _ (omega arith) (omega arith)
-    c.export_name.ensures c.compare_names.ensures c.in-Before.is
+    c.export_name.ensures c.compare_names.ensures c.in-Less.is
 
-pub returns-in-Same : goal.returns-in-Same
-returns-in-Same c =
+pub returns-in-Equal : goal.returns-in-Equal
+returns-in-Equal c =
     search_found _ _ _ c.loop-low.invariant c.requires _ _ (omega arith) (omega arith)
-    c.export_name.ensures c.compare_names.ensures c.in-Same.is
-
-pub overflow_add-low : goal.overflow_add-low
-overflow_add-low c = omega (arith, search_inside _ _ _ c.loop-low.invariant)
+    c.export_name.ensures c.compare_names.ensures c.in-Equal.is
 
 pub loop-low-preserved : goal.loop-low-preserved
 loop-low-preserved c =
     search_above _ _ _ c.loop-low.invariant c.requires _ _ (omega arith) (omega arith)
-    c.export_name.ensures c.compare_names.ensures c.in-After.is
+    c.export_name.ensures c.compare_names.ensures c.in-Greater.is
 
 pub returns : goal.returns
 returns c = search_none _ _ _ c.loop-low.invariant c.requires (omega arith)

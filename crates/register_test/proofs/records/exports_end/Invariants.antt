@@ -8,6 +8,3 @@ use Rattle.register_test.proofs.records.exports_end.Given as goal
 abbrev pub invariant-loop-k : goal.invariant-loop-k
 invariant-loop-k l =
     exports_end (length l.exports / 12 - l.k) (words_in l.exports) l.names l.k l.place ≡ exports_end (length (words_in l.exports) / 3) (words_in l.exports) l.names 0 l.q
-
-abbrev pub decreases-loop-k : goal.decreases-loop-k
-decreases-loop-k l = l.n - l.k

@@ -9,8 +9,4 @@ abbrev pub invariant-loop-k : goal.invariant-loop-k
 invariant-loop-k l =
     (l.place % 4 ≡ 0)
     × (l.place ≤ length l.records)
-    × (l.k ≤ l.count)
     × (modules_ok (l.count - l.k) (words_in (drop l.place l.records)) l.names l.q ≡ modules_ok l.count (words_in l.records) l.names 0)
-
-abbrev pub decreases-loop-k : goal.decreases-loop-k
-decreases-loop-k l = l.count - l.k

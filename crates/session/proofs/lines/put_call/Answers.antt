@@ -1,39 +1,27 @@
 -- Each arm puts the name of its call.
-use mathlib.Core.Path.{ap, sym, ◌∙◌}
+use mathlib.Core.Path.{refl}
 use Rattle.text.specs.Text.{bytes, put}
-use Rattle.session.specs.declared.step.Step.{Step}
 use Rattle.session.specs.Lines.{call_name, step_name}
 use Rattle.session.proofs.lines.put_call.Goals as goal
 
-pub returns-in_default : goal.returns-in_default
+pub returns-in-None : goal.returns-in-None
 unfolding step_name put
-returns-in_default c =
-    let a = c.args in
-    ap (λ x. put (step_name x) (a.at, a.out.now)) (sym c.in_default.is)
+returns-in-None c = rw c.in-None.is (record { text = refl; same = refl })
 
-pub put_text-requires : goal.put_text-requires
-put_text-requires c = tt
-
-pub put_text-requires-in-Load : goal.put_text-requires-in-Load
-put_text-requires-in-Load c = tt
-
-pub put_text-requires-in-Unload : goal.put_text-requires-in-Unload
-put_text-requires-in-Unload c = tt
-
-pub returns-in-Initialize : goal.returns-in-Initialize
+pub returns-in-Some-Initialize : goal.returns-in-Some-Initialize
 unfolding call_name step_name bytes
-returns-in-Initialize c =
-    let a = c.args in
-    c.put_text.ensures ∙ ap (λ x. put (step_name x) (a.at, a.out.now)) (sym (c.in-Call.is ∙ ap Step.Call c.in-Initialize.is))
+returns-in-Some-Initialize c =
+    let s = c.in-Some-Initialize in
+    rw (s.is, rw s.is at s.field-0-is) c.put.ensures
 
-pub returns-in-Load : goal.returns-in-Load
+pub returns-in-Some-Load : goal.returns-in-Some-Load
 unfolding call_name step_name bytes
-returns-in-Load c =
-    let a = c.args in
-    c.put_text-in-Load.ensures ∙ ap (λ x. put (step_name x) (a.at, a.out.now)) (sym (c.in-Call.is ∙ ap Step.Call c.in-Load.is))
+returns-in-Some-Load c =
+    let s = c.in-Some-Load in
+    rw (s.is, rw s.is at s.field-0-is) c.put-in-Some-Load.ensures
 
-pub returns-in-Unload : goal.returns-in-Unload
+pub returns-in-Some-Unload : goal.returns-in-Some-Unload
 unfolding call_name step_name bytes
-returns-in-Unload c =
-    let a = c.args in
-    c.put_text-in-Unload.ensures ∙ ap (λ x. put (step_name x) (a.at, a.out.now)) (sym (c.in-Call.is ∙ ap Step.Call c.in-Unload.is))
+returns-in-Some-Unload c =
+    let s = c.in-Some-Unload in
+    rw (s.is, rw s.is at s.field-0-is) c.put-in-Some-Unload.ensures

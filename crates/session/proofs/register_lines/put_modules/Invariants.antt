@@ -1,13 +1,10 @@
 -- The invariant: the modules that are left, their records, and their lines put where the loop stands.
-use Prim.Native.Nat.{◌-◌}
 use mathlib.Core.Path.{◌≡◌}
-use lib.ListN.{length}
+use Rattle.text.specs.Puts.{written}
 use Rattle.session.proofs.register_lines.Laws.{ModulesLeft}
 use Rattle.session.proofs.register_lines.put_modules.Given as goal
 
 abbrev pub invariant-loop-k : goal.invariant-loop-k
 invariant-loop-k l =
-    (length l.out ≡ length l.initial.out) × ModulesLeft l.records l.names (l.at, l.initial.out) l.place l.k (l.i, l.out)
-
-abbrev pub decreases-loop-k : goal.decreases-loop-k
-decreases-loop-k l = l.count - l.k
+    (l.text.buffer.ghost_name ≡ l.initial.text.buffer.ghost_name)
+    × ModulesLeft l.records l.names (written l.initial.text) l.place l._k (written l.text)

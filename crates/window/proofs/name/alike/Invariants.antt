@@ -1,10 +1,7 @@
--- The invariant: what is left of the two names from place i on stands in the same order as the names.
-use Rattle.std.proofs.Common.{◌≡◌, ◌-◌, ◌≤◌, drop}
+-- The invariant: what is left of the two names from the next word on stands in the same order as the names.
+use Rattle.std.proofs.Common.{◌≡◌, ◌*◌, drop}
 use Rattle.window.specs.Name.{order_of}
 use Rattle.window.proofs.name.alike.Given as goal
 
-abbrev pub invariant-loop-i : goal.invariant-loop-i
-invariant-loop-i l = (l.i ≤ l.n) × (order_of (drop l.i l.a) (drop l.i l.b) ≡ order_of l.a l.b)
-
-abbrev pub decreases-loop-i : goal.decreases-loop-i
-decreases-loop-i l = l.n - l.i
+abbrev pub invariant-loop-k : goal.invariant-loop-k
+invariant-loop-k l = order_of (drop (4 * l.k) l.a) (drop (4 * l.k) l.b) ≡ order_of l.a l.b

@@ -10,6 +10,3 @@ invariant-loop-n l =
     × (length l.buffer ≡ length l.initial.buffer)
     × (take l.n l.buffer ++ (run 0 (name_from (512 - l.n) l.n) l.w).0 ≡ (run 0 (name_from 512 0) l.w).0)
     × (drop l.n l.buffer ≡ drop l.n l.initial.buffer)
-
-abbrev pub decreases-loop-n : goal.decreases-loop-n
-decreases-loop-n l = 512 - l.n

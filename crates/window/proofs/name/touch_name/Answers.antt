@@ -1,5 +1,5 @@
 -- In a row inside the trace stays, `row_inside`. The invariant elsewhere: what is left to read leaves what the whole name leaves.
-use Rattle.std.proofs.Common.{refl, ap, ◌∙◌, arith}
+use Rattle.std.proofs.Common.{ap, ◌∙◌, arith}
 use Rattle.window.specs.TraceRuns.{left}
 use Rattle.window.specs.Name.{name_some}
 use Rattle.window.proofs.name.Laws.{name_nothing, name_end, name-next, name_full, row_inside}
@@ -15,9 +15,6 @@ returns-then-in_row c =
     let a = c.args in
     let r = c.in_row.ensures c.if-in_row.true in
     row_inside a.at a.address a.w.now a.trace.now c.place_of.ensures r.0 r.1 c.if-p-eq0.false
-
-pub loop-n-init : goal.loop-n-init
-loop-n-init c = (omega arith, refl, refl)
 
 pub returns-then-read8-eq0 : goal.returns-then-read8-eq0
 returns-then-read8-eq0 c =

@@ -8,6 +8,3 @@ invariant-loop-n l =
     (l.n ≤ 512)
     × (length l.trace ≡ length l.initial.trace)
     × ((run_t l.at (name_from (512 - l.n) l.p) (l.w, l.trace)).1 ≡ (run_t l.at (name_from 512 l.address) (l.w, l.initial.trace)).1)
-
-abbrev pub decreases-loop-n : goal.decreases-loop-n
-decreases-loop-n l = 512 - l.n

@@ -1,11 +1,8 @@
 -- The invariant: what is left of the two names from place i on stands in the same order as what is left from the first place on.
-use Rattle.std.proofs.Common.{◌≡◌, ◌-◌, ◌≤◌, length, drop}
+use Rattle.std.proofs.Common.{◌≡◌, drop}
 use Rattle.window.specs.Name.{order_of, ended}
 use Rattle.window.proofs.name_rows.compare_rows_from.Given as goal
 
 abbrev pub invariant-loop-i : goal.invariant-loop-i
 invariant-loop-i l =
-    (l.i ≤ length l.a) × (order_of (ended (drop l.i l.a)) (ended (drop l.i l.b)) ≡ order_of (ended (drop l.from l.a)) (ended (drop l.from l.b)))
-
-abbrev pub decreases-loop-i : goal.decreases-loop-i
-decreases-loop-i l = length l.a - l.i
+    order_of (ended (drop l.i l.a)) (ended (drop l.i l.b)) ≡ order_of (ended (drop l.from l.a)) (ended (drop l.from l.b))

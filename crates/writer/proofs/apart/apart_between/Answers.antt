@@ -1,33 +1,16 @@
-use mathlib.Core.Path.{◌≡◌, ◌∙◌}
-use native.Mathlib.Omega.{arith}
-use Rattle.writer.proofs.apart.Laws.{none_between, more-between, not-between}
+use Rattle.std.proofs.Common.{ℕ, ◌-◌, refl, ◌∙◌, rules, tests}
+use Rattle.std.proofs.lemmas.Iterator.{YieldsList-from_range}
+use Rattle.std.proofs.lemmas.Iterator.Search.{all_from_yields_List}
+use Rattle.writer_spec.specs.Description.{file_of}
+use Rattle.writer_spec.specs.Words.{word_of, places_apart}
+use Rattle.writer.specs.Apart.{apart_between}
+use Rattle.writer.proofs.Laws.{all_from}
 use Rattle.writer.proofs.apart.apart_between.Goals as goal
 
-pub loop-i-init : goal.loop-i-init
-loop-i-init c = (omega arith, c.requires.0, none_between _ _ _ _ _)
-
-pub word_number-requires : goal.word_number-requires
-word_number-requires c = omega (arith, c.requires)
-
-pub places_apart-requires : goal.places_apart-requires
-places_apart-requires c = tt
-
-pub returns-then-not-places_apart : goal.returns-then-not-places_apart
-returns-then-not-places_apart c =
-    let loop = c.loop-i in
-    not-between _ _ _ _ _ _ _ loop.invariant.0 c.loop-i-test.true c.word_number.ensures
-    c.places_apart.ensures c.if-not-places_apart.true
-
-pub loop-i-preserved : goal.loop-i-preserved
-loop-i-preserved c =
-    let loop = c.loop-i in (
-      omega arith,
-      omega arith,
-      more-between _ _ _ _ _ _ loop.invariant.0 loop.invariant.2 c.word_number.ensures c.places_apart.ensures
-          c.if-not-places_apart.false,
-    )
-
 pub returns : goal.returns
+unfolding apart_between
 returns c =
-    let loop = c.loop-i in
-    let done : loop.i ≡ c.args.to = omega arith in loop.invariant.2 ∙ rw done
+    let a = c.args in
+    let w = a.words.now in
+    let test = λ (i : ℕ). places_apart (word_of (file_of w.bytes.now) w.kinds.now w.room i) a.word in
+    all_from_yields_List test _ _ _ c.all.ensures.ran (YieldsList-from_range a.from a.to _ refl refl) (λ x b q k. search (rules, tests)) ∙ all_from (a.to - a.from) a.from test

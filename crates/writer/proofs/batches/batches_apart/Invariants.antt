@@ -1,10 +1,6 @@
-use Prim.Native.Nat.{◌-◌}
 use Rattle.writer_spec.specs.Description.{file_of}
 use Rattle.writer.proofs.batches.Laws.{BatchesSoFar}
 use Rattle.writer.proofs.batches.batches_apart.Given as goal
 
 abbrev pub invariant-loop-k : goal.invariant-loop-k
-invariant-loop-k l = BatchesSoFar (file_of l.bytes) l.all l.k l.end
-
-abbrev pub decreases-loop-k : goal.decreases-loop-k
-decreases-loop-k l = l.all - l.k
+invariant-loop-k l = BatchesSoFar (file_of l.bytes) l.k l.end

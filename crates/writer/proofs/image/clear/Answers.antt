@@ -1,21 +1,13 @@
-use mathlib.Core.Path.{◌≡◌, refl}
-use native.Mathlib.Omega.{arith}
-use Rattle.writer.proofs.image.Laws.{none_laid, one-laid}
+use Rattle.std.proofs.Common.{ℕ, ◌-◌, replicate, ◌≡◌, arith, rules}
+use Rattle.std.proofs.lemmas.List.{get_or-replicate, length-replicate}
+use Rattle.writer.proofs.image.Laws.{piece-laid}
 use Rattle.writer.proofs.image.clear.Goals as goal
-
-pub loop-i-init : goal.loop-i-init
-loop-i-init c = (omega arith, c.requires.0, c.requires.1, none_laid c.args.from (λ o. 0) c.args.buffer.now)
-
-pub loop-i-preserved : goal.loop-i-preserved
-loop-i-preserved c =
-    let now = c.loop-i in (
-      omega arith,
-      omega arith,
-      now.invariant.2,
-      one-laid c.args.from (λ o. 0) c.args.buffer.now now.i 0 now.buffer now.invariant.0 (omega arith) refl now.invariant.3,
-    )
 
 pub returns : goal.returns
 returns c =
-    let done : c.loop-i.i ≡ c.args.to = omega arith in
-    rw done at c.loop-i.invariant.3
+    let a = c.args in
+    let n = a.to - a.from in
+    let cleared : c.fill.new.self ≡ replicate {A = ℕ} n 0 = search rules in
+    rw cleared
+    (piece-laid a.from n a.to (λ _. 0) a.buffer.now (replicate n 0) (length-replicate n 0) (omega (arith, c.requires)) c.requires.1
+    (λ i l. get_or-replicate n i 0 0 l))

@@ -1,6 +1,3 @@
-use mathlib.Core.Path.{sym}
-use native.Mathlib.Omega.{arith}
-use lib.Seq.{length-take-le}
 use Rattle.writer_spec.specs.Description.{described_size}
 use Rattle.writer.proofs.image.Whole.{description_read}
 use Rattle.writer.proofs.image.Outcomes.{no_header, cut_off, no_room, read}
@@ -16,12 +13,6 @@ returns-then-image-end c = cut_off _ _ c.if-image.false c.word-size.ensures c.if
 pub returns-then-description-end : goal.returns-then-description-end
 unfolding described_size
 returns-then-description-end c = no_room _ _ c.if-image.false c.word-size.ensures c.if-image-end.false c.if-description-end.true
-
-pub slice_bounds-copy-end : goal.slice_bounds-copy-end
-slice_bounds-copy-end c = sym (length-take-le c.word-size.result c.args.image.now c.if-image-end.false)
-
-pub copy-requires : goal.copy-requires
-copy-requires c = omega (arith, length-take-le c.word-size.result c.args.image.now c.if-image-end.false)
 
 pub returns : goal.returns
 unfolding described_size

@@ -1,4 +1,3 @@
-use Prim.Native.Nat.{◌-◌, ◌≤◌}
 use mathlib.Core.Path.{◌≡◌}
 use Rattle.layout.specs.Header.{header_size}
 use Rattle.history.specs.Image.{segments, count}
@@ -7,7 +6,4 @@ use Rattle.writer.proofs.packed.Laws.{segments_left}
 use Rattle.writer.proofs.packed.segments_packed.Given as goal
 
 abbrev pub invariant-loop-i : goal.invariant-loop-i
-invariant-loop-i l = (l.i ≤ l.all) × (segments_left (file_of l.bytes) l.all l.i l.pos ≡ packed_from (file_of l.bytes) header_size (segment_blocks (file_of l.bytes) (count (file_of l.bytes) segments) 0))
-
-abbrev pub decreases-loop-i : goal.decreases-loop-i
-decreases-loop-i l = l.all - l.i
+invariant-loop-i l = segments_left (file_of l.bytes) l.i-end l.i l.pos ≡ packed_from (file_of l.bytes) header_size (segment_blocks (file_of l.bytes) (count (file_of l.bytes) segments) 0)

@@ -1,26 +1,17 @@
-use native.Mathlib.Omega.{arith}
-use Rattle.history.specs.Image.{count}
-use Rattle.writer_spec.specs.All.{all_none}
-use Rattle.writer.proofs.touched.Laws.{Asked-here, not-asked_here, not-asked}
+use Rattle.std.proofs.Common.{ℕ, refl, ap, ◌∙◌, rules, tests, not}
+use Rattle.std.proofs.lemmas.Iterator.{YieldsList-from_range}
+use Rattle.std.proofs.lemmas.Iterator.Search.{any_from_yields_List}
+use Rattle.writer_spec.specs.All.{all_below}
+use Rattle.writer_spec.specs.Description.{file_of}
+use Rattle.writer_spec.specs.Words.{in_run, asked}
+use Rattle.writer.specs.Runs.{run_at}
+use Rattle.writer.proofs.Laws.{all_to, any_is}
 use Rattle.writer.proofs.touched.asked.Goals as goal
 
-pub count-all-requires : goal.count-all-requires
-count-all-requires c = tt
-
-pub loop-j-init : goal.loop-j-init
-loop-j-init c = (omega arith, all_none _)
-
-pub in_run-requires : goal.in_run-requires
-in_run-requires c = c.requires
-
-pub returns-then-in_run : goal.returns-then-in_run
-unfolding count
-returns-then-in_run c =
-    Asked-here _ _ _ _ c.count-all.ensures c.loop-j-test.true c.in_run.ensures c.if-in_run.true
-
-pub loop-j-preserved : goal.loop-j-preserved
-loop-j-preserved c = (omega arith, not-asked_here _ _ _ _ c.loop-j.invariant.1 c.in_run.ensures c.if-in_run.false)
-
 pub returns : goal.returns
-unfolding count
-returns c = not-asked _ _ _ c.count-all.ensures (omega arith) c.loop-j.invariant.1
+unfolding asked
+returns c =
+    let a = c.args in
+    let F = file_of a.bytes.now in
+    let test = λ (j : ℕ). in_run F (run_at a.run) j a.o in
+    any_from_yields_List test _ _ _ c.any.ensures.ran (YieldsList-from_range 0 _ _ refl refl) (λ x b q k. search (rules, tests)) ∙ (any_is test _ ∙ ap not (all_to _ (λ j. not (test j)) ∙ ap (λ n. all_below n (λ j. not (test j))) c.count.ensures))

@@ -1,18 +1,15 @@
-use native.Mathlib.Omega.{arith}
-use Rattle.writer.proofs.touched.Laws.{zero_before, none_before, one-more_before, all_before}
+use Rattle.std.proofs.Common.{ℕ, refl, ◌∙◌, rules, tests, suc, ◌-◌, eqb, not}
+use Rattle.std.proofs.lemmas.Iterator.{YieldsList-from_range}
+use Rattle.std.proofs.lemmas.Iterator.Search.{all_from_yields_List}
+use Rattle.writer_spec.specs.Description.{file_of}
+use Rattle.writer_spec.specs.Words.{long_before}
+use Rattle.writer.proofs.Laws.{all_to}
 use Rattle.writer.proofs.touched.long_before.Goals as goal
 
-pub loop-i-init : goal.loop-i-init
-loop-i-init c = (omega arith, none_before _ _)
-
-pub byte-requires : goal.byte-requires
-byte-requires c = tt
-
-pub returns-then-byte-eq0 : goal.returns-then-byte-eq0
-returns-then-byte-eq0 c = zero_before _ _ _ _ c.loop-i-test.true c.byte.ensures c.if-byte-eq0.true
-
-pub loop-i-preserved : goal.loop-i-preserved
-loop-i-preserved c = (omega arith, one-more_before _ _ _ c.loop-i.invariant.1 c.byte.ensures c.if-byte-eq0.false)
-
 pub returns : goal.returns
-returns c = all_before _ _ _ (omega arith) c.loop-i.invariant.1
+unfolding long_before
+returns c =
+    let a = c.args in
+    let F = file_of a.bytes.now in
+    let test = λ (i : ℕ). not (eqb (F (a.o - suc i)) 0) in
+    all_from_yields_List test _ _ _ c.all.ensures.ran (YieldsList-from_range 0 512 _ refl refl) (λ x b q k. search (rules, tests)) ∙ all_to _ test

@@ -1,19 +1,12 @@
-use Rattle.writer.proofs.Laws.{or_stops, or_goes_on}
+-- The check proves this goal alone; the `let` names the part that a wrong body breaks.
+use Rattle.std.proofs.Common.{◌+◌, ◌≡◌, arith}
+use Rattle.std.proofs.lemmas.Grind.{common_steps}
+use Rattle.writer_spec.specs.Description.{file_of}
+use Rattle.writer_spec.specs.Words.{touched_byte}
 use Rattle.writer.proofs.touched.word_touched.Goals as goal
 
-pub returns-then-touched_byte : goal.returns-then-touched_byte
-returns-then-touched_byte c = or_stops _ c.touched_byte.ensures c.if-touched_byte.true
-
-pub returns-then-touched_byte-2 : goal.returns-then-touched_byte-2
-returns-then-touched_byte-2 c = or_goes_on c.touched_byte.ensures c.if-touched_byte.false (or_stops _ c.touched_byte-2.ensures c.if-touched_byte-2.true)
-
-pub returns-then-touched_byte-3 : goal.returns-then-touched_byte-3
-returns-then-touched_byte-3 c =
-    or_goes_on c.touched_byte.ensures c.if-touched_byte.false
-    (or_goes_on c.touched_byte-2.ensures c.if-touched_byte-2.false (or_stops _ c.touched_byte-3.ensures c.if-touched_byte-3.true))
-
-pub returns : goal.returns
-returns c =
-    or_goes_on c.touched_byte.ensures c.if-touched_byte.false
-    (or_goes_on c.touched_byte-2.ensures c.if-touched_byte-2.false
-    (or_goes_on c.touched_byte-3.ensures c.if-touched_byte-3.false c.touched_byte-4.ensures))
+pub returns-else-touched_byte-3 : goal.returns-else-touched_byte-3
+returns-else-touched_byte-3 c =
+    let last : c.touched_byte-else-touched_byte-3.result ≡ touched_byte (file_of c.args.bytes.now) (c.args.c + 3) =
+    c.touched_byte-else-touched_byte-3.ensures
+    in grind (arith, common_steps)

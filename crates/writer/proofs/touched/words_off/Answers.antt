@@ -1,35 +1,16 @@
-use native.Mathlib.Omega.{arith}
-use Rattle.writer_spec.specs.All.{all_none}
-use Rattle.writer_spec.specs.Words.{word_off, words_off}
-use Rattle.writer.proofs.Laws.{word_fails, word-passes, words_pass}
+use Rattle.std.proofs.Common.{ℕ, refl, ap, ◌∙◌, rules, tests}
+use Rattle.std.proofs.lemmas.Iterator.{YieldsList-from_range}
+use Rattle.std.proofs.lemmas.Iterator.Search.{all_from_yields_List}
+use Rattle.writer_spec.specs.All.{all_below}
+use Rattle.writer_spec.specs.Description.{file_of}
+use Rattle.writer_spec.specs.Words.{word_of, word_off, words_off}
+use Rattle.writer.proofs.Laws.{all_to}
 use Rattle.writer.proofs.touched.words_off.Goals as goal
-
-pub word_count-all-requires : goal.word_count-all-requires
-word_count-all-requires c = tt
-
-pub loop-i-init : goal.loop-i-init
-loop-i-init c = (omega arith, all_none _)
-
-pub word_number-requires : goal.word_number-requires
-word_number-requires c = omega (arith, c.word_count-all.ensures)
-
-pub word_off-requires : goal.word_off-requires
-word_off-requires c = tt
-
-pub returns-then-not-word_off : goal.returns-then-not-word_off
-unfolding words_off
-returns-then-not-word_off c =
-    word_fails _ _ _ (word_off _ _) c.word_count-all.ensures c.loop-i-test.true c.word_number.ensures
-    c.word_off.ensures c.if-not-word_off.true
-
-pub loop-i-preserved : goal.loop-i-preserved
-loop-i-preserved c =
-    let loop = c.loop-i in (
-      omega arith,
-      word-passes _ _ _ (word_off _ _) _ loop.invariant.1 c.word_number.ensures c.word_off.ensures
-          c.if-not-word_off.false,
-    )
 
 pub returns : goal.returns
 unfolding words_off
-returns c = words_pass _ _ _ (word_off _ _) c.word_count-all.ensures (omega arith) c.loop-i.invariant.1
+returns c =
+    let w = c.args.words.now in
+    let F = file_of w.bytes.now in
+    let test = λ (i : ℕ). word_off F w.room (word_of F w.kinds.now w.room i) in
+    all_from_yields_List test _ _ _ c.all.ensures.ran (YieldsList-from_range 0 _ _ refl refl) (λ x b q k. search (rules, tests)) ∙ (all_to _ test ∙ ap (λ n. all_below n test) c.count.ensures)

@@ -1,43 +1,20 @@
--- A counted loop over the table: `table_starts`, `strides_made`, `steps-over`.
-use Rattle.std.proofs.Common.{refl, ap, ◌∙◌, arith}
+-- The turns at the entries, `for_each_entry`, after the table's place and count, `table_starts`.
+use Rattle.std.proofs.Common.{ap, ◌∙◌, rules}
 use Rattle.layout.specs.Header.{import_named_symbol_table_offset, import_named_symbol_num, import_named_symbol_entry_size}
 use Rattle.layout.specs.Segments.{entry_at}
 use Rattle.register.specs.Read.Read.{module_at}
 use Rattle.linker_spec.specs.Imports.{serve_named}
-use Rattle.window.specs.TraceRuns.{left, steps-over}
-use Rattle.window.specs.Outside.{silent_goes, strides_made}
+use Rattle.window.specs.TraceRuns.{left}
 use Rattle.linker.specs.Imports.Served.{serve_all_named}
 use Rattle.linker.proofs.imports.Laws.{table_starts, serve-named-idle}
 use Rattle.linker.proofs.imports.others.serve_all_named.Goals as goal
-
-pub loop-index-init : goal.loop-index-init
-loop-index-init c = (omega arith, refl, refl, refl)
-
-pub overflow_add-index : goal.overflow_add-index
-overflow_add-index c = omega (arith, silent_goes _ _ _ _ _ _ c.silent_stride-index.ensures (omega arith))
-
-pub loop-index-smaller : goal.loop-index-smaller
-loop-index-smaller c = omega (arith, silent_goes _ _ _ _ _ _ c.silent_stride-index.ensures (omega arith))
-
-pub loop-index-preserved : goal.loop-index-preserved
-loop-index-preserved c =
-    let a = c.args in
-    let m = module_at a.records.now a.names.now a.place in (
-      omega (arith, silent_goes _ _ _ _ _ _ c.silent_stride-index.ensures (omega arith)),
-      c.serve_named.auto.w ∙ c.loop-index.invariant.1,
-      strides_made a.at (serve_named m a.base) import_named_symbol_entry_size c.field-table.result c.loop-index.index
-          c.field-count.result (c.loop-index.w, c.loop-index.trace) c.loop-index.invariant.2 c.loop-index-test.true c.entry_address-entry.ensures c.serve_named.ensures
-          c.silent_stride-index.ensures (serve-named-idle a.at a.base m),
-      c.serve_named.auto.trace ∙ c.loop-index.invariant.3,
-    )
 
 pub returns : goal.returns
 unfolding serve_all_named
 returns c =
     let a = c.args in
     let m = module_at a.records.now a.names.now a.place in
-    steps-over a.at (serve_named m a.base) (λ i. entry_at c.field-table.result i import_named_symbol_entry_size) c.loop-index.index
-    c.field-count.result (c.loop-index.w, c.loop-index.trace) c.loop-index.invariant.2 c.loop-index-test.false
+    c.for_each_entry.ensures (serve_named m a.base) (serve-named-idle a.at a.base m) (λ w trace entry w' trace' small call. search rules)
     ∙ ap left
     (table_starts a.at a.base import_named_symbol_table_offset import_named_symbol_num (λ table i _. serve_named m a.base (entry_at table i import_named_symbol_entry_size)) tt
     (a.w.now, a.trace.now) c.field-table.ensures c.field-count.ensures)

@@ -1,5 +1,5 @@
 -- A counted loop over the table, the missing names handed on: `table_starts`, `reached_starts`, `reached_next`, `reached_past`, `reached_over`.
-use Rattle.std.proofs.Common.{refl, ◌∙◌, arith}
+use Rattle.std.proofs.Common.{◌≡◌, ◌-◌, refl, ◌∙◌, arith}
 use Rattle.window.specs.Outside.{silent_goes}
 use Rattle.layout.specs.Header.{import_named_symbol_table_offset, import_named_symbol_num}
 use Rattle.register.specs.Decode.{register_of}
@@ -47,7 +47,8 @@ unfolding apply_import_named_symbols
 returns c =
     let a = c.args in
     let r = register_of a.records.now a.names.now a.missing.now in
+    let all : c.field-count.result - 0 ≡ c.field-count.result = omega arith in
     reached_over a.at a.base c.field-table.result r a.records.now c.loop-index.records a.names.now c.loop-index.missing
     c.loop-index.index c.field-count.result (c.loop-index.w, c.loop-index.trace) _ c.loop-index.invariant.4 c.loop-index-test.false
-    (table_starts a.at a.base import_named_symbol_table_offset import_named_symbol_num (λ table. turn a.at a.base table r) r.missing
-    (a.w.now, a.trace.now) c.field-table.ensures c.field-count.ensures)
+    (rw all (table_starts a.at a.base import_named_symbol_table_offset import_named_symbol_num (λ table. turn a.at a.base table r) r.missing
+    (a.w.now, a.trace.now) c.field-table.ensures c.field-count.ensures))

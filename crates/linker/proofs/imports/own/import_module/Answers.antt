@@ -14,4 +14,4 @@ returns c =
     let a = c.args in
     module_found a.records.now a.names.now a.at a.base a.entry (a.w.now, a.trace.now)
     c.read32-address.ensures c.module_by_name-found.ensures c.tables_of-tables.ensures c.requires
-    c.in-At.is (c.link_from.ensures a.names.now)
+    c.in-Some.is (c.link_from.ensures a.names.now)

@@ -15,8 +15,8 @@ slice_bounds-lookup-end c =
     let a = c.args in
     name_taken (run_t a.at (name_at c.read32-address.result) (a.w.now, c.read32-address.new.trace)).0 _ c.read_name-n.ensures.0
 
-pub slice_bounds-buffer-end-in-Nothing : goal.slice_bounds-buffer-end-in-Nothing
-slice_bounds-buffer-end-in-Nothing c =
+pub slice_bounds-buffer-end-in-None : goal.slice_bounds-buffer-end-in-None
+slice_bounds-buffer-end-in-None c =
     let a = c.args in
     name-fits (run_t a.at (name_at c.read32-address.result) (a.w.now, c.read32-address.new.trace)).0 _ c.read_name-n.ensures.0
 
@@ -25,22 +25,22 @@ slice_bounds-push_missing-end c =
     let a = c.args in
     name_taken (run_t a.at (name_at c.read32-address.result) (a.w.now, c.read32-address.new.trace)).0 _ c.read_name-n.ensures.0
 
-pub returns-in-At : goal.returns-in-At
-returns-in-At c =
+pub returns-in-Some : goal.returns-in-Some
+returns-in-Some c =
     let a = c.args in
     own-found a.records.now a.names.now a.missing.now a.at a.base a.entry (a.w.now, a.trace.now)
     (λ i. omega (arith, c.slice_known-3-1.given i)) c.requires c.wrapping_add_u32.ensures.value c.read32-batch.ensures
     c.is_unresolved.ensures _ c.if-is_unresolved.true c.read32-address.ensures c.read_name-n.ensures c.lookup.ensures
-    c.in-At.is c.apply_relocation_batch.ensures
+    c.in-Some.is c.apply_relocation_batch.ensures
 
-pub returns-in-Nothing : goal.returns-in-Nothing
-returns-in-Nothing c =
+pub returns-in-None : goal.returns-in-None
+returns-in-None c =
     let a = c.args in
     own_missing a.records.now a.names.now a.missing.now a.at a.base a.entry (a.w.now, a.trace.now)
     (λ i. omega (arith, c.slice_known-3-1.given i)) c.requires
     c.wrapping_add_u32.ensures.value
     c.read32-batch.ensures c.is_unresolved.ensures _ c.if-is_unresolved.true c.read32-address.ensures c.read_name-n.ensures c.lookup.ensures
-    c.in-Nothing.is c.push_missing.ensures
+    c.in-None.is c.push_missing.ensures
 
 pub returns-else-is_unresolved : goal.returns-else-is_unresolved
 returns-else-is_unresolved c =

@@ -9,6 +9,3 @@ invariant-loop-i l =
     (l.i ≤ l.count)
     × (run_t l.at (loop (look_at l.base) l.i (l.count - l.i) tt) (l.w, l.trace) ≡ run_t l.at (loop (look_at l.base) 0 (l.count - 0) tt) (l.w, l.initial.trace))
     × (length l.trace ≡ length l.initial.trace)
-
-abbrev pub decreases-loop-i : goal.decreases-loop-i
-decreases-loop-i l = l.count - l.i

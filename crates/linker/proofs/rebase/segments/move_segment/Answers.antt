@@ -12,4 +12,4 @@ pub returns : goal.returns
 returns c =
     let a = c.args in
     segment-moved a.at a.lent a.index a.old (a.w.now, a.trace.now) c.segment.ensures
-    c.in-Found.is c.place.ensures c.write_back.ensures
+    c.in-Some.is c.place.ensures c.write_back.ensures

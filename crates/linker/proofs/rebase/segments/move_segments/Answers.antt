@@ -1,21 +1,18 @@
 -- A counted loop up to the first refusal: `segments-start`, `segments_on`, `moved-past`, `segments-refused`, `turns-over`.
-use Rattle.std.proofs.Common.{refl, ◌∙◌, arith}
+use Rattle.std.proofs.Common.{◌∙◌, arith, Some}
 use Rattle.window.specs.Outside.{silent_goes}
-use Rattle.linker_spec.specs.declared.rebase.Moved.TheVariants.{OldPlace}
 use Rattle.linker_spec.specs.Rebase.{move_segment}
 use Rattle.window.specs.TraceRuns.{turns-over}
 use Rattle.linker.proofs.rebase.Laws.{segments-start, segments-refused, segments_on}
 use Rattle.linker.proofs.rebase.Outside.{moved-past}
 use Rattle.linker.proofs.rebase.segments.move_segments.Goals as goal
 
-pub loop-index-init : goal.loop-index-init
-loop-index-init c = (omega arith, refl, refl, refl)
-
-pub returns-in_default : goal.returns-in_default
-returns-in_default c =
+pub returns-in_err-old : goal.returns-in_err-old
+returns-in_err-old c =
     let a = c.args in
-    segments-refused a.at a.lent (c.loop-index.w, c.loop-index.trace) c.loop-index.index c.field-count.result (OldPlace c.loop-index.old) c.loop-index.invariant.2
-    c.loop-index-test.true c.move_segment.ensures c.in_default.is
+    rw c.from_residual.ensures
+    (segments-refused a.at a.lent (c.loop-index.w, c.loop-index.trace) c.loop-index.index c.field-count.result (Some c.loop-index.old) c.loop-index.invariant.2
+    c.loop-index-test.true c.move_segment.ensures c.in_err-old.was)
     ∙ segments-start a.at a.lent (a.w.now, a.trace.now) c.field-count.ensures
 
 pub overflow_add-index : goal.overflow_add-index
@@ -30,8 +27,8 @@ loop-index-preserved c =
       omega (arith, silent_goes _ _ _ _ _ _ c.segment_stride-index.ensures (omega arith)),
       c.move_segment.auto.w ∙ c.loop-index.invariant.1,
       moved-past a.at c.loop-index.index c.field-count.result _ _ c.loop-index-test.true a.lent _
-          (segments_on a.at a.lent (c.loop-index.w, c.loop-index.trace) c.loop-index.index c.field-count.result (OldPlace c.loop-index.old) c.loop-index.invariant.2
-          c.loop-index-test.true c.move_segment.ensures c.in-OldPlace.is)
+          (segments_on a.at a.lent (c.loop-index.w, c.loop-index.trace) c.loop-index.index c.field-count.result (Some c.loop-index.old) c.loop-index.invariant.2
+          c.loop-index-test.true c.move_segment.ensures c.in_ok-old.was)
           c.segment_stride-index.ensures,
       c.move_segment.auto.trace ∙ c.loop-index.invariant.3,
     )
@@ -39,6 +36,6 @@ loop-index-preserved c =
 pub returns : goal.returns
 returns c =
     let a = c.args in
-    turns-over a.at (move_segment a.lent) c.loop-index.index c.field-count.result (OldPlace c.loop-index.old) (c.loop-index.w, c.loop-index.trace)
+    turns-over a.at (move_segment a.lent) c.loop-index.index c.field-count.result (Some c.loop-index.old) (c.loop-index.w, c.loop-index.trace)
     c.loop-index.invariant.2 c.loop-index-test.false
     ∙ segments-start a.at a.lent (a.w.now, a.trace.now) c.field-count.ensures

@@ -1,4 +1,4 @@
-use Rattle.std.proofs.Common.{◌≡◌, ◌-◌, ◌≤◌, length}
+use Rattle.std.proofs.Common.{◌≡◌, ◌-◌, length}
 use Rattle.window.specs.Trace.{run_t}
 use Rattle.window.specs.Loop.{loop}
 use Rattle.layout.specs.Segments.{entry_at}
@@ -7,11 +7,7 @@ use Rattle.linker.proofs.rebase.tables.move_entries.Given as goal
 
 abbrev pub invariant-loop-index : goal.invariant-loop-index
 invariant-loop-index l =
-    (l.index ≤ l.count)
-    × (length l.w ≡ length l.initial.w)
+    (length l.w ≡ length l.initial.w)
     × (run_t l.at (loop (λ i _. move_pointers l.forward l.base (entry_at l.table i l.t.entry_size) (pointers_of l.t)) l.index (l.count - l.index) tt) (l.w, l.trace)
     ≡ run_t l.at (loop (λ i _. move_pointers l.forward l.base (entry_at l.table i l.t.entry_size) (pointers_of l.t)) 0 l.count tt) (l.initial.w, l.initial.trace))
     × (length l.trace ≡ length l.initial.trace)
-
-abbrev pub decreases-loop-index : goal.decreases-loop-index
-decreases-loop-index l = l.count - l.index

@@ -13,6 +13,3 @@ invariant-loop-index l =
     × ((at table : ℕ) (trace : List ℕ) → l.start ≡ place at table
     → run_t at (loop (λ i _. move_pointer l.forward l.base l.size l.first table i) l.index (l.count - l.index) tt) (l.w, trace)
     ≡ run_t at (loop (λ i _. move_pointer l.forward l.base l.size l.first table i) 0 l.count tt) (l.initial.w, trace))
-
-abbrev pub decreases-loop-index : goal.decreases-loop-index
-decreases-loop-index l = l.count - l.index

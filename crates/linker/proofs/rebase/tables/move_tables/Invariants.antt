@@ -1,4 +1,4 @@
-use Rattle.std.proofs.Common.{◌≡◌, ◌-◌, ◌≤◌, length, drop}
+use Rattle.std.proofs.Common.{◌≡◌, ◌≤◌, length, drop}
 use Rattle.window.specs.Trace.{run_t}
 use Rattle.layout.specs.Tables.{pointer_tables}
 use Rattle.linker_spec.specs.Rebase.{move_tables}
@@ -10,6 +10,3 @@ invariant-loop-i l =
     × (length l.w ≡ length l.initial.w)
     × (run_t l.at (move_tables l.forward l.base (drop l.i pointer_tables)) (l.w, l.trace) ≡ run_t l.at (move_tables l.forward l.base pointer_tables) (l.initial.w, l.initial.trace))
     × (length l.trace ≡ length l.initial.trace)
-
-abbrev pub decreases-loop-i : goal.decreases-loop-i
-decreases-loop-i l = 5 - l.i

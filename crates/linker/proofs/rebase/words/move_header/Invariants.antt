@@ -13,6 +13,3 @@ invariant-loop-i l =
     × (run_t l.at (loop (λ i _. move_word l.forward l.base (l.base ⊕ (first_rebased + 8 * i))) l.i (17 - l.i) tt) (l.w, l.trace)
     ≡ run_t l.at (loop (λ i _. move_word l.forward l.base (l.base ⊕ (first_rebased + 8 * i))) 0 17 tt) (l.initial.w, l.initial.trace))
     × (length l.trace ≡ length l.initial.trace)
-
-abbrev pub decreases-loop-i : goal.decreases-loop-i
-decreases-loop-i l = 17 - l.i

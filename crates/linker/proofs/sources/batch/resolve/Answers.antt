@@ -9,4 +9,4 @@ returns-in_default c =
 pub returns : goal.returns
 returns c =
     let a = c.args in
-    resolved_by a.at a.base a.batch (a.w.now, a.trace.now) c.in-At.is c.apply_relocation_batch.ensures
+    resolved_by a.at a.base a.batch (a.w.now, a.trace.now) c.in-Some.is c.apply_relocation_batch.ensures

@@ -1,21 +1,12 @@
-use Rattle.std.proofs.Common.{drop, refl, ◌∙◌, length-set}
-use Rattle.register.proofs.append.Laws.{copy_turn, copy_end, sets_past}
+use Rattle.std.proofs.Common.{◌≡◌, ◌+◌, ◌-◌, arith}
+use Rattle.register.proofs.append.Laws.{sets_past, copy_some}
 use Rattle.register.proofs.append.bytes.copy_into.Goals as goal
 
-pub loop-i-init : goal.loop-i-init
-loop-i-init c = (refl, refl)
-
-pub returns-then-buffer-to : goal.returns-then-buffer-to
-returns-then-buffer-to c =
-    sets_past _ (drop c.loop-i.i c.args.source.now) _ c.if-buffer-to.true
-    ∙ c.loop-i.invariant.1
-
-pub loop-i-preserved : goal.loop-i-preserved
-loop-i-preserved c = (
-  simp length-set c.loop-i.invariant.0,
-  copy_turn c.loop-i.buffer c.args.source.now c.loop-i.to
-      c.loop-i.i c.loop-i-test.true ∙ c.loop-i.invariant.1,
-)
+pub returns-then-buffer-place : goal.returns-then-buffer-place
+returns-then-buffer-place c = sets_past c.args.buffer.now c.args.source.now c.args.place (omega arith)
 
 pub returns : goal.returns
-returns c = copy_end _ _ _ _ c.loop-i-test.false ∙ c.loop-i.invariant.1
+returns c =
+    let a = c.args in
+    let n : a.place + c.min-count.result - a.place ≡ c.min-count.result = omega arith in
+    rw n (copy_some a.buffer.now a.source.now a.place _ c.if-buffer-place.false c.min-count.ensures c.copy_from_slice.ensures.after)

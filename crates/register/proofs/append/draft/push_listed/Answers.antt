@@ -14,18 +14,19 @@ count_up-requires c =
         h.0,
         h.1,
         open_start _ _ _ 0 c.is_open.ensures c.if-not-is_open.false
-            c.push_word.ensures _ c.in-Open.is,
+            c.push_word.ensures _ c.in_ok-next.was,
         c.push_word.auto.records,
       ),
     )
 
-pub returns-in-Full : goal.returns-in-Full
-returns-in-Full c =
-    listed_full _ _ _ _ c.is_open.ensures c.if-not-is_open.false
-    c.push_word.ensures c.in-Full.is
+pub returns-in_err-next : goal.returns-in_err-next
+returns-in_err-next c =
+    rw c.from_residual.ensures
+    (listed_full _ _ _ _ c.is_open.ensures c.if-not-is_open.false
+    c.push_word.ensures c.in_err-next.was)
 
-pub returns-in-Open : goal.returns-in-Open
-returns-in-Open c =
+pub returns : goal.returns
+returns c =
     rw c.count_up.ensures
     (listed_open _ _ _ _ c.is_open.ensures c.if-not-is_open.false c.push_word.ensures _
-    c.in-Open.is)
+    c.in_ok-next.was)

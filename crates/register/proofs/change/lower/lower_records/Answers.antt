@@ -1,10 +1,7 @@
-use Rattle.std.proofs.Common.{refl, arith}
-use Rattle.register.specs.Change.Lower.{walk_start, walk-next, walk_end}
+use Rattle.std.proofs.Common.{arith}
+use Rattle.register.specs.Change.Lower.{walk-next, walk_end}
 use Rattle.register.proofs.change.Laws.{size-part}
 use Rattle.register.proofs.change.lower.lower_records.Goals as goal
-
-pub loop-place-init : goal.loop-place-init
-loop-place-init c = (refl, walk_start)
 
 pub overflow_mul-size : goal.overflow_mul-size
 overflow_mul-size c = let n = walk-next (c.loop-place.invariant.1 c.requires)

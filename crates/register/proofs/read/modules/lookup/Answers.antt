@@ -10,12 +10,12 @@ loop-k-init c = walk_starts _ _ _ c.requires
 pub export_named-requires : goal.export_named-requires
 export_named-requires c = walk_sorted _ _ _ c.loop-k.invariant (omega arith)
 
-pub returns-in-At : goal.returns-in-At
-returns-in-At c =
+pub returns-in-Some : goal.returns-in-Some
+returns-in-Some c =
     let a = c.args in
     let r = c.record_at-record.ensures in
     lookup_found a.records.now a.names.now c.loop-k.place c.loop-k.k (omega arith) r a.name.now c.loop-k.invariant
-    c.if-record-eq1.true (sym c.export_named.ensures ∙ c.in-At.is)
+    c.if-record-eq1.true (sym c.export_named.ensures ∙ c.in-Some.is)
 
 pub loop-k-preserved : goal.loop-k-preserved
 loop-k-preserved c =

@@ -1,4 +1,3 @@
-use Rattle.std.proofs.Common.{◌-◌}
 use Rattle.register.specs.Read.Read.{lookup_in}
 use Rattle.register.specs.Read.Walk.{Walk}
 use Rattle.register.proofs.read.modules.lookup.Given as goal
@@ -6,6 +5,3 @@ use Rattle.register.proofs.read.modules.lookup.Given as goal
 abbrev pub invariant-loop-k : goal.invariant-loop-k
 invariant-loop-k l =
     Walk (λ p ms. lookup_in ms l.name) l.records l.names l.place l.k
-
-abbrev pub decreases-loop-k : goal.decreases-loop-k
-decreases-loop-k l = l.count - l.k

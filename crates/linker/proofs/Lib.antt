@@ -1,0 +1,2 @@
+-- Laws that the proofs of several modules share.
+pub mod Results

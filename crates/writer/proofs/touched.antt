@@ -1,2 +1,0 @@
--- What the proofs of `writer::touched` share.
-mod Laws
