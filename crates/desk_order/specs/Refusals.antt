@@ -55,8 +55,8 @@ number_fits (Done v r) = omega arith
 
 ordered_fits : (g v : Bool) (b : Buffers) (x : Answer × List ℕ) → (refusal_order g v b (outcome_of b x)).number ≤ 5
 unfolding outcome_of
-ordered_fits false v b x = (refusal_from_1 BadWindow).1
-ordered_fits true false b x = (refusal_from_1 NoRegister).1
+ordered_fits false v b x = number_fits (Refused BadWindow)
+ordered_fits true false b x = number_fits (Refused NoRegister)
 ordered_fits true true b (a, w) = number_fits a
 
 given-fits : (c : Call) (at : ℕ) (b : Buffers) → (given c at b).number ≤ 5

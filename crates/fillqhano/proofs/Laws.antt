@@ -121,9 +121,9 @@ module _ (call : ℕ → ℕ → Register → Prog Answer) (beginning : Prog (Un
       let passed = tests_pass _ _ e z in
       (exported-outcome call beginning at b passed.0 passed.1 h, exported-touches call beginning at b passed.0 passed.1 h g)
 
--- what C is told of an answer
-pub answer_number
+-- the number and value that C is told of an answer make the same outcome as the answer's own
+pub answer_outcome
     : (r : Result ℕ Refusal) {n v : ℕ} → IfOk r (λ given. (n ≡ 0) × (v ≡ given)) → IfErr r (λ error. (n ≡ refusal_number error) × (v ≡ 0))
-    → (n ≡ number_of r) × (v ≡ value_of r)
-answer_number (Ok given) done refused = done
-answer_number (Err error) done refused = refused
+    → {b : Buffers} {o : Outcome} → outcome (number_of r) (value_of r) b ≡ o → outcome n v b ≡ o
+answer_outcome (Ok given) done refused e = rw (done.0, done.1) e
+answer_outcome (Err error) done refused e = rw (refused.0, refused.1) e

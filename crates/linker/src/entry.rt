@@ -28,7 +28,9 @@ pub(crate) fn add_record(
 {
     rebased?;
     reset_external_relocations(at, w, trace, base);
-    index_exports(at, w, records, names, base, size, auto_link).ok_or(Refusal::NoRoom)?;
+    let Some(()) = index_exports(at, w, records, names, base, size, auto_link) else {
+        return Err(Refusal::NoRoom);
+    };
     touch_module(at, w, trace, base);
     Ok(())
 }

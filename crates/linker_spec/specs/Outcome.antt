@@ -9,7 +9,6 @@ use Rattle.linker_spec.specs.declared.rebase.LoadArguments.{LoadArguments}
 use Rattle.linker_spec.specs.Calls.{Answer, NotLoaded, Done, number, value, initialize, load, unload, Refused}
 use Rattle.linker_spec.specs.declared.refusal.Refusal.{Refusal}
 use Rattle.linker_spec.specs.declared.refusal.Refusal.TheVariants.{BadWindow, NoRegister}
-use Rattle.linker_spec.specs.Refusal.{refusal_number}
 
 -- what is lent: the window's bytes, the register's records and names, the missing list
 pub record Buffers : Type 0 where
@@ -36,7 +35,7 @@ load_arguments base size dataSegment dataSegmentSize bssSegment bssSegmentSize =
     record { base = base; size = size; data_segment = dataSegment; data_segment_size = dataSegmentSize; bss_segment = bssSegment; bss_segment_size = bssSegmentSize }
 
 abbrev pub refused : Refusal → Buffers → Outcome
-refused refusal b = record { number = refusal_number refusal; value = 0; left = b }
+refused refusal b = record { number = number (Refused refusal); value = value (Refused refusal); left = b }
 
 -- "The register, missing list included, is unchanged by 1 to 5."
 unfoldable pub register_after : Buffers → List ℕ → Answer → Buffers

@@ -33,14 +33,14 @@ fn run_cases<W: Write>(out: &mut W, file: &[u8]) -> io::Result<()> {
     let mut valid: u32 = 0;
     for k in 0..count {
         let Some(verdict) = run_case(file, at) else {
-            return print_verdict(out, k, "unreadable");
+            return print_verdict(out, k, " unreadable\n");
         };
         at = verdict.next;
         if verdict.valid {
             valid += 1;
-            print_verdict(out, k, "valid")?;
+            print_verdict(out, k, " valid\n")?;
         } else {
-            print_verdict(out, k, "refused")?;
+            print_verdict(out, k, " refused\n")?;
         }
     }
     print_counts(out, count, valid, count - valid)
@@ -84,9 +84,9 @@ fn judge(
     Some(Verdict { valid, next })
 }
 
-// Prints the number of case k, counted from 1, and the verdict.
+// Prints the number of case k, counted from 1, and the verdict with its space and newline: each part of a text printed is a write of its own.
 fn print_verdict<W: Write>(out: &mut W, k: u32, verdict: &str) -> io::Result<()> {
-    writeln!(out, "{} {verdict}", u64::from(k) + 1)
+    write!(out, "{}{verdict}", u64::from(k) + 1)
 }
 
 fn print_counts<W: Write>(out: &mut W, cases: u32, valid: u32, refused: u32) -> io::Result<()> {

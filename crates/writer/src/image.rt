@@ -16,7 +16,10 @@ fn copy(from: &[u8], buffer: &mut [u8])
     requires { length from.now ≤ length buffer.old }
     ensures { Holds buffer.old buffer.new (between 0 (length from.now) (file_of from.now) (file_of buffer.old)) }
 {
-    buffer[..from.len()].copy_from_slice(from);
+    // Not `copy_from_slice`: the library for C would then need `memmove` from outside.
+    for i in 0..from.len() {
+        buffer[i] = from[i];
+    }
 }
 
 // Makes the bytes from `from` to `to` 0.

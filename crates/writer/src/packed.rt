@@ -109,5 +109,10 @@ fn parts_packed(bytes: &[u8]) -> Option<usize>
 pub fn packed(bytes: &[u8]) -> bool
     ensures { result ≡ packed bytes.now }
 {
-    header_zeros(bytes) && others_empty(bytes) && parts_packed(bytes) == Some(bytes.len())
+    header_zeros(bytes)
+        && others_empty(bytes)
+        && match parts_packed(bytes) {
+            Some(end) => end == bytes.len(),
+            None => false,
+        }
 }

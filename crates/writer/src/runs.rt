@@ -35,6 +35,24 @@ impl Run {
             Run::Anonymous => ANONYMOUS_IMPORTS,
         }
     }
+
+    // The pointer of module entry j's run.
+    #[inline(always)]
+    #[tactic(auto, unfolding(writer_spec::specs::Runs::run_pointer))]
+    pub(crate) fn pointer(self, bytes: &[u8], j: u32) -> u32
+        ensures { result ≡ run_pointer (file_of bytes.now) (run_at self) j }
+    {
+        MODULE_ENTRIES.entry_word(bytes, j, self.offset())
+    }
+
+    // And its length.
+    #[inline(always)]
+    #[tactic(auto, unfolding(writer_spec::specs::Runs::run_length))]
+    pub(crate) fn length(self, bytes: &[u8], j: u32) -> u32
+        ensures { result ≡ run_length (file_of bytes.now) (run_at self) j }
+    {
+        MODULE_ENTRIES.entry_word(bytes, j, self.offset() + 4)
+    }
 }
 
 // Entries of a table, one after another: where the first stands, and how many they are.
@@ -45,14 +63,14 @@ pub(crate) struct Entries {
 }
 
 // The run of module entry j.
-#[tactic(auto, unfolding(writer_spec::specs::Runs::run_pointer, writer_spec::specs::Runs::run_length))]
-pub(crate) fn run_of(bytes: &[u8], run: Run, j: u32) -> Entries
+#[inline(always)]
+fn run_of(bytes: &[u8], run: Run, j: u32) -> Entries
     ensures pointer { result.pointer ≡ run_pointer (file_of bytes.now) (run_at run) j }
     ensures length { result.length ≡ run_length (file_of bytes.now) (run_at run) j }
 {
     Entries {
-        pointer: MODULE_ENTRIES.entry_word(bytes, j, run.offset()),
-        length: MODULE_ENTRIES.entry_word(bytes, j, run.offset() + 4),
+        pointer: run.pointer(bytes, j),
+        length: run.length(bytes, j),
     }
 }
 

@@ -12,7 +12,7 @@ use crate::bytes::{
 };
 use crate::runs::Run;
 use crate::words::Words;
-use crate::{bytes, runs, words};
+use crate::{bytes, words};
 use layout::header;
 use writer_spec::words::{Room, WordPlace};
 
@@ -29,9 +29,8 @@ fn in_table(bytes: &[u8], table: EntryTable, o: usize) -> bool
 fn in_run(bytes: &[u8], run: Run, j: u32, o: usize) -> bool
     ensures { result ≡ in_run (file_of bytes.now) (run_at run) j o }
 {
-    let entries = runs::run_of(bytes, run, j);
-    let pointer = entries.pointer as usize;
-    pointer <= o && (o - pointer) % 8 == 0 && (o - pointer) / 8 < (entries.length as usize)
+    let pointer = run.pointer(bytes, j) as usize;
+    pointer <= o && (o - pointer) % 8 == 0 && (o - pointer) / 8 < (run.length(bytes, j) as usize)
 }
 
 // Whether it is in the run of any.

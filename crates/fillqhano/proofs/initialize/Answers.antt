@@ -4,7 +4,7 @@ use Rattle.linker_spec.specs.Refusal.{refusal-not-0, number_of}
 use Rattle.linker_spec.specs.Outcome.{initialize_outcome, buffers}
 use Rattle.linker_spec.specs.Touches.{up_to_reset, initialize_touches}
 use Rattle.linker_spec.specs.Calls as calls
-use Rattle.fillqhano.proofs.Laws.{tests_pass, call-refused, call-answered, answer_number}
+use Rattle.fillqhano.proofs.Laws.{tests_pass, call-refused, call-answered, answer_outcome}
 use Rattle.fillqhano.proofs.initialize.Goals as goal
 
 pub returns-in-Err : goal.returns-in-Err
@@ -28,5 +28,7 @@ returns c =
     let both =
     call-answered (calls.initialize a.base a.size) (up_to_reset (calls.rebase_static a.base) a.base) a.at b c.check_buffers.ensures (ap number_of c.in_default.is)
     c.initialize-initialized.ensures c.tell.ensures in
-    let number = answer_number c.initialize-initialized.result {n = c.answer.result} {v = c.answer.new.value} c.answer.ensures.done c.answer.ensures.refused in
-    record { answered = rw (number.0, number.1) both.0; touches = both.1 }
+    record {
+      answered = answer_outcome c.initialize-initialized.result {n = c.answer.result} {v = c.answer.new.value} c.answer.ensures.done c.answer.ensures.refused both.0;
+      touches = both.1;
+    }

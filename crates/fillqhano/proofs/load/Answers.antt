@@ -6,7 +6,7 @@ use lib.Dec.{eqb}
 use Rattle.linker_spec.specs.Outcome.{load_outcome, buffers, load_arguments}
 use Rattle.linker_spec.specs.Touches.{up_to_reset, load_touches}
 use Rattle.linker_spec.specs.Calls as calls
-use Rattle.fillqhano.proofs.Laws.{tests_pass, call-refused, call-answered, answer_number}
+use Rattle.fillqhano.proofs.Laws.{tests_pass, call-refused, call-answered, answer_outcome}
 use Rattle.fillqhano.proofs.load.Goals as goal
 
 pub returns-in-Err : goal.returns-in-Err
@@ -32,5 +32,7 @@ returns c =
     let both =
     call-answered (calls.load l (not (eqb a.auto_link 0)) a.fix_level) (up_to_reset (calls.rebase l) a.base) a.at b c.check_buffers.ensures (ap number_of c.in_default.is)
     c.load-loaded.ensures c.tell.ensures in
-    let number = answer_number c.load-loaded.result {n = c.answer.result} {v = c.answer.new.value} c.answer.ensures.done c.answer.ensures.refused in
-    record { answered = rw (number.0, number.1) both.0; touches = both.1 }
+    record {
+      answered = answer_outcome c.load-loaded.result {n = c.answer.result} {v = c.answer.new.value} c.answer.ensures.done c.answer.ensures.refused both.0;
+      touches = both.1;
+    }

@@ -5,7 +5,7 @@ use Rattle.window.specs.Access.{ret}
 use Rattle.linker_spec.specs.Outcome.{unload_outcome, buffers}
 use Rattle.linker_spec.specs.Touches.{unload_touches}
 use Rattle.linker_spec.specs.Calls as calls
-use Rattle.fillqhano.proofs.Laws.{tests_pass, call-refused, call-answered, answer_number}
+use Rattle.fillqhano.proofs.Laws.{tests_pass, call-refused, call-answered, answer_outcome}
 use Rattle.fillqhano.proofs.unload.Goals as goal
 
 pub returns-in-Err : goal.returns-in-Err
@@ -29,5 +29,7 @@ returns c =
     let both =
     call-answered (λ records names. calls.unload a.base) (ret tt) a.at b c.check_buffers.ensures (ap number_of c.in_default.is)
     c.unload-unloaded.ensures c.tell.ensures in
-    let number = answer_number (Ok c.unload-unloaded.result) {n = c.answer.result} {v = c.answer.new.value} c.answer.ensures.done c.answer.ensures.refused in
-    record { answered = rw (number.0, number.1) both.0; touches = both.1 }
+    record {
+      answered = answer_outcome (Ok c.unload-unloaded.result) {n = c.answer.result} {v = c.answer.new.value} c.answer.ensures.done c.answer.ensures.refused both.0;
+      touches = both.1;
+    }

@@ -1,8 +1,6 @@
 -- By how the rebase ended, and by whether the record has room: `add_record-not_rebased`, `add_record-no_room`, `add_record-done`.
-use Rattle.std.proofs.Common.{sym, ap, ◌∙◌}
-use Rattle.std.specs.Result.{result_ok}
 use Rattle.linker_spec.specs.Refusal.{rebase_refusal}
-use Rattle.linker.proofs.Results.{ok_or-none, err-number}
+use Rattle.linker.proofs.Results.{err-number}
 use Rattle.linker.proofs.entry.Laws.{add_record-not_rebased, add_record-no_room, add_record-done}
 use Rattle.linker.proofs.entry.add_record.Goals as goal
 
@@ -10,8 +8,7 @@ pub returns : goal.returns
 returns c =
     let a = c.args in
     add_record-done a.at a.w.now a.trace.now a.records.now a.names.now a.base a.size a.auto_link c.in_ok-rebased.was
-    c.reset_external_relocations.ensures c.index_exports.result c.index_exports.ensures.0
-    (c.ok_or.ensures.ok_part ∙ ap result_ok c.in_ok-ok_or.was)
+    c.reset_external_relocations.ensures c.index_exports.result c.index_exports.ensures.0 c.in-Some.is
     (c.touch_module.ensures a.size a.auto_link)
 
 pub returns-in_err-rebased : goal.returns-in_err-rebased
@@ -20,10 +17,8 @@ returns-in_err-rebased c =
     rw (err-number c.from_residual.result (rebase_refusal c.in_err-rebased.field-0.0) c.from_residual.ensures.1)
     (add_record-not_rebased a.at a.w.now a.trace.now a.records.now a.names.now a.base a.size a.auto_link _ c.in_err-rebased.was)
 
-pub returns-in_err-ok_or : goal.returns-in_err-ok_or
-returns-in_err-ok_or c =
+pub returns-in_default : goal.returns-in_default
+returns-in_default c =
     let a = c.args in
-    let full = ok_or-none c.index_exports.result (sym c.ok_or.ensures.value ∙ c.in_err-ok_or.was) in
-    rw (err-number c.from_residual-in_err-ok_or.result c.in_err-ok_or.field-0.0 c.from_residual-in_err-ok_or.ensures.1, full.1)
-    (add_record-no_room a.at a.w.now a.trace.now a.records.now a.names.now a.base a.size a.auto_link c.in_ok-rebased.was
-    c.reset_external_relocations.ensures c.index_exports.result c.index_exports.ensures.0 full.0)
+    add_record-no_room a.at a.w.now a.trace.now a.records.now a.names.now a.base a.size a.auto_link c.in_ok-rebased.was
+    c.reset_external_relocations.ensures c.index_exports.result c.index_exports.ensures.0 c.in_default.is
