@@ -83,16 +83,6 @@ pub fn touch_name(at: u32, w: &[u8], trace: &mut [u8], address: u32)
     }
 }
 
-// The lesser of two lengths.
-fn shorter(a: usize, b: usize) -> usize
-    ensures { (result ≤ a) × (result ≤ b) }
-{
-    if a < b {
-        return a;
-    }
-    b
-}
-
 // How many of the first n bytes are alike in both names, a word at a time. The names stand in the order of what follows, and where
 // four of the n are left, these differ.
 fn alike(a: &[u8], b: &[u8], n: usize) -> usize
@@ -114,28 +104,19 @@ fn compare_from(a: &[u8], b: &[u8], from: usize) -> Ordering
     requires { (from ≤ length a.now) × (from ≤ length b.now) }
     ensures { result ≡ order_of (drop from a.now) (drop from b.now) }
 {
-    for i in from..a.len() {
-        if b.len() <= i {
-            return Ordering::Greater;
-        }
-        if a[i] < b[i] {
-            return Ordering::Less;
-        }
-        if b[i] < a[i] {
-            return Ordering::Greater;
+    for i in from..a.len().min(b.len()) {
+        if a[i] != b[i] {
+            return a[i].cmp(&b[i]);
         }
     }
-    if a.len() < b.len() {
-        return Ordering::Less;
-    }
-    Ordering::Equal
+    a.len().cmp(&b.len())
 }
 
 // The order of two names as raw bytes, a shorter name before its extensions.
 pub fn compare_names(a: &[u8], b: &[u8]) -> Ordering
     ensures { result ≡ order_of a.now b.now }
 {
-    let n = shorter(a.len(), b.len());
+    let n = a.len().min(b.len());
     let i = alike(a, b, n);
     if n - i < 4 {
         return compare_from(a, b, i);
@@ -171,6 +152,17 @@ fn compare_ended(name: &[u8], row: &[u8]) -> Ordering
     compare_names(name, row)
 }
 
+// The order of a name and the one at `address`, which is copied. It is never in line, since `compare_name_at` then needs no room for
+// the copy where there is none.
+#[inline(never)]
+fn compare_with_copy(at: u32, w: &[u8], name: &[u8], address: u32) -> Ordering
+    ensures { result ≡ order_of name.now (run at (name_at address) w.now).0 }
+{
+    let mut buffer = [0u8; 512];
+    let n = peek_name(at, w, address, &mut buffer);
+    compare_names(name, &buffer[..n])
+}
+
 // The order of a name, which has no zero, and the one at `address`, which is compared where it stands.
 pub fn compare_name_at(at: u32, w: &[u8], name: &[u8], address: u32) -> Ordering
     ensures { no_zero name.now ≡ true → result ≡ order_of name.now (run at (name_at address) w.now).0 }
@@ -181,9 +173,7 @@ pub fn compare_name_at(at: u32, w: &[u8], name: &[u8], address: u32) -> Ordering
             return compare_ended(name, &w[i..i + 512]);
         }
     }
-    let mut buffer = [0u8; 512];
-    let n = peek_name(at, w, address, &mut buffer);
-    compare_names(name, &buffer[..n])
+    compare_with_copy(at, w, name, address)
 }
 
 // The order of the names at two addresses, of which the first is copied.

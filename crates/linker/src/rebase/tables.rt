@@ -96,7 +96,28 @@ fn move_single(
     }
 }
 
-// Moves the pointers of each entry of a table. Entries outside are passed over, unless a pointer may lie past its entry's end.
+// Moves the pointers of each entry of a table, one entry after the other.
+#[cold]
+fn move_each_entry(
+    at: u32,
+    w: &mut [u8],
+    trace: &mut [u8],
+    forward: bool,
+    base: u32,
+    table: u32,
+    count: u32,
+    t: PointerTable,
+)
+    ensures { (w.new, trace.new) ≡ (run_t at (loop (λ i _. move_pointers forward base (entry_at table i t.entry_size) (pointers_of t)) 0 count tt) (w.old, trace.old)).1 }
+{
+    for index in 0..count {
+        let entry = entry_address(table, index, t.entry_size);
+        move_pointers(at, w, trace, forward, base, entry, t);
+    }
+}
+
+// The same. Entries outside are passed over, unless a pointer may lie past its entry's end, which one of the five tables' never does: what
+// is done then is cold, so that the compiler puts the accesses of this loop in line.
 fn move_entries(
     at: u32,
     w: &mut [u8],
@@ -110,10 +131,7 @@ fn move_entries(
     ensures { (w.new, trace.new) ≡ (run_t at (loop (λ i _. move_pointers forward base (entry_at table i t.entry_size) (pointers_of t)) 0 count tt) (w.old, trace.old)).1 }
 {
     if !pointers_within(t) {
-        for index in 0..count {
-            let entry = entry_address(table, index, t.entry_size);
-            move_pointers(at, w, trace, forward, base, entry, t);
-        }
+        move_each_entry(at, w, trace, forward, base, table, count, t);
         return;
     }
     for_each_entry(

@@ -1,6 +1,8 @@
 -- From the code's loops over names to the definitions of `Name`.
 use Rattle.std.specs.declared.cmp.Ordering.TheVariants.{Less, Equal, Greater}
 use Rattle.std.proofs.Common.{◌≡◌, ℕ, zero, suc, ◌+◌, ◌-◌, ◌%◌, ◌^◌, ◌<◌, ◌≤◌, true, leb, ◌≢◌, List, [], ◌∷◌, ◌++◌, length, get_or, take, drop, set, sym, refl, ap, ◌∙◌, append_assoc, append-nil, add-one, arith, take-append-drop, drop_of_length-le, length-take-le, get_or-drop, drop-cons, get_or-take, drop-drop, take-suc-set, drop-set-lt, le-ltb, lt-ltb, eq-eqb, ne_eqb}
+use Rattle.std.specs.Ordering.{nat_cmp}
+use Rattle.std.specs.Cmp.{nat_cmp_is}
 use native.Mathlib.Decide.{ℕ_discrete, dec_lt}
 use Rattle.window.specs.Memory.{◌⊕◌, place, byte_at}
 use Rattle.window.specs.Tests.{both}
@@ -190,6 +192,29 @@ module _ (a b : List ℕ) (i : ℕ) where
   pub order_end : length a ≤ i → length b ≤ i → Equal ≡ order_of (drop i a) (drop i b)
   unfolding order_of
   order_end l m = rw (drop_of_length-le a l, drop_of_length-le b m)
+
+  -- two bytes that differ stand in the order of the names
+  pub order_differs
+      : i < length a → i < length b → get_or a i 0 ≢ get_or b i 0
+      → nat_cmp (get_or a i 0) (get_or b i 0) ≡ order_of (drop i a) (drop i b)
+  order_differs l m n = go (dec_lt (get_or a i 0) (get_or b i 0))
+    where
+      go : Dec (get_or a i 0 < get_or b i 0) → nat_cmp (get_or a i 0) (get_or b i 0) ≡ order_of (drop i a) (drop i b)
+      go (yes y) = sym (nat_cmp_is _ _ Less y) ∙ order_less l m y
+      go (no k) =
+          let y : get_or b i 0 < get_or a i 0 = omega arith in
+          sym (nat_cmp_is _ _ Greater y) ∙ order_more l m (omega arith) y
+
+  -- at the end of one of the names, their lengths do
+  pub order_lengths
+      : i ≤ length a → i ≤ length b → (i < length a → length b ≤ i) → nat_cmp (length a) (length b) ≡ order_of (drop i a) (drop i b)
+  order_lengths l m h = go (dec_lt i (length b)) (dec_lt i (length a))
+    where
+      go : Dec (i < length b) → Dec (i < length a) → nat_cmp (length a) (length b) ≡ order_of (drop i a) (drop i b)
+      go (yes y) (yes x) = absurd (omega (arith, h x))
+      go (yes y) (no x) = sym (nat_cmp_is (length a) (length b) Less (omega arith)) ∙ order_shorter (omega arith) y
+      go (no y) (yes x) = sym (nat_cmp_is (length a) (length b) Greater (omega arith)) ∙ order_after x (omega arith)
+      go (no y) (no x) = sym (nat_cmp_is (length a) (length b) Equal (omega arith)) ∙ order_end (omega arith) (omega arith)
 
 -- a word of both, whose bytes are below 256
 

@@ -3,7 +3,7 @@ use Rattle.window.specs.Trace.{run_t}
 use Rattle.window.specs.Loop.{loop}
 use Rattle.layout.specs.Segments.{entry_at}
 use Rattle.linker_spec.specs.Rebase.{move_pointers, pointers_of}
-use Rattle.linker.proofs.rebase.tables.move_entries.Given as goal
+use Rattle.linker.proofs.rebase.tables.move_each_entry.Given as goal
 
 abbrev pub invariant-loop-index : goal.invariant-loop-index
 invariant-loop-index l =
