@@ -116,8 +116,8 @@ fn move_each_entry(
     }
 }
 
-// The same. Entries outside are passed over, unless a pointer may lie past its entry's end, which one of the five tables' never does: what
-// is done then is cold, so that the compiler puts the accesses of this loop in line.
+// The same. Entries outside are passed over, unless a pointer may lie past its entry's end. None of the five tables' does, so that way
+// is cold: else the compiler takes both for as likely, and leaves accesses of the usual one calls.
 fn move_entries(
     at: u32,
     w: &mut [u8],
